@@ -1,0 +1,4 @@
+pub mod Counts
+pub mod Files
+pub mod Streams
+pub mod Doors

@@ -1,0 +1,2 @@
+//! What a program does, and what a schedule explains.
+#![tactic(auto)]

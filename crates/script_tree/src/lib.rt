@@ -1,0 +1,2 @@
+//! Plain data of the project.
+#![tactic(auto)]

@@ -1,0 +1,315 @@
+ghost use Rattle.std.specs.Prelude.{◌≡◌, min, length, IfOk};
+ghost use Rattle.script_tree.specs.Datum.{size, nesting, members_size, members_nesting, data_of, is_within_limits, number, null, bool, text as texted, list as listed};
+ghost use Rattle.script_tree.specs.Order.{compare, compare_members, rank};
+
+use crate::text::Text;
+use std::alloc::AllocError;
+use std::cmp::Ordering;
+use std::marker::Model;
+
+/// A value of the script language. Contracts see it as a `Datum`, without where it lies in memory.
+#[cycle(value)]
+#[derive(Drop)]
+pub struct Value {
+    pub node: Node,
+}
+
+/// The kinds of values.
+#[cycle(value)]
+#[derive(Drop)]
+pub enum Node {
+    Null,
+    Bool(bool),
+    Number(i64),
+    Text(Text),
+    List(Values),
+}
+
+impl Model for Value {
+    ghost use Rattle.std.specs.Prelude.{◌*◌};
+    ghost use Rattle.script_tree.specs.Datum.{Datum, size as in_all};
+    ghost use Rattle.script_tree.specs.DatumCode.{coded_datum};
+
+    ghost Value = { Datum };
+
+    ghost coded = { coded_datum };
+
+    ghost use Rattle.script_tree.specs.ValueView.{datum_of};
+
+    ghost view = { λ a. datum_of a.node };
+
+    ghost size = { λ d. 2 * in_all d };
+
+    ghost use Rattle.script_tree.specs.ValueFalls.{value_falls};
+
+    ghost size_decreases = { λ a h. value_falls a };
+}
+
+/// A list of values.
+#[cycle(value)]
+#[derive(Drop)]
+pub struct Values {
+    items: Vec<Value>,
+}
+
+impl Model for Values {
+    ghost use Rattle.std.specs.Prelude.{List, ◌+◌, ◌*◌};
+    ghost use Rattle.script_tree.specs.Datum.{Datum, weight};
+    ghost use Rattle.script_tree.specs.DatumCode.{coded_data};
+
+    ghost Value = { List Datum };
+
+    ghost coded = { coded_data };
+
+    ghost view = { λ a. a.items.items };
+
+    ghost size = { λ ds. 2 * weight ds + 1 };
+
+    ghost use Rattle.script_tree.specs.ValueFalls.{weight_falls};
+
+    ghost size_decreases = { λ a h. weight_falls a };
+}
+
+impl Value {
+    pub fn null() -> Value
+        ensures { result ≡ null }
+    {
+        Value { node: Node::Null }
+    }
+
+    pub fn bool(b: bool) -> Value
+        ensures { result ≡ bool b }
+    {
+        Value {
+            node: Node::Bool(b),
+        }
+    }
+
+    pub fn number(n: i64) -> Value
+        ensures { result ≡ number n }
+    {
+        Value {
+            node: Node::Number(n),
+        }
+    }
+
+    pub fn text(text: Text) -> Value
+        ensures { result ≡ texted text }
+    {
+        Value {
+            node: Node::Text(text),
+        }
+    }
+
+    pub fn list(values: Values) -> Value
+        ensures { result ≡ listed (data_of values) }
+    {
+        Value {
+            node: Node::List(values),
+        }
+    }
+
+    /// How large it is: texts count their bytes, and everything counts 1 more. A size that doesn't
+    /// fit its type is given as the type's greatest number.
+    #[cycle(value_size)]
+    pub fn size(&self) -> u64
+        ensures { result ≡ min (size self.now) u64.MAX }
+    {
+        match &self.node {
+            Node::Null | Node::Bool(_) | Node::Number(_) => 1,
+            Node::Text(text) => (text.len() as u64).saturating_add(1),
+            Node::List(values) => values.size().saturating_add(1),
+        }
+    }
+
+    /// How deep its lists nest. A nesting that doesn't fit its type is given as the type's greatest
+    /// number.
+    #[cycle(value_nesting)]
+    pub fn nesting(&self) -> u64
+        ensures { result ≡ min (nesting self.now) u64.MAX }
+    {
+        match &self.node {
+            Node::List(values) => values.nesting().saturating_add(1),
+            _ => 0,
+        }
+    }
+
+    /// Whether a script may hold it: its size is 65,536 at most, and its nesting 16.
+    pub fn is_within_limits(&self) -> bool
+        ensures { result ≡ is_within_limits self.now }
+    {
+        self.size() <= 65_536 && self.nesting() <= 16
+    }
+
+    /// The order of values: null, false, true, numbers, texts by bytes, lists member by member.
+    #[cycle(value_compare)]
+    pub fn compare(&self, other: &Value) -> Ordering
+        ensures { result ≡ compare self.now other.now }
+    {
+        match (&self.node, &other.node) {
+            (Node::Bool(a), Node::Bool(b)) => a.cmp(b),
+            (Node::Number(a), Node::Number(b)) => a.cmp(b),
+            (Node::Text(a), Node::Text(b)) => a.as_bytes().cmp(b.as_bytes()),
+            (Node::List(a), Node::List(b)) => a.compare(b),
+            _ => self.rank().cmp(&other.rank()),
+        }
+    }
+
+    /// Where its kind stands in the order.
+    fn rank(&self) -> u8
+        ensures { result ≡ rank self.now }
+    {
+        match &self.node {
+            Node::Null => 0,
+            Node::Bool(_) => 1,
+            Node::Number(_) => 2,
+            Node::Text(_) => 3,
+            Node::List(_) => 4,
+        }
+    }
+}
+
+impl Clone for Value {
+    ghost is_clone = { λ value copy. copy ≡ value };
+
+    #[cycle(value_clone)]
+    fn clone(&self) -> Result<Value, AllocError> {
+        let node = match &self.node {
+            Node::Null => Node::Null,
+            Node::Bool(b) => Node::Bool(*b),
+            Node::Number(n) => Node::Number(*n),
+            Node::Text(text) => Node::Text(text.clone()?),
+            Node::List(values) => Node::List(values.clone()?),
+        };
+        Ok(Value { node })
+    }
+}
+
+impl Ord for Value {
+    ghost use Rattle.std.proofs.Common.{rules};
+    ghost use Rattle.std.specs.Cmp.Rules.{comparing};
+    ghost use Rattle.script_tree.specs.Order.{compare};
+    ghost use Rattle.script_tree.specs.OrderLaws.{compare_total};
+
+    ghost cmp = { compare };
+
+    ghost total = { compare_total };
+
+    ghost matches_partial_cmp = { Prim.search (comparing, rules) };
+
+    ghost matches_eq = { Prim.search (comparing, rules) };
+
+    fn cmp(&self, other: &Value) -> Ordering {
+        self.compare(other)
+    }
+}
+
+impl PartialOrd for Value {
+    ghost use Rattle.std.proofs.Common.{refl};
+    ghost use Rattle.std.specs.Cmp.{partial_order_from_agreeing_total};
+    ghost use Rattle.std.specs.Ordering.{as_partial_cmp};
+    ghost use Rattle.script_tree.specs.Order.{compare};
+    ghost use Rattle.script_tree.specs.OrderLaws.{compare_total};
+
+    ghost partial_cmp = { as_partial_cmp compare };
+
+    ghost laws = { partial_order_from_agreeing_total compare compare_total (λ x y. refl) (λ x y. refl) };
+
+    fn partial_cmp(&self, other: &Value) -> Option<Ordering> {
+        Some(self.compare(other))
+    }
+}
+
+impl PartialEq for Value {
+    ghost use Rattle.std.specs.Cmp.{partial_equiv_from_equiv};
+    ghost use Rattle.std.specs.Ordering.{eq_by_cmp};
+    ghost use Rattle.std.proofs.lemmas.Cmp.{eq_by_cmp_equiv};
+    ghost use Rattle.script_tree.specs.Order.{compare};
+    ghost use Rattle.script_tree.specs.OrderLaws.{compare_total};
+
+    ghost eq = { eq_by_cmp compare };
+
+    ghost laws = { partial_equiv_from_equiv (eq_by_cmp_equiv compare_total) };
+
+    fn eq(&self, other: &Value) -> bool {
+        self.compare(other) == Ordering::Equal
+    }
+}
+
+impl Eq for Value {
+    ghost use Rattle.std.proofs.lemmas.Cmp.{eq_by_cmp_equiv};
+    ghost use Rattle.script_tree.specs.OrderLaws.{compare_total};
+
+    ghost laws = { eq_by_cmp_equiv compare_total };
+}
+
+impl Values {
+    pub fn from_vec(items: Vec<Value>) -> Values
+        ensures { result ≡ items.items }
+    {
+        Values { items }
+    }
+
+    /// Gives the values back.
+    pub fn into_vec(self) -> Vec<Value>
+        ensures { result.items ≡ self }
+    {
+        let Values { items } = self;
+        items
+    }
+
+    pub fn as_slice(&self) -> &[Value]
+        ensures { result.now ≡ self.now }
+    {
+        self.items.as_slice()
+    }
+
+    #[cycle(value_size)]
+    fn size(&self) -> u64
+        ensures { result ≡ min (members_size (data_of self.now)) u64.MAX }
+    {
+        let mut total = 0u64;
+        for value in self.items.iter() {
+            total = total.saturating_add(value.size());
+        }
+        total
+    }
+
+    #[cycle(value_nesting)]
+    fn nesting(&self) -> u64
+        ensures { result ≡ min (members_nesting (data_of self.now)) u64.MAX }
+    {
+        let mut most = 0u64;
+        for value in self.items.iter() {
+            most = most.max(value.nesting());
+        }
+        most
+    }
+
+    #[cycle(value_compare)]
+    fn compare(&self, other: &Values) -> Ordering
+        ensures { result ≡ compare_members (data_of self.now) (data_of other.now) }
+    {
+        let shorter = self.items.len().min(other.items.len());
+        for i in 0..shorter {
+            match self.items[i].compare(&other.items[i]) {
+                Ordering::Equal => {}
+                unequal => return unequal,
+            }
+        }
+        self.items.len().cmp(&other.items.len())
+    }
+}
+
+impl Clone for Values {
+    ghost is_clone = { λ values copy. copy ≡ values };
+
+    #[cycle(value_clone)]
+    fn clone(&self) -> Result<Values, AllocError> {
+        let mut items = Vec::new(*self.items.allocator());
+        for value in self.items.iter() {
+            items.push(value.clone()?)?;
+        }
+        Ok(Values { items })
+    }
+}

@@ -1,8 +1,17 @@
 pub mod Datum
 pub mod DatumCode
+pub mod ExpressionFalls
+pub mod ExpressionView
+pub mod ExpressionWeight
 pub mod Faults
 pub mod Order
 pub mod OrderLaws
 pub mod Requests
+pub mod StatementFalls
+pub mod StatementView
+pub mod StatementWeight
+pub mod Syntax
+pub mod SyntaxCodes
+pub mod SyntaxLists
 pub mod ValueFalls
 pub mod ValueView

@@ -9,6 +9,7 @@ pub mod operation;
 pub mod path;
 pub mod request;
 pub mod schedule;
+pub mod syntax;
 pub mod text;
 pub mod trace;
 pub mod transaction;

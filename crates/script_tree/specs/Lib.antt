@@ -1,9 +1,12 @@
+pub mod Builtins
 pub mod Datum
 pub mod DatumCode
 pub mod ExpressionFalls
 pub mod ExpressionView
 pub mod ExpressionWeight
 pub mod Faults
+pub mod Lists
+pub mod Objects
 pub mod Order
 pub mod OrderLaws
 pub mod Requests
@@ -13,5 +16,7 @@ pub mod StatementWeight
 pub mod Syntax
 pub mod SyntaxCodes
 pub mod SyntaxLists
+pub mod Traces
+pub mod Transactions
 pub mod ValueFalls
 pub mod ValueView

@@ -1,0 +1,10 @@
+pub mod BuiltinCalls
+pub mod Conduct
+pub mod Declarations
+pub mod Evaluate
+pub mod Explains
+pub mod Operations
+pub mod Operators
+pub mod Replay
+pub mod Run
+pub mod Variables

@@ -1,5 +1,5 @@
 -- How a proof stores a value, and a list of values.
-use Rattle.std.specs.Prelude.{◌≡◌, ℕ, zero, suc, ℤ, pos, negsuc, List, [], ◌∷◌, Bool, true, false, refl}
+use Rattle.std.specs.Prelude.{◌≡◌, ℕ, zero, suc, ℤ, pos, negsuc, List, [], ◌∷◌, true, false, refl}
 use Rattle.std.specs.Coded.{Coded, code_by}
 use Rattle.std.proofs.Common.{ap}
 use Rattle.script_tree.specs.Datum.{Datum, null, bool, number, text, list, Data, none, more, members, data_of, members-data_of}

@@ -1,5 +1,5 @@
 -- Tables, and what a transaction does to them.
-use Rattle.std.specs.Prelude.{ℕ, zero, suc, ℤ, pos, Bool, true, ◌&&◌, not, if◌then◌else◌, List, [], ◌∷◌, map, filter, length, Option, Some, None}
+use Rattle.std.specs.Prelude.{ℕ, pos, Bool, true, ◌&&◌, not, if◌then◌else◌, List, [], ◌∷◌, map, filter, length, Option, Some, None}
 use Rattle.std.specs.Ordering.{int_eq, is_eq, is_ne, is_lt, is_le, is_gt, is_ge}
 use Rattle.script_tree.specs.Datum.{Datum, null, number, list, data_of}
 use Rattle.script_tree.specs.Order.{compare}

@@ -1,0 +1,4 @@
+pub mod Programs
+mod ConductRows
+mod HitRows
+mod LongRows

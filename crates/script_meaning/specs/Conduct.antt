@@ -1,0 +1,75 @@
+-- What a program does with a request, where these are the answers to its operations.
+use Rattle.std.specs.Prelude.{ℕ, Bool, List, [], ◌∷◌, ◌++◌, Option, Some, None, codes}
+use Rattle.std.specs.Fmt.{decimal}
+use Rattle.script_tree.specs.Datum.{Datum}
+use Rattle.script_tree.specs.Faults.{fault_number}
+use Rattle.script_tree.specs.Requests.{Request}
+use Rattle.script_tree.specs.SyntaxLists.{statements_of}
+use Rattle.script_tree.specs.declared.fault.ScriptFault.{ScriptFault}
+use Rattle.script_tree.specs.declared.fault.ScriptFault.TheVariants.{TooLarge}
+use Rattle.script_tree.specs.declared.request.Response.{Response}
+use Rattle.script_tree.specs.declared.path.End.{End}
+use Rattle.script_tree.specs.declared.path.End.TheVariants.{Normal, Fault, AnswerFault}
+use Rattle.script_tree.specs.declared.path.Path.{Path}
+use Rattle.script_tree.specs.declared.syntax.declaration.Declaration.{Declaration}
+use Rattle.script_meaning.specs.Operations.{Op}
+use Rattle.script_meaning.specs.Declarations.{NumberedPage, page_in}
+use Rattle.script_meaning.specs.Run.{Mark, decided, issued, Progress, wants, fault, answer_fault, Outcome, goes, stops}
+use Rattle.script_meaning.specs.Evaluate.{Flow, run}
+
+pub data Ending : Type 0 where
+  -- an operation is issued, and the answers are used up
+  Wants : Op → Ending
+  -- the run is over, and the answers are used up
+  Ends : Response → Path → Ending
+  -- there are more answers than operations
+  Undefined : Ending
+
+pub record Conduct : Type 0 where
+  -- the decisions and the answered operations, in order
+  pub trail : List Mark
+  pub ending : Ending
+
+abbrev pub decisions : List Mark → List Bool
+decisions [] = []
+decisions (decided b ∷ ms) = b ∷ decisions ms
+decisions (issued op ∷ ms) = decisions ms
+
+abbrev pub path_of : ℕ → Progress → End → Path
+path_of page p end = record { page = Some page; decisions = decisions p.trail; steps = p.steps; end = end }
+
+abbrev pub unless_left : List Datum → Ending → Ending
+unless_left [] ending = ending
+unless_left (d ∷ ds) ending = Undefined
+
+abbrev pub fault_response : ScriptFault → Response
+fault_response f = record { status = 500; body = codes "fault " ++ (decimal (fault_number f) ++ 10 ∷ []) }
+
+abbrev pub over : ℕ → Progress → Response → End → Ending
+over page p response end = unless_left p.answers (Ends response (path_of page p end))
+
+-- how the run of a page ends
+abbrev pub ended : ℕ → Outcome Flow → Conduct
+ended page (goes flow p) = record { trail = p.trail; ending = over page p (record { status = p.status; body = p.body }) Normal }
+ended page (stops (wants op) p) = record { trail = p.trail; ending = Wants op }
+ended page (stops (fault f) p) = record { trail = p.trail; ending = over page p (fault_response f) (Fault f) }
+ended page (stops answer_fault p) = record { trail = p.trail; ending = over page p (fault_response TooLarge) AnswerFault }
+
+abbrev pub start : List Datum → Progress
+start answers = record { steps = 0; operations = 0; trail = []; answers = answers; status = 200; body = [] }
+
+abbrev pub no_page : List Datum → Conduct
+no_page answers = record {
+  trail = [];
+  ending = unless_left answers (Ends
+      (record { status = 404; body = codes "no page" ++ 10 ∷ [] })
+      (record { page = None; decisions = []; steps = 0; end = Normal }));
+}
+
+abbrev pub on_page : List Declaration → Request → List Datum → Option NumberedPage → Conduct
+on_page program request answers None = no_page answers
+on_page program request answers (Some page) =
+    ended page.number (run (record { program = program; request = request }) 100001 0 (statements_of page.body) [] (start answers))
+
+abbrev pub conduct : List Declaration → Request → List Datum → Conduct
+conduct program request answers = on_page program request answers (page_in program request.path)

@@ -2,7 +2,7 @@
 use Rattle.std.proofs.Common.{◌≡◌, ℕ, zero, suc, ◌+◌, ◌*◌, ◌<◌, lit<, subst, nat_eq, false, List, [], ◌∷◌, Option, Some, None, codes, refl, ap, arith}
 use Rattle.std.specs.Fmt.{digits}
 use Rattle.std.proofs.lemmas.Bool.Decides.{nat_tests}
-use Rattle.script_tree.specs.Lists.{nth, first_of, or_else}
+use Rattle.script_tree.specs.Lists.{nth, first_answer, or_else}
 use Rattle.script_tree.specs.Objects.{Objects, acted, plausible, one}
 use Rattle.script_tree.specs.Requests.{Request}
 use Rattle.script_tree.specs.Traces.{request_of, response_of, Precedes}
@@ -35,11 +35,13 @@ schedule =
     Arrive 0 ∷ Act 0 Nothing ∷ Act 0 Nothing ∷ Depart 0
   ∷ Arrive 1 ∷ Act 1 Nothing ∷ Act 1 Nothing ∷ Depart 1 ∷ []
 
+same_response : (x y : Response) (p q : Path) → Some (Ends x p) ≡ Some (Ends y q) → Some x ≡ Some y
+same_response x y p q e = cc
+
 plays : Plays hit_page (hits (codes "2")) (opening empty) schedule
-unfolding digits acted plausible request_of response_of first_of or_else ending_of
+unfolding digits acted plausible request_of response_of first_answer or_else ending_of
 plays =
-    (refl, ((_, refl, refl), ((_, refl, refl), ((_, _, refl, refl),
-    (refl, ((_, refl, refl), ((_, refl, refl), ((_, _, refl, refl), tt))))))))
+    (refl, tt, ((_, refl, refl), tt, ((_, refl, refl), tt, ((_, _, refl), λ x p e. same_response _ _ _ _ e, (refl, tt, ((_, refl, refl), tt, ((_, refl, refl), tt, ((_, _, refl), λ x p e. same_response _ _ _ _ e, tt))))))))
 
 -- where the schedule has what: each request fills four moments
 Stands : ℕ → Moment → Type 0
@@ -95,13 +97,13 @@ third : (r k : ℕ) → k < 2 → nat_eq (suc (suc r)) k ≡ false
 third r k h = grind (arith, nat_tests)
 
 whole : (body : List ℕ) (r : ℕ) (q : Request) → request_of (hits body) r ≡ Some q → IsWhole schedule r
-unfolding request_of first_of or_else
+unfolding request_of first_answer or_else
 whole body zero q e = whole_at 0 refl refl
 whole body (suc zero) q e = whole_at 1 refl refl
 whole body (suc (suc r)) q e = let none = rw (third r 0 (lit< tt), third r 1 (lit< tt)) at e in absurd (cc)
 
 asked : (body : List ℕ) (r : ℕ) → r < 2 → (q : Request) × (request_of (hits body) r ≡ Some q)
-unfolding request_of first_of or_else
+unfolding request_of first_answer or_else
 asked body zero h = (_, refl)
 asked body (suc zero) h = (_, refl)
 asked body (suc (suc r)) h = absurd (omega arith)
@@ -165,5 +167,7 @@ second_path = record { page = Some 0; decisions = false ∷ []; steps = 17; end 
 
 -- the second run ends with 2, and a departure that gives 1 is not allowed
 does_not_explain : Explains hit_page empty (hits (codes "1")) schedule → ⊥
-unfolding digits acted plausible request_of response_of first_of or_else ending_of
-does_not_explain e = let last = e.plays.1.1.1.1.1.1.1.0 in one_is_not_two last.0 second_path last.1 last.2 last.3
+unfolding digits acted plausible request_of response_of first_answer or_else ending_of
+does_not_explain e = let last = e.plays.2.2.2.2.2.2.2 in
+    let ends = last.0 in
+    one_is_not_two ends.0 second_path ends.1 ends.2 (last.1 ends.0 ends.1 ends.2)

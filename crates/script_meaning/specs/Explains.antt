@@ -29,7 +29,7 @@ pub record IsWhole (schedule : List Moment) (r : ℕ) : Type 0 where
   pub acts_between : (i : ℕ) (choice : Choice) → nth schedule i ≡ Some (Act r choice) → (arrival < i) × (i < departure)
 
 -- Each request of the trace is whole in the schedule, and no other request is in it. Where one request precedes another in
--- time, it departs before the other arrives. Played from the start, every moment is allowed, so that each departure gives the
+-- time, it departs before the other arrives. Played from the start, every moment is allowed, and each departure gives the
 -- trace's response.
 pub record Explains (program : List Declaration) (start : Objects) (trace : List TraceEvent) (schedule : List Moment) : Type 0 where
   pub whole : (r : ℕ) (q : Request) → request_of trace r ≡ Some q → IsWhole schedule r

@@ -40,13 +40,18 @@ abbrev pub next_of : List Declaration → List TraceEvent → Scene → ℕ → 
 next_of program trace scene r = ending_with program (request_of trace r) (scene.answers r)
 
 -- A request arrives where it isn't open. It acts where it wants an operation whose object takes the choice. It departs where it
--- ends with the response of the trace.
+-- ends.
 abbrev pub IsAllowed : List Declaration → List TraceEvent → Scene → Moment → Type 0
 IsAllowed program trace scene (Arrive r) = scene.answers r ≡ None
 IsAllowed program trace scene (Act r choice) =
     (op : Op) × (next_of program trace scene r ≡ Some (Wants op)) × (plausible op.act choice (scene.objects op.object) ≡ true)
-IsAllowed program trace scene (Depart r) =
-    (response : Response) × (path : Path) × (next_of program trace scene r ≡ Some (Ends response path)) × (response_of trace r ≡ Some response)
+IsAllowed program trace scene (Depart r) = (response : Response) × (path : Path) × (next_of program trace scene r ≡ Some (Ends response path))
+
+-- A departure gives the trace's response.
+abbrev pub IsAsTraced : List Declaration → List TraceEvent → Scene → Moment → Type 0
+IsAsTraced program trace scene (Depart r) =
+    (response : Response) (path : Path) → next_of program trace scene r ≡ Some (Ends response path) → response_of trace r ≡ Some response
+IsAsTraced program trace scene m = Unit {0}
 
 abbrev pub and_answer : Option (List Datum) → Datum → Option (List Datum)
 and_answer None d = None
@@ -67,7 +72,8 @@ after program trace scene (Arrive r) = record scene { answers = with_request r (
 after program trace scene (Act r choice) = after_act r choice (next_of program trace scene r) scene
 after program trace scene (Depart r) = record scene { answers = with_request r None scene.answers }
 
--- every moment is allowed, one after the other
+-- Every moment is allowed, one after the other, and every departure is as traced.
 abbrev pub Plays : List Declaration → List TraceEvent → Scene → List Moment → Type 0
 Plays program trace scene [] = Unit {0}
-Plays program trace scene (m ∷ ms) = IsAllowed program trace scene m × Plays program trace (after program trace scene m) ms
+Plays program trace scene (m ∷ ms) =
+    IsAllowed program trace scene m × IsAsTraced program trace scene m × Plays program trace (after program trace scene m) ms

@@ -70,3 +70,11 @@ plausible a (Number n) cell = false
 abbrev pub folded : List (Act × Choice) → Cell → Cell
 folded [] cell = cell
 folded (e ∷ es) cell = folded es (acted e.0 e.1 cell).0
+
+-- what the objects hold where nothing is stored: the start of an empty state, for a program without tables
+abbrev pub nothing_stored : Objects
+nothing_stored (Register x) = one None
+nothing_stored (Store s) = many (λ k. None)
+nothing_stored Tables = rows []
+nothing_stored Clock = reading (pos 0)
+nothing_stored Dice = none

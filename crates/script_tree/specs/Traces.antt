@@ -1,6 +1,6 @@
 -- What a trace says of requests, responses and time, by places in the trace.
 use Rattle.std.specs.Prelude.{◌≡◌, ℕ, ◌<◌, List, Option, Some, None, nat_eq, if◌then◌else◌}
-use Rattle.script_tree.specs.Lists.{nth, first_of}
+use Rattle.script_tree.specs.Lists.{nth, first_answer}
 use Rattle.script_tree.specs.Requests.{Request}
 use Rattle.script_tree.specs.declared.request.Response.{Response}
 use Rattle.script_tree.specs.declared.trace.TraceEvent.{TraceEvent}
@@ -16,10 +16,10 @@ response_in r (Answered id x) = if nat_eq r id then Some x else None
 
 -- the request and the response of an id
 unfoldable pub request_of : List TraceEvent → ℕ → Option Request
-request_of trace r = first_of (request_in r) trace
+request_of trace r = first_answer (request_in r) trace
 
 unfoldable pub response_of : List TraceEvent → ℕ → Option Response
-response_of trace r = first_of (response_in r) trace
+response_of trace r = first_answer (response_in r) trace
 
 -- Each id is asked once; each request has exactly one response, which stands after it; and each response has a request.
 pub record IsBalanced (trace : List TraceEvent) : Type 0 where

@@ -1,0 +1,103 @@
+-- Where a schedule first differs from a trace.
+use Rattle.std.specs.Prelude.{ℕ, Bool, false, ◌||◌, not, if◌then◌else◌, List, [], ◌∷◌, ◌++◌, length, Option, Some, None, nat_eq, is_none}
+use Rattle.std.specs.List.{list_any}
+use Rattle.std.specs.Str.{bytes_eq}
+use Rattle.script_tree.specs.Objects.{Objects, plausible}
+use Rattle.script_tree.specs.Traces.{request_of, response_of}
+use Rattle.script_tree.specs.declared.operation.Choice.{Choice}
+use Rattle.script_tree.specs.declared.request.Response.{Response}
+use Rattle.script_tree.specs.declared.schedule.Moment.{Moment}
+use Rattle.script_tree.specs.declared.schedule.Moment.TheVariants.{Arrive, Act, Depart}
+use Rattle.script_tree.specs.declared.syntax.declaration.Declaration.{Declaration}
+use Rattle.script_tree.specs.declared.trace.TraceEvent.{TraceEvent}
+use Rattle.script_tree.specs.declared.trace.TraceEvent.TheVariants.{Asked, Answered}
+use Rattle.script_meaning.specs.Conduct.{Ending, Wants, Ends}
+use Rattle.script_meaning.specs.Explains.{rid_of}
+use Rattle.script_meaning.specs.Replay.{Scene, opening, next_of, after}
+use Rattle.replayer.specs.declared.difference.Reason.{Reason}
+use Rattle.replayer.specs.declared.difference.Reason.TheVariants.{UnknownRequest, SecondArrival, TooEarly, NotOpen, RunEnds, BadChoice, WantsOperation, OtherResponse}
+use Rattle.replayer.specs.declared.difference.Difference.{Difference}
+use Rattle.replayer.specs.declared.difference.Difference.TheVariants.{AtMoment, NotDeparted}
+
+abbrev pub reason_number : Reason → ℕ
+reason_number UnknownRequest = 2
+reason_number SecondArrival = 3
+reason_number TooEarly = 4
+reason_number NotOpen = 5
+reason_number RunEnds = 6
+reason_number BadChoice = 7
+reason_number WantsOperation = 8
+reason_number OtherResponse = 9
+
+-- ---- what the moments so far tell of a request
+
+abbrev pub is_arrival : ℕ → Moment → Bool
+is_arrival r (Arrive id) = nat_eq r id
+is_arrival r m = false
+
+abbrev pub is_departure : ℕ → Moment → Bool
+is_departure r (Depart id) = nat_eq r id
+is_departure r m = false
+
+unfoldable pub has_arrived : List Moment → ℕ → Bool
+has_arrived past r = list_any (is_arrival r) past
+
+unfoldable pub has_departed : List Moment → ℕ → Bool
+has_departed past r = list_any (is_departure r) past
+
+-- On the way through the trace to the request's arrival stands a response whose request hasn't departed.
+unfoldable pub is_too_early : List TraceEvent → List Moment → ℕ → Bool
+is_too_early [] past r = false
+is_too_early (Asked id q ∷ events) past r = if nat_eq r id then false else is_too_early events past r
+is_too_early (Answered id x ∷ events) past r = not (has_departed past id) || is_too_early events past r
+
+abbrev pub is_same_response : Response → Option Response → Bool
+is_same_response x None = false
+is_same_response x (Some y) = if nat_eq x.status y.status then bytes_eq x.body y.body else false
+
+-- ---- why a moment fails in a scene, after the moments so far: nothing, where it is one of the trace
+
+abbrev pub arrival_fault : List TraceEvent → List Moment → ℕ → Option Reason
+arrival_fault trace past r = if has_arrived past r then Some SecondArrival else (if is_too_early trace past r then Some TooEarly else None)
+
+-- what an open request does next decides whether it may act
+abbrev pub act_fault : Scene → Choice → Option Ending → Option Reason
+act_fault scene choice None = Some NotOpen
+act_fault scene choice (Some (Wants op)) = if plausible op.act choice (scene.objects op.object) then None else Some BadChoice
+act_fault scene choice (Some ending) = Some RunEnds
+
+-- and whether it may depart
+abbrev pub departure_fault : Option Response → Option Ending → Option Reason
+departure_fault traced None = Some NotOpen
+departure_fault traced (Some (Ends response path)) = if is_same_response response traced then None else Some OtherResponse
+departure_fault traced (Some ending) = Some WantsOperation
+
+abbrev pub moment_fault : List Declaration → List TraceEvent → List Moment → Scene → Moment → Option Reason
+moment_fault program trace past scene (Arrive r) = arrival_fault trace past r
+moment_fault program trace past scene (Act r choice) = act_fault scene choice (next_of program trace scene r)
+moment_fault program trace past scene (Depart r) = departure_fault (response_of trace r) (next_of program trace scene r)
+
+-- a moment of an unknown request fails before all else
+unfoldable pub fault_of : List Declaration → List TraceEvent → List Moment → Scene → Moment → Option Reason
+fault_of program trace past scene m =
+    if is_none (request_of trace (rid_of m)) then Some UnknownRequest else moment_fault program trace past scene m
+
+-- ---- the first that fails
+
+-- the first request of the trace that hasn't departed
+unfoldable pub not_departed : List TraceEvent → List Moment → Option Difference
+not_departed [] past = None
+not_departed (Asked id q ∷ events) past = if has_departed past id then not_departed events past else Some (NotDeparted id)
+not_departed (Answered id x ∷ events) past = not_departed events past
+
+-- the first of these moments that fails, where those so far led to this scene; after the last, a request that hasn't departed
+unfoldable pub difference_from : List Declaration → List TraceEvent → List Moment → Scene → List Moment → Option Difference
+difference_from program trace past scene [] = not_departed trace past
+difference_from program trace past scene (m ∷ ms) = elim (fault_of program trace past scene m) [
+  | Some reason ↦ Some (AtMoment reason (length past) (rid_of m))
+  | None ↦ difference_from program trace (past ++ m ∷ []) (after program trace scene m) ms
+]
+
+-- where a schedule first differs from a trace, if it does
+abbrev pub difference_of : List Declaration → Objects → List TraceEvent → List Moment → Option Difference
+difference_of program start trace schedule = difference_from program trace [] (opening start) schedule

@@ -1,0 +1,6 @@
+//! A schedule against a trace: it agrees, or the first moment that differs, and why.
+#![tactic(auto)]
+
+pub mod difference;
+
+pub use difference::{Difference, Reason};

@@ -35,7 +35,13 @@ impl Reason {
 #[derive(Clone, Copy, Debug, PartialEq, Eq)]
 pub enum Difference {
     /// At this moment, counted from 0, of this request.
-    AtMoment { reason: Reason, moment: u64, rid: u32 },
+    AtMoment {
+        reason: Reason,
+        moment: u64,
+        rid: u32,
+    },
     /// After the last moment: this request, the first one by the trace, has not departed.
-    NotDeparted { rid: u32 },
+    NotDeparted {
+        rid: u32,
+    },
 }

@@ -74,8 +74,8 @@ one_row = rows (((text (codes "a") ∷ number (pos 0) ∷ []) ∷ []) ∷ [])
 update_and_insert : Act
 update_and_insert = transact (
     update 0 (record { column = 1; value = number (pos 1) } ∷ []) []
-  ∷ insert 0 (text (codes "a") ∷ number (pos 2) ∷ [])
-  ∷ [])
+    ∷ insert 0 (text (codes "a") ∷ number (pos 2) ∷ [])
+    ∷ [])
 
 select_all : Act
 select_all = transact (select 0 (1 ∷ []) [] ∷ [])

@@ -3,7 +3,7 @@ use Rattle.std.proofs.Common.{◌≡◌, ℕ, zero, suc, ◌+◌, ◌*◌, ◌<�
 use Rattle.std.specs.Fmt.{digits}
 use Rattle.std.proofs.lemmas.Bool.Decides.{nat_tests}
 use Rattle.script_tree.specs.Lists.{nth, first_answer, or_else}
-use Rattle.script_tree.specs.Objects.{Objects, acted, plausible, one}
+use Rattle.script_tree.specs.Objects.{acted, plausible, nothing_stored}
 use Rattle.script_tree.specs.Requests.{Request}
 use Rattle.script_tree.specs.Traces.{request_of, response_of, Precedes}
 use Rattle.script_tree.specs.declared.operation.Choice.{Choice}
@@ -20,25 +20,21 @@ use Rattle.script_meaning.specs.Replay.{ending_of, opening, Plays}
 use Rattle.script_meaning.specs.Explains.{Explains, IsWhole, rid_of}
 use Rattle.script_meaning.proofs.Programs.{hit_page, get}
 
--- every register is absent
-abbrev empty : Objects
-empty o = one None
-
 -- the two hits, the second answered so
 abbrev hits : List ℕ → List TraceEvent
 hits body =
     Asked 0 (get (codes "/hit")) ∷ Answered 0 (record { status = 200; body = codes "1" })
-  ∷ Asked 1 (get (codes "/hit")) ∷ Answered 1 (record { status = 200; body = body }) ∷ []
+    ∷ Asked 1 (get (codes "/hit")) ∷ Answered 1 (record { status = 200; body = body }) ∷ []
 
 abbrev schedule : List Moment
 schedule =
     Arrive 0 ∷ Act 0 Nothing ∷ Act 0 Nothing ∷ Depart 0
-  ∷ Arrive 1 ∷ Act 1 Nothing ∷ Act 1 Nothing ∷ Depart 1 ∷ []
+    ∷ Arrive 1 ∷ Act 1 Nothing ∷ Act 1 Nothing ∷ Depart 1 ∷ []
 
 same_response : (x y : Response) (p q : Path) → Some (Ends x p) ≡ Some (Ends y q) → Some x ≡ Some y
 same_response x y p q e = cc
 
-plays : Plays hit_page (hits (codes "2")) (opening empty) schedule
+plays : Plays hit_page (hits (codes "2")) (opening nothing_stored) schedule
 unfolding digits acted plausible request_of response_of first_answer or_else ending_of
 plays =
     (refl, tt, ((_, refl, refl), tt, ((_, refl, refl), tt, ((_, _, refl), λ x p e. same_response _ _ _ _ e, (refl, tt, ((_, refl, refl), tt, ((_, refl, refl), tt, ((_, _, refl), λ x p e. same_response _ _ _ _ e, tt))))))))
@@ -62,9 +58,19 @@ each_at P (x ∷ xs) h (suc i) y e = each_at (λ j. P (suc j)) xs h.1 i y e
 
 all_stand : Each Stands schedule
 unfolding Each Stands
-all_stand =
-    ((lit< tt, refl), ((lit< tt, lit< tt, lit< tt), ((lit< tt, lit< tt, lit< tt), ((lit< tt, refl),
-    ((lit< tt, refl), ((lit< tt, lit< tt, lit< tt), ((lit< tt, lit< tt, lit< tt), ((lit< tt, refl), tt))))))))
+all_stand = (
+  (lit< tt, refl),
+  (
+    (lit< tt, lit< tt, lit< tt),
+    (
+      (lit< tt, lit< tt, lit< tt),
+      (
+        (lit< tt, refl),
+        ((lit< tt, refl), ((lit< tt, lit< tt, lit< tt), ((lit< tt, lit< tt, lit< tt), ((lit< tt, refl), tt)))),
+      ),
+    ),
+  ),
+)
 
 stands : (i : ℕ) (m : Moment) → nth schedule i ≡ Some m → Stands i m
 stands i m e = each_at Stands schedule all_stand i m e
@@ -134,7 +140,7 @@ in_order body a b p =
 in_time : (a b i j : ℕ) → a < b → nth schedule i ≡ Some (Depart a) → nth schedule j ≡ Some (Arrive b) → i < j
 in_time a b i j h d c = omega (arith, departs_at a i d, arrives_at b j c)
 
-explains : Explains hit_page empty (hits (codes "2")) schedule
+explains : Explains hit_page nothing_stored (hits (codes "2")) schedule
 explains = record {
   whole = whole (codes "2");
   of_trace = λ i m e. asked (codes "2") (rid_of m) (is_asked m i (stands i m e));
@@ -166,7 +172,7 @@ abbrev second_path : Path
 second_path = record { page = Some 0; decisions = false ∷ []; steps = 17; end = Normal }
 
 -- the second run ends with 2, and a departure that gives 1 is not allowed
-does_not_explain : Explains hit_page empty (hits (codes "1")) schedule → ⊥
+does_not_explain : Explains hit_page nothing_stored (hits (codes "1")) schedule → ⊥
 unfolding digits acted plausible request_of response_of first_answer or_else ending_of
 does_not_explain e = let last = e.plays.2.2.2.2.2.2.2 in
     let ends = last.0 in

@@ -2,3 +2,4 @@ pub mod Programs
 mod ConductRows
 mod HitRows
 mod LongRows
+mod RuleRows

@@ -54,7 +54,7 @@ roll_of (v.number (pos (suc n))) = issue (record { object = o.dice; act = o.roll
 roll_of (v.number (negsuc n)) = fails BadBound
 roll_of d = fails WrongKind
 
--- the call of a function with the values of its arguments, for a request; those of a store also have the store's name
+-- the call of a built-in function with the values of its arguments, for a request; one on a store also has the store's name
 abbrev pub built_in : Request → List ℕ → Builtin → List Datum → Run Datum
 built_in q s Len vs = result (length_of (first vs))
 built_in q s Str vs = result (as_text (printed (first vs)))

@@ -27,7 +27,7 @@ pub data Flow : Type 0 where
   on : Variables → Flow
   back : Datum → Flow
 
--- what runs statements at a call depth, later: the next turn of a loop, or a function's body
+-- what runs statements at a call depth, later: the next turn of a while, or a function's body
 abbrev pub Later : Type 0
 Later = ℕ → Statements → Variables → Run Flow
 
@@ -41,7 +41,7 @@ abbrev pub value_of : Flow → Datum
 value_of (on vs) = v.null
 value_of (back d) = d
 
--- a call of a function of the program, at a call depth of at most 64
+-- a call of a function of the program, which stands at a call depth of 63 at most; the body is one deeper
 abbrev pub entered : Later → ℕ → Option DeclaredFunction → List Datum → Run Datum
 entered later depth None ds = fails WrongKind
 entered later depth (Some f) ds =
@@ -60,10 +60,10 @@ store_name es = []
 -- ---- transactions
 
 -- a statement whose operands are evaluated: a row or a count that is still to be checked, or one that needs no check
-pub data Drawn : Type 0 where
-  row : (table : ℕ) → List Datum → Drawn
-  count : Datum → (table : ℕ) → List o.Test → Drawn
-  ready : o.Statement → Drawn
+pub data Unchecked : Type 0 where
+  row : (table : ℕ) → List Datum → Unchecked
+  count : Datum → (table : ℕ) → List o.Test → Unchecked
+  ready : o.Statement → Unchecked
 
 -- a row's key is a text of at most 1,024 bytes
 abbrev pub key_check : List Datum → Run (Unit {0})
@@ -74,12 +74,12 @@ abbrev pub counted : ℕ → List o.Test → Datum → Run o.Statement
 counted t tests (v.number n) = give (o.expect n t tests)
 counted t tests d = fails WrongKind
 
-abbrev pub checked_one : Drawn → Run o.Statement
+abbrev pub checked_one : Unchecked → Run o.Statement
 checked_one (row t ds) = key_check ds >> give (o.insert t ds)
 checked_one (count d t tests) = counted t tests d
 checked_one (ready s) = give s
 
-abbrev pub checked : List Drawn → Run (List o.Statement)
+abbrev pub checked : List Unchecked → Run (List o.Statement)
 checked [] = give []
 checked (d ∷ ds) = do
   s ← checked_one d
@@ -141,7 +141,7 @@ abbrev mutual
     ds ← (if takes_store (builtin_of f) then eval_others w later depth vs es else eval_all w later depth vs es)
     called w later depth f (builtin_of f) (store_name es) ds
   eval w later depth vs (transact at qs) = do
-    ds ← draw_all w later depth vs qs
+    ds ← operands_of_all w later depth vs qs
     charge
     ss ← checked ds
     issue (record { object = o.tables; act = o.transact ss })
@@ -159,44 +159,45 @@ abbrev mutual
   eval_others w later depth vs no_expression = give []
   eval_others w later depth vs (expression e es) = eval_all w later depth vs es
 
-  pub draw : Setting → Later → ℕ → Variables → Query → Run Drawn
-  draw w later depth vs (insert at t es) = do
+  -- a statement of a transaction with the values of its operands
+  pub operands_of : Setting → Later → ℕ → Variables → Query → Run Unchecked
+  operands_of w later depth vs (insert at t es) = do
     ds ← eval_all w later depth vs es
     give (row (table_in w.program t).number ds)
-  draw w later depth vs (select at columns t cs) = do
-    tests ← draw_tests w later depth vs (table_in w.program t) cs
+  operands_of w later depth vs (select at columns t cs) = do
+    tests ← tests_of w later depth vs (table_in w.program t) cs
     give (ready (o.select (table_in w.program t).number (map (column_in (table_in w.program t)) columns) tests))
-  draw w later depth vs (update at t as' cs) = do
-    changes ← draw_changes w later depth vs (table_in w.program t) as'
-    tests ← draw_tests w later depth vs (table_in w.program t) cs
+  operands_of w later depth vs (update at t as' cs) = do
+    changes ← changes_of w later depth vs (table_in w.program t) as'
+    tests ← tests_of w later depth vs (table_in w.program t) cs
     give (ready (o.update (table_in w.program t).number changes tests))
-  draw w later depth vs (delete at t cs) = do
-    tests ← draw_tests w later depth vs (table_in w.program t) cs
+  operands_of w later depth vs (delete at t cs) = do
+    tests ← tests_of w later depth vs (table_in w.program t) cs
     give (ready (o.delete (table_in w.program t).number tests))
-  draw w later depth vs (expect at e t cs) = do
+  operands_of w later depth vs (expect at e t cs) = do
     n ← eval w later depth vs e
-    tests ← draw_tests w later depth vs (table_in w.program t) cs
+    tests ← tests_of w later depth vs (table_in w.program t) cs
     give (count n (table_in w.program t).number tests)
 
-  pub draw_all : Setting → Later → ℕ → Variables → Queries → Run (List Drawn)
-  draw_all w later depth vs no_query = give []
-  draw_all w later depth vs (query q qs) = do
-    d ← draw w later depth vs q
-    ds ← draw_all w later depth vs qs
+  pub operands_of_all : Setting → Later → ℕ → Variables → Queries → Run (List Unchecked)
+  operands_of_all w later depth vs no_query = give []
+  operands_of_all w later depth vs (query q qs) = do
+    d ← operands_of w later depth vs q
+    ds ← operands_of_all w later depth vs qs
     give (d ∷ ds)
 
-  pub draw_tests : Setting → Later → ℕ → Variables → NumberedTable → Conditions → Run (List o.Test)
-  draw_tests w later depth vs t no_condition = give []
-  draw_tests w later depth vs t (condition x comparison e cs) = do
+  pub tests_of : Setting → Later → ℕ → Variables → NumberedTable → Conditions → Run (List o.Test)
+  tests_of w later depth vs t no_condition = give []
+  tests_of w later depth vs t (condition x comparison e cs) = do
     d ← eval w later depth vs e
-    tests ← draw_tests w later depth vs t cs
+    tests ← tests_of w later depth vs t cs
     give (record { column = column_in t x; comparison = comparison; value = d } ∷ tests)
 
-  pub draw_changes : Setting → Later → ℕ → Variables → NumberedTable → Assignments → Run (List o.Change)
-  draw_changes w later depth vs t no_assignment = give []
-  draw_changes w later depth vs t (assignment x e as') = do
+  pub changes_of : Setting → Later → ℕ → Variables → NumberedTable → Assignments → Run (List o.Change)
+  changes_of w later depth vs t no_assignment = give []
+  changes_of w later depth vs t (assignment x e as') = do
     d ← eval w later depth vs e
-    changes ← draw_changes w later depth vs t as'
+    changes ← changes_of w later depth vs t as'
     give (record { column = column_in t x; value = d } ∷ changes)
 
 -- ---- statements
@@ -276,7 +277,8 @@ abbrev mutual
   block w later depth no_statement vs = give (on vs)
   block w later depth (statement s ss) vs = exec w later depth s vs >>= λ flow. then_on flow (block w later depth ss)
 
--- Statements with at most n turns of loops and calls within one another, each of which spends a step.
+-- Statements in which fewer than n turns of a while and calls lie within one another. Each of them spends a step, so that
+-- 100,001 never run out.
 abbrev pub run : Setting → ℕ → Later
 run w zero depth ss vs = fails OutOfSteps
 run w (suc n) depth ss vs = block w (run w n) depth ss vs

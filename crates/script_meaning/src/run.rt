@@ -6,7 +6,7 @@ use script_tree::value::Value;
 #[derive(Drop)]
 pub enum Mark {
     Decided(bool),
-    /// An operation that was answered.
+    /// An operation with its answer.
     Issued(Op),
 }
 

@@ -2,7 +2,7 @@
 use Rattle.std.specs.Prelude.{ℕ, ℤ, pos, Bool, true, false, ◌&&◌, if◌then◌else◌, List, [], ◌∷◌, Option, Some, None, int_le, int_lt}
 use Rattle.std.specs.Str.{bytes_eq}
 use Rattle.script_tree.specs.Datum.{Datum, null, number}
-use Rattle.script_tree.specs.Transactions.{Table, transacted}
+use Rattle.script_tree.specs.Transactions.{Table, after_transaction}
 use Rattle.script_tree.specs.declared.operation.Object.{Object}
 use Rattle.script_tree.specs.declared.operation.Object.TheVariants.{Register, Store, Tables, Clock, Dice}
 use Rattle.script_tree.specs.declared.operation.Act.{Act}
@@ -51,7 +51,7 @@ acted (Write d) c (one old) = (one (Some d), null)
 acted (Get k) c (many m) = (many m, or_null (m k))
 acted (Put k d) c (many m) = (many (with_key k (Some d) m), null)
 acted (Remove k) c (many m) = (many (with_key k None m), null)
-acted (Transact ss) c (rows tables) = (rows (transacted ss tables).0, (transacted ss tables).1)
+acted (Transact ss) c (rows tables) = (rows (after_transaction ss tables).0, (after_transaction ss tables).1)
 acted Now (Number n) (reading last) = (reading n, number n)
 acted (Roll bound) (Number n) none = (none, number n)
 acted a c cell = (cell, null)

@@ -9,7 +9,7 @@ pub enum ScriptFault {
     /// A number beyond 64 bits.
     Overflow = 2,
     ZeroDivisor = 3,
-    /// An index, a range or a status that isn't there.
+    /// An index, a range or a status that isn't allowed.
     OutOfRange = 4,
     /// A value, a name, a key or a body beyond its limit.
     TooLarge = 5,

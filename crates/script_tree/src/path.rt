@@ -50,7 +50,7 @@ impl Decisions {
 }
 
 /// The whole path of a run through its program: which page, each decision, the steps that were
-/// spent, and how it ended. Requests of one path are run together.
+/// spent, and how it ended. A recorder groups requests by their paths.
 #[derive(Debug, Drop)]
 pub struct Path {
     /// The number of the page among the program's pages, from 0; none where no page has the

@@ -14,7 +14,7 @@ pub enum Moment {
     Depart(u32),
 }
 
-/// What happened, one moment after another.
+/// An order in which a period's requests can have been served, one moment after another.
 #[derive(Debug, Drop)]
 pub struct Schedule {
     moments: Vec<Moment>,

@@ -2,3 +2,10 @@ pub mod Counts
 pub mod Files
 pub mod Streams
 pub mod Doors
+pub mod Failing
+pub mod MemShelf
+pub mod MemDoor
+pub mod Pieces
+pub mod Kept
+pub mod Back
+pub mod MemHouse

@@ -11,8 +11,11 @@ pub mod fault;
 pub mod gate;
 pub mod house;
 pub mod link;
+pub mod memory;
 pub mod shelf;
 pub mod sink;
+#[cfg(test)]
+mod tests;
 
 pub use clock::Clock;
 pub use door::Door;
@@ -20,5 +23,9 @@ pub use fault::{Fault, ShelfFault};
 pub use gate::Gate;
 pub use house::House;
 pub use link::Link;
+pub use memory::{
+    Back, DoorPlan, Failing, FixedClock, LinkPlan, MemDoor, MemHouse, MemLink, MemShelf, MemSink,
+    OpenGate, Visits,
+};
 pub use shelf::Shelf;
 pub use sink::Sink;

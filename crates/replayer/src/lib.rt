@@ -2,5 +2,6 @@
 #![tactic(auto)]
 
 pub mod difference;
+pub mod law;
 
 pub use difference::{Difference, Reason};

@@ -1,0 +1,5 @@
+mod Completely
+mod Places
+pub mod Registers
+mod Soundly
+mod Tests

@@ -1,5 +1,6 @@
 mod Completely
 mod Places
+pub mod Reached
 pub mod Registers
 mod Soundly
 mod Tests

@@ -1,5 +1,8 @@
-pub mod Programs
+pub mod Blocks
+pub mod Calls
 mod ConductRows
+pub mod Conducts
 mod HitRows
 mod LongRows
+pub mod Programs
 mod RuleRows

@@ -3,8 +3,12 @@ pub mod Conduct
 pub mod Declarations
 pub mod Evaluate
 pub mod Explains
+pub mod Gives
 pub mod Operations
 pub mod Operators
 pub mod Replay
 pub mod Run
+pub mod SettingCode
+pub mod Straight
 pub mod Variables
+pub mod WalkerSteps

@@ -1,0 +1,5 @@
+pub mod Grammar
+pub mod Reader
+pub mod Texts
+pub mod Tokens
+pub mod Words

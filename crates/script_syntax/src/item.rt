@@ -1,0 +1,148 @@
+ghost use Rattle.std.specs.Prelude.{◌≡◌};
+ghost use Rattle.script_syntax.specs.Reader.{of_name, read_from, literal, atom, write_from, item_from, ended_item, statement_from, statement, Reads};
+
+use crate::refusal::Refusal;
+use crate::token::{Kind, Token, Tokens};
+use crate::word::Word;
+use script_tree::syntax::expression::{Expression, ExpressionNode, Expressions};
+use script_tree::syntax::name::Name;
+use script_tree::syntax::statement::{Statement, StatementNode};
+use script_tree::text::Text;
+use std::alloc::Global;
+
+fn of_name(name: Name) -> Expression
+    ensures { result ≡ of_name name }
+{
+    let Name { at, text } = name;
+    Expression {
+        at,
+        node: ExpressionNode::Text(text),
+    }
+}
+
+/// The rest of a read.
+fn read(alloc: Global, tokens: &mut Tokens, at: usize, name: Text) -> Result<Expression, Refusal>
+    ensures { Reads (read_from at name tokens.old) result tokens.new }
+{
+    tokens.word(Word::Open)?;
+    let register = tokens.text()?;
+    tokens.word(Word::Close)?;
+    let mut arguments = Vec::new(alloc);
+    arguments.push(of_name(register))?;
+    Ok(Expression {
+        at,
+        node: ExpressionNode::Call(name, Expressions::from_vec(arguments)),
+    })
+}
+
+fn literal(alloc: Global, tokens: &mut Tokens, token: Token) -> Result<Expression, Refusal>
+    ensures { Reads (literal token.at token.kind tokens.old) result tokens.new }
+{
+    let Token { at, kind } = token;
+    match kind {
+        Kind::Number(number) => Ok(Expression {
+            at,
+            node: ExpressionNode::Number(number),
+        }),
+        Kind::Text(text) => Ok(Expression {
+            at,
+            node: ExpressionNode::Text(text),
+        }),
+        Kind::Name(name) => {
+            if name.as_bytes() == b"read".as_slice() {
+                read(alloc, tokens, at, name)
+            } else {
+                Err(Refusal::Syntax)
+            }
+        }
+        Kind::Word(_) => Err(Refusal::Syntax),
+    }
+}
+
+fn atom(alloc: Global, tokens: &mut Tokens) -> Result<Expression, Refusal>
+    ensures { Reads (atom tokens.old) result tokens.new }
+{
+    match tokens.next() {
+        None => Err(Refusal::Syntax),
+        Some(token) => literal(alloc, tokens, token),
+    }
+}
+
+/// The rest of a write.
+fn write(alloc: Global, tokens: &mut Tokens, at: usize, name: Text) -> Result<Expression, Refusal>
+    ensures { Reads (write_from at name tokens.old) result tokens.new }
+{
+    tokens.word(Word::Open)?;
+    let register = tokens.text()?;
+    tokens.word(Word::Comma)?;
+    let value = atom(alloc, tokens)?;
+    tokens.word(Word::Close)?;
+    let mut arguments = Vec::new(alloc);
+    arguments.push(of_name(register))?;
+    arguments.push(value)?;
+    Ok(Expression {
+        at,
+        node: ExpressionNode::Call(name, Expressions::from_vec(arguments)),
+    })
+}
+
+fn item(alloc: Global, tokens: &mut Tokens, token: Token) -> Result<Expression, Refusal>
+    ensures { Reads (item_from token.at token.kind tokens.old) result tokens.new }
+{
+    let Token { at, kind } = token;
+    match kind {
+        Kind::Name(name) => {
+            if name.as_bytes() == b"write".as_slice() {
+                write(alloc, tokens, at, name)
+            } else {
+                let kind = Kind::Name(name);
+                literal(alloc, tokens, Token { at, kind })
+            }
+        }
+        kind => literal(alloc, tokens, Token { at, kind }),
+    }
+}
+
+/// An item and a semicolon.
+fn ended_item(alloc: Global, tokens: &mut Tokens) -> Result<Expression, Refusal>
+    ensures { Reads (ended_item tokens.old) result tokens.new }
+{
+    match tokens.next() {
+        None => Err(Refusal::Syntax),
+        Some(token) => {
+            let item = item(alloc, tokens, token)?;
+            tokens.word(Word::Semicolon)?;
+            Ok(item)
+        }
+    }
+}
+
+fn statement_from(alloc: Global, tokens: &mut Tokens, token: Token) -> Result<Statement, Refusal>
+    ensures { Reads (statement_from token.at token.kind tokens.old) result tokens.new }
+{
+    let Token { at, kind } = token;
+    if kind.is(Word::Echo) {
+        let item = ended_item(alloc, tokens)?;
+        Ok(Statement {
+            at,
+            node: StatementNode::Echo(item),
+        })
+    } else if kind.is(Word::Do) {
+        let item = ended_item(alloc, tokens)?;
+        Ok(Statement {
+            at,
+            node: StatementNode::Do(item),
+        })
+    } else {
+        Err(Refusal::Syntax)
+    }
+}
+
+pub fn statement(alloc: Global, tokens: &mut Tokens) -> Result<Statement, Refusal>
+    ensures { Reads (statement tokens.old) result tokens.new }
+{
+    match tokens.next() {
+        None => Err(Refusal::Syntax),
+        Some(token) => statement_from(alloc, tokens, token),
+    }
+}

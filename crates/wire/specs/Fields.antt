@@ -1,0 +1,62 @@
+-- Fields of a binary file, each at a place: what is spelled there and the place behind it, or nothing.
+use Rattle.std.specs.Prelude.{◌≡◌, ℕ, ◌+◌, ◌<◌, ◌≤◌, ◌==◌, ℤ, List, length, take, drop, slice_get, Option, Some, None, Result, Ok, Err, nat_le, if◌then◌else◌}
+use Rattle.std.specs.Int.{Width, w32, w64, byte_len, from_be_bytes, cast_signed}
+use Rattle.script_tree.specs.declared.operation.Choice.{Choice}
+use Rattle.script_tree.specs.declared.operation.Choice.TheVariants.{Nothing, Number}
+use Rattle.wire.specs.declared.fault.FileFault.{FileFault}
+use Rattle.wire.specs.declared.fault.FileFault.TheVariants.{Memory, Unreadable}
+use Rattle.wire.specs.declared.fault.WireFault.{WireFault}
+
+infixl 10 ◌>>=◌
+abbrev pub ◌>>=◌ : {A B : Type 0} → Option A → (A → Option B) → Option B
+None >>= f = None
+(Some x) >>= f = f x
+
+-- What is read, seen by `view`, is what is spelled; a fault means that nothing is spelled at the place that it names.
+abbrev pub Reads : {X Y : Type 0} → (X → Y) → ℕ → Result X WireFault → Option Y → Type 0
+Reads view at (Ok x) spelled = spelled ≡ Some (view x)
+Reads view at (Err fault) spelled = (spelled ≡ None) × (fault.at ≡ at)
+
+-- The same, where memory may run out.
+abbrev pub Takes : {X Y : Type 0} → (X → Y) → Result X FileFault → Option Y → Type 0
+Takes view (Ok x) spelled = spelled ≡ Some (view x)
+Takes view (Err Memory) spelled = Unit {0}
+Takes view (Err (Unreadable at)) spelled = spelled ≡ None
+
+-- the next place is behind this one and not behind the end
+abbrev pub IsWithin : List ℕ → ℕ → ℕ → Type 0
+IsWithin bytes at next = (at < next) × (next ≤ length bytes)
+
+abbrev pub byte_at : List ℕ → ℕ → Option (ℕ × ℕ)
+byte_at bytes at = do
+  byte ← slice_get bytes at
+  Some (byte, at + 1)
+
+-- a number of this width, its highest byte first
+abbrev pub number_at : Width → List ℕ → ℕ → Option (ℕ × ℕ)
+number_at w bytes at =
+    if nat_le (at + byte_len w) (length bytes)
+    then Some (from_be_bytes w (take (byte_len w) (drop at bytes)), at + byte_len w)
+    else None
+
+-- the same of 64 bits, as two's complement
+abbrev pub integer_at : List ℕ → ℕ → Option (ℤ × ℕ)
+integer_at bytes at = do
+  number ← number_at w64 bytes at
+  Some (cast_signed w64 number.0, number.1)
+
+-- a length, then so many bytes; so is a record, whose payload these bytes are
+abbrev pub bytes_at : List ℕ → ℕ → Option (List ℕ × ℕ)
+bytes_at bytes at = do
+  len ← number_at w32 bytes at
+  if nat_le (len.1 + len.0) (length bytes) then Some (take len.0 (drop len.1 bytes), len.1 + len.0) else None
+
+abbrev pub choice_at : List ℕ → ℕ → Option (Choice × ℕ)
+choice_at bytes at = do
+  tag ← byte_at bytes at
+  if tag.0 == 0 then Some (Nothing, tag.1) else if tag.0 == 1 then number_choice_at bytes tag.1 else None
+  where
+    number_choice_at : List ℕ → ℕ → Option (Choice × ℕ)
+    number_choice_at bytes at = do
+      number ← integer_at bytes at
+      Some (Number number.0, number.1)

@@ -1,0 +1,48 @@
+use crate::fault::WireFault;
+use crate::field::{
+    frame, read_bytes, read_choice, read_i64, read_u8, read_u16, read_u32, read_u64,
+};
+use script_tree::operation::Choice;
+use std::test::Fail;
+
+/// The record of the second response of the examples: 200 and the text `3`.
+const RECORD: &[u8; 16] = b"\x00\x00\x00\x0c\x02\x00\x00\x00\x00\x00\xc8\x00\x00\x00\x013";
+
+#[test]
+fn numbers(rt: HostRuntime) {
+    assert_eq!(rt; read_u8(RECORD, 4), Ok((2, 5)));
+    assert_eq!(rt; read_u8(RECORD, 16), Err(WireFault { at: 16 }));
+    assert_eq!(rt; read_u16(RECORD, 9), Ok((200, 11)));
+    assert_eq!(rt; read_u16(RECORD, 15), Err(WireFault { at: 15 }));
+    assert_eq!(rt; read_u32(RECORD, 0), Ok((12, 4)));
+    assert_eq!(rt;
+        read_u32(RECORD, usize::MAX),
+        Err(WireFault { at: usize::MAX })
+    );
+    let one = b"\x03\x00\x00\x00\x00\x00\x00\x00\x01";
+    assert_eq!(rt; read_u64(one, 1), Ok((1, 9)));
+    assert_eq!(rt; read_i64(one, 1), Ok((1, 9)));
+    let minus_two = b"\xff\xff\xff\xff\xff\xff\xff\xfe";
+    assert_eq!(rt; read_i64(minus_two, 0), Ok((-2, 8)));
+    assert_eq!(rt; read_i64(minus_two, 1), Err(WireFault { at: 1 }));
+}
+
+#[test]
+fn parts(rt: HostRuntime) -> Result<(), Fail> {
+    let (payload, next) = frame(RECORD, 0)?;
+    assert_eq!(rt; (payload.len(), next), (12, 16));
+    let (body, next) = read_bytes(payload, 7)?;
+    assert!(rt; body == b"3".as_slice());
+    assert_eq!(rt; next, 12);
+    assert_eq!(rt; read_bytes(RECORD, 1).err(), Some(WireFault { at: 1 }));
+    Ok(())
+}
+
+#[test]
+fn choices(rt: HostRuntime) {
+    let choices = b"\x00\x01\x00\x00\x00\x00\x00\x00\x00\x05\x02\x01";
+    assert_eq!(rt; read_choice(choices, 0), Ok((Choice::Nothing, 1)));
+    assert_eq!(rt; read_choice(choices, 1), Ok((Choice::Number(5), 10)));
+    assert_eq!(rt; read_choice(choices, 10), Err(WireFault { at: 10 }));
+    assert_eq!(rt; read_choice(choices, 11), Err(WireFault { at: 11 }));
+}

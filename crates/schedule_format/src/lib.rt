@@ -1,0 +1,6 @@
+//! Schedules in their binary format.
+#![tactic(auto)]
+
+pub mod decoding;
+#[cfg(test)]
+mod tests;

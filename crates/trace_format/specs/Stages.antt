@@ -1,0 +1,27 @@
+-- What is known of the ids of a trace that was read up to a place: nothing, that the request is open, or that it was answered.
+use Rattle.std.specs.Prelude.{◌≡◌, ◌≢◌, ℕ, ◌<◌, Bool, true, false, List, length, Option, Some, None}
+use Rattle.script_tree.specs.Lists.{nth}
+use Rattle.script_tree.specs.Requests.{Request}
+use Rattle.script_tree.specs.declared.trace.TraceEvent.{TraceEvent}
+use Rattle.script_tree.specs.declared.trace.TraceEvent.TheVariants.{Asked, Answered}
+
+abbrev pub id_of : TraceEvent → ℕ
+id_of (Asked id q) = id
+id_of (Answered id x) = id
+
+-- whether an event fits, where this is known of its id
+abbrev pub fits : TraceEvent → Option Bool → Bool
+fits (Asked id q) None = true
+fits (Asked id q) (Some is_open) = false
+fits (Answered id x) None = false
+fits (Answered id x) (Some is_open) = is_open
+
+-- before the place, no request is one of an open id
+abbrev pub NoneOpen : (ℕ → Option Bool) → List TraceEvent → ℕ → Type 0
+NoneOpen stage trace place = (k s : ℕ) (q : Request) → k < place → nth trace k ≡ Some (Asked s q) → stage s ≢ Some true
+
+-- the first request of an open id, if any
+abbrev pub IsFirstOpen : (ℕ → Option Bool) → List TraceEvent → Option ℕ → Type 0
+IsFirstOpen stage trace None = NoneOpen stage trace (length trace)
+IsFirstOpen stage trace (Some r) =
+    (place : ℕ) × (q : Request) × (nth trace place ≡ Some (Asked r q)) × (stage r ≡ Some true) × NoneOpen stage trace place

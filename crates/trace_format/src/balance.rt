@@ -1,0 +1,62 @@
+ghost use Rattle.std.specs.Prelude.{◌≡◌, Some, IfOk, OnOk};
+ghost use Rattle.std.specs.Ordering.{nat_cmp};
+ghost use Rattle.std.specs.BTreeMap.{get, Updates};
+ghost use Rattle.trace_format.specs.Balance.{IsFirstFault, IsOneFault};
+ghost use Rattle.trace_format.specs.Events.{is_request};
+ghost use Rattle.trace_format.specs.Stages.{id_of, fits, IsFirstOpen};
+
+use script_tree::trace::{Trace, TraceEvent};
+use std::alloc::{AllocError, Global};
+use std::collections::BTreeMap;
+
+/// Notes an event: of a request that its id is open, of a response that it isn't. Tells whether the
+/// event fits what was known of its id.
+fn note(stages: &mut BTreeMap<u32, bool>, event: &TraceEvent) -> Result<bool, AllocError>
+    ensures fits { IfOk result (λ b. b ≡ fits event.now (get nat_cmp stages.old (id_of event.now))) }
+    ensures noted { OnOk result (Updates nat_cmp stages.old stages.new (id_of event.now) (Some (is_request event.now))) }
+{
+    match event {
+        TraceEvent::Asked(id, _) => Ok(stages.insert(*id, true)?.is_none()),
+        TraceEvent::Answered(id, _) => Ok(stages.insert(*id, false)?.unwrap_or(false)),
+    }
+}
+
+fn id_of(event: &TraceEvent) -> u32
+    ensures { result ≡ id_of event.now }
+{
+    match event {
+        TraceEvent::Asked(id, _) | TraceEvent::Answered(id, _) => *id,
+    }
+}
+
+fn first_open(events: &[TraceEvent], stages: &BTreeMap<u32, bool>) -> Option<u32>
+    ensures { IsFirstOpen (get nat_cmp stages.now) events.now result }
+{
+    for event in events {
+        if let TraceEvent::Asked(id, _) = event
+            && stages.get(id) == Some(&true)
+        {
+            return Some(*id);
+        }
+    }
+    None
+}
+
+/// `None` for a balanced trace; else the id of the event that names the fault.
+pub fn first_unbalanced(alloc: Global, trace: &Trace) -> Result<Option<u32>, AllocError>
+    ensures { IfOk result (λ r. IsFirstFault trace.now r) }
+{
+    let events = trace.as_slice();
+    let mut stages = BTreeMap::new(alloc);
+    for event in events {
+        if !note(&mut stages, event)? {
+            return Ok(Some(id_of(event)));
+        }
+    }
+    Ok(first_open(events, &stages))
+}
+
+/// A trace is balanced, or one id names its fault, and not another one.
+pub fn fault_is_one()
+    ensures { IsOneFault }
+{}

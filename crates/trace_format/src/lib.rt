@@ -1,0 +1,8 @@
+//! Traces in their binary format, and whether a trace is balanced.
+#![tactic(auto)]
+
+pub mod balance;
+pub mod decoding;
+pub mod request;
+#[cfg(test)]
+mod tests;

@@ -1,0 +1,121 @@
+use crate::balance::first_unbalanced;
+use crate::decoding::decode;
+use script_tree::request::{Parameters, Request, Response};
+use script_tree::text::Text;
+use script_tree::trace::{Trace, TraceEvent};
+use std::alloc::Global;
+use std::test::Fail;
+use wire::fault::FileFault;
+
+/// A request GET `/e`, answered with status 200 and body `3`.
+const FILE: &[u8; 54] =
+    b"SSCOTRC1\x00\x00\x00\x1a\x01\x00\x00\x00\x00\x00\x00\x00\x03GET\x00\x00\x00\x02/e\x00\x00\x00\x00\x00\x00\x00\x00\x00\x00\x00\x0c\x02\x00\x00\x00\x00\x00\xc8\x00\x00\x00\x013";
+
+/// A request 1 with the method `P`, the path `/`, the parameter k=`v` and the body `b`.
+const PARAMETER: &[u8; 46] =
+    b"SSCOTRC1\x00\x00\x00\x22\x01\x00\x00\x00\x01\x00\x00\x00\x01P\x00\x00\x00\x01/\x00\x00\x00\x01\x00\x00\x00\x01k\x00\x00\x00\x01v\x00\x00\x00\x01b";
+
+fn is_the_example(trace: &Trace) -> bool {
+    match trace.as_slice() {
+        [
+            TraceEvent::Asked(0, request),
+            TraceEvent::Answered(0, response),
+        ] => {
+            request.method().as_bytes() == b"GET".as_slice()
+                && request.path().as_bytes() == b"/e".as_slice()
+                && request.parameters().as_slice().is_empty()
+                && request.body().is_empty()
+                && response.status == 200
+                && response.body.as_bytes() == b"3".as_slice()
+        }
+        _ => false,
+    }
+}
+
+fn has_the_parameter(trace: &Trace) -> bool {
+    match trace.as_slice() {
+        [TraceEvent::Asked(1, request)] => match request.parameters().as_slice() {
+            [parameter] => {
+                parameter.name.as_bytes() == b"k".as_slice()
+                    && parameter.value.as_bytes() == b"v".as_slice()
+                    && request.body().as_bytes() == b"b".as_slice()
+            }
+            _ => false,
+        },
+        _ => false,
+    }
+}
+
+#[test]
+fn files_of_the_examples(rt: HostRuntime) -> Result<(), Fail> {
+    let trace = decode(rt.alloc(), FILE)?;
+    assert!(rt; is_the_example(&trace));
+    let trace = decode(rt.alloc(), PARAMETER)?;
+    assert!(rt; has_the_parameter(&trace));
+    Ok(())
+}
+
+#[test]
+fn cuts_of_the_example(rt: HostRuntime) {
+    for len in 0..54usize {
+        let found = decode(rt.alloc(), &FILE[..len]).err();
+        let at = match len {
+            0..=7 => Some(0),
+            8 | 38 => None,
+            9..=37 => Some(8),
+            _ => Some(38),
+        };
+        assert_eq!(rt;
+            found,
+            at.map(|at| FileFault::Unreadable { at }),
+            "{len} bytes"
+        );
+    }
+}
+
+#[test]
+fn one_byte_more(rt: HostRuntime) -> Result<(), Fail> {
+    let mut bytes = Vec::from_slice(rt.alloc(), FILE)?;
+    bytes.push(0)?;
+    let found = decode(rt.alloc(), bytes.as_slice()).err();
+    assert_eq!(rt; found, Some(FileFault::Unreadable { at: 54 }));
+    Ok(())
+}
+
+fn event_of(alloc: Global, is_request: bool, id: u32) -> Result<TraceEvent, Fail> {
+    let body = Text::from_vec(Vec::new(alloc));
+    if !is_request {
+        return Ok(TraceEvent::Answered(id, Response { status: 200, body }));
+    }
+    let method = Text::from_vec(Vec::new(alloc));
+    let path = Text::from_vec(Vec::new(alloc));
+    let parameters = Parameters::from_vec(Vec::new(alloc));
+    match Request::new(method, path, parameters, body) {
+        Some(request) => Ok(TraceEvent::Asked(id, request)),
+        None => Err("a small request".into()),
+    }
+}
+
+#[test]
+fn faults_of_balance(rt: HostRuntime) -> Result<(), Fail> {
+    let traces: [(&[(bool, u32)], Option<u32>); 9] = [
+        (&[], None),
+        (&[(true, 0), (true, 1), (false, 1), (false, 0)], None),
+        (&[(true, 0), (false, 0), (false, 0)], Some(0)),
+        (&[(true, 4), (false, 3)], Some(3)),
+        (&[(true, 0), (false, 0), (true, 0), (false, 0)], Some(0)),
+        (&[(true, 5), (true, 5), (false, 5)], Some(5)),
+        (&[(true, 2), (true, 1), (false, 1)], Some(2)),
+        (&[(true, 7), (true, 8)], Some(7)),
+        (&[(true, 1), (true, 2), (false, 2), (false, 2)], Some(2)),
+    ];
+    for (events, id) in traces {
+        let mut items = Vec::new(rt.alloc());
+        for (is_request, id) in events {
+            items.push(event_of(rt.alloc(), *is_request, *id)?)?;
+        }
+        let found = first_unbalanced(rt.alloc(), &Trace::from_vec(items))?;
+        assert_eq!(rt; found, id);
+    }
+    Ok(())
+}

@@ -19,7 +19,7 @@ use Rattle.replayer.specs.Differences.{has_arrived, is_too_early, is_same_respon
 use Rattle.replayer.specs.declared.difference.Difference.TheVariants.{AtMoment}
 use Rattle.replayer.specs.declared.difference.Reason.TheVariants.{UnknownRequest, SecondArrival, TooEarly, BadChoice, OtherResponse}
 use Rattle.replayer.proofs.Places.{nth_left, nth_next, nth_within, nth_before}
-use Rattle.replayer.proofs.Tests.{not_arrived, has_departed-at, asked_at, request_of-at, not_too_early, none_left}
+use Rattle.replayer.proofs.DifferenceTests.{not_arrived, has_departed-at, asked_at, request_of-at, not_too_early, none_left}
 
 same_itself : (x : Response) → is_same_response x (Some x) ≡ true
 same_itself x = ap (λ b. cond b (bytes_eq x.body x.body) false) (eq-eqb x.status x.status refl) ∙ (bytes_eq-Decides x.body x.body).1 refl

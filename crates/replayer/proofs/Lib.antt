@@ -1,6 +1,9 @@
 mod Completely
 mod Places
 pub mod Reached
-pub mod Registers
+pub mod Wanted
 mod Soundly
-mod Tests
+mod DifferenceTests
+pub mod PlaceFacts
+pub mod RegisterFacts
+pub mod StageFacts

@@ -18,6 +18,8 @@ use Rattle.script_tree.specs.declared.request.Response.{Response}
 use Rattle.script_tree.specs.declared.syntax.declaration.Declaration.{Declaration}
 use Rattle.script_tree.specs.declared.syntax.declaration.Declaration.TheVariants.{Page}
 use Rattle.script_meaning.specs.BuiltinCalls.{first, name_in, on_name}
+use Rattle.script_meaning.specs.Replay.{ending_of}
+use Rattle.replayer.specs.Runners.{IsReached, begun, answered as answered_one}
 use Rattle.script_meaning.specs.Conduct.{Wants, Ends, Undefined, unless_left, ended, conduct, on_page, start}
 use Rattle.script_meaning.specs.Declarations.{NumberedPage, page_from, page_in}
 use Rattle.script_meaning.specs.Evaluate.{Setting, Later, Flow, on, back, print_value, eval, eval_all, then_on, exec, block, run}
@@ -251,3 +253,9 @@ defined_next program q answers d op straight e = go (page_in program q.path) ref
     go : (o : Option NumberedPage) → page_in program q.path ≡ o → (on_page program q answers o).ending ≡ Wants op → (on_page program q (answers ++ d ∷ []) o).ending ≢ Undefined
     go None is h = absurd (ends_alone answers _ _ op h)
     go (Some page) is h = wanted_is_defined page.number _ _ d op h ((whole (record { program = program; request = q }) 100001 0 page.body [] (pages program 0 q.path page straight is)).1 d (start answers))
+
+-- Where the answers were given one by one to operations that were wanted, the conduct with them is defined.
+pub reached_defined : (program : List Declaration) (q : Request) (ds : List Datum) → IsStraightLine program → IsReached program q ds → (conduct program q ds).ending ≢ Undefined
+unfolding ending_of
+reached_defined program q ds s begun = defined_first program q s
+reached_defined program q ds s (answered_one before d op e) = defined_next program q before d op s e

@@ -25,7 +25,7 @@ use Rattle.replayer.specs.declared.difference.Reason.TheVariants.{UnknownRequest
 use Rattle.replayer.specs.declared.difference.Difference.{Difference}
 use Rattle.replayer.specs.declared.difference.Difference.TheVariants.{AtMoment}
 use Rattle.replayer.proofs.Places.{some_is, none_is_not, nth_take, take_nth}
-use Rattle.replayer.proofs.Tests.{arrived_more, departed_more, arrived_at, has_arrived-at, departed_at, has_departed-at, asked_at, departed_before, all_departed}
+use Rattle.replayer.proofs.DifferenceTests.{arrived_more, departed_more, arrived_at, has_arrived-at, departed_at, has_departed-at, asked_at, departed_before, all_departed}
 
 -- ---- a moment that doesn't fail
 

@@ -1,3 +1,7 @@
 pub mod Differences
 pub mod Laws
-pub mod Registers
+pub mod OnRegisters
+pub mod Places
+pub mod Runners
+pub mod Stages
+pub mod StandingWords

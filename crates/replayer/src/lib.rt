@@ -2,6 +2,16 @@
 #![tactic(auto)]
 
 pub mod difference;
+pub mod indexed_trace;
 pub mod law;
+pub mod plain_runner;
+pub mod registers;
+pub mod replay;
+pub mod runner;
+pub mod stage;
+pub mod standing;
+#[cfg(test)]
+mod tests;
 
 pub use difference::{Difference, Reason};
+pub use replay::replay_empty;

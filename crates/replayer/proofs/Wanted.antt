@@ -27,7 +27,7 @@ use Rattle.script_meaning.specs.Operators.{printed}
 use Rattle.script_meaning.specs.Replay.{Scene, ending_of, ending_with, next_of}
 use Rattle.script_meaning.specs.Run.{Progress, Stop, wants, fault, answer_fault, Outcome, goes, stops, Run, ◌>>=◌, give, fails, after, charge, answered, issue}
 use Rattle.script_meaning.specs.Variables.{Variables}
-use Rattle.replayer.specs.Registers.{IsOnRegister}
+use Rattle.replayer.specs.OnRegisters.{IsOnRegister}
 use Rattle.replayer.proofs.Places.{some_is, none_is_not}
 
 -- ---- parts of a run that want operations on registers alone
@@ -95,7 +95,7 @@ module _ (w : Setting) (later : Later) (depth : ℕ) (vs : Variables) where
       subst (λ g. Fitting (eval w later depth vs (call at g es))) (sym ((bytes_eq-Decides f (codes "read")).0 r)) (
       both (eval_all w later depth vs es) _
       (more (text here bytes) no_expression (texts here bytes) (λ p. tt))
-      (λ ds. both charge _ charges (λ _. on_names (first ds) _ (λ x. (tt, tt)))))
+      (λ ds. both charge _ charges (λ _. on_names (first ds) _ (λ x. record { object = refl; act = refl }))))
   reads at f es r h = absurd (true≢false (sym h))
 
   atoms : (e : Expression) → is_atom e ≡ true → Fitting (eval w later depth vs e)
@@ -110,7 +110,7 @@ module _ (w : Setting) (later : Later) (depth : ℕ) (vs : Variables) where
       subst (λ g. Fitting (eval w later depth vs (call at g es))) (sym ((bytes_eq-Decides f (codes "write")).0 r)) (
       both (eval_all w later depth vs es) _
       (more (text here bytes) (expression e no_expression) (texts here bytes) (more e no_expression (atoms e h) (λ p. tt)))
-      (λ ds. both charge _ charges (λ _. on_names (first ds) _ (λ x. (tt, tt)))))
+      (λ ds. both charge _ charges (λ _. on_names (first ds) _ (λ x. record { object = refl; act = refl }))))
   writes at f es r h = absurd (true≢false (sym h))
 
   items : (e : Expression) → is_item e ≡ true → Fitting (eval w later depth vs e)

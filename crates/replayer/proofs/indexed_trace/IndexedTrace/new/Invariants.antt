@@ -1,0 +1,10 @@
+use Rattle.std.proofs.Common.{drop}
+use Rattle.replayer.specs.Places.{TellsRequests, TellsResponses}
+use Rattle.replayer.proofs.indexed_trace.IndexedTrace.new.Given as goal
+
+-- the events from here on are told
+abbrev pub invariant-loop-place : goal.invariant-loop-place
+invariant-loop-place l = record {
+  requests : TellsRequests l.requests l.place (drop l.place l.events);
+  responses : TellsResponses l.responses l.place (drop l.place l.events);
+}

@@ -1,0 +1,45 @@
+-- Where the requests and the responses of a trace stand.
+use Rattle.std.specs.Prelude.{◌≡◌, ℕ, suc, Bool, false, List, [], ◌∷◌, Option, Some, None, nat_eq, if◌then◌else◌}
+use Rattle.std.specs.BTreeMap.{BTreeMap, get}
+use Rattle.std.specs.List.{slice_get}
+use Rattle.std.specs.Option.{option_and_then}
+use Rattle.std.specs.Ordering.{nat_cmp}
+use Rattle.script_tree.specs.Requests.{Request}
+use Rattle.script_tree.specs.declared.request.Response.{Response}
+use Rattle.script_tree.specs.declared.trace.TraceEvent.{TraceEvent}
+use Rattle.script_tree.specs.declared.trace.TraceEvent.TheVariants.{Asked, Answered}
+
+abbrev pub is_request : ℕ → TraceEvent → Bool
+is_request r (Asked id q) = nat_eq r id
+is_request r (Answered id x) = false
+
+abbrev pub is_response : ℕ → TraceEvent → Bool
+is_response r (Asked id q) = false
+is_response r (Answered id x) = nat_eq r id
+
+-- the place of the first event that passes a test, where the first of all has this place
+abbrev pub first_place : (TraceEvent → Bool) → ℕ → List TraceEvent → Option ℕ
+first_place test i [] = None
+first_place test i (e ∷ es) = if test e then Some i else first_place test (suc i) es
+
+-- The map has the place of each id's request, or response, among these events.
+abbrev pub TellsRequests : BTreeMap ℕ ℕ → ℕ → List TraceEvent → Type 0
+TellsRequests m i es = (r : ℕ) → get nat_cmp m r ≡ first_place (is_request r) i es
+
+abbrev pub TellsResponses : BTreeMap ℕ ℕ → ℕ → List TraceEvent → Type 0
+TellsResponses m i es = (r : ℕ) → get nat_cmp m r ≡ first_place (is_response r) i es
+
+abbrev pub the_request : TraceEvent → Option Request
+the_request (Asked id q) = Some q
+the_request (Answered id x) = None
+
+abbrev pub the_response : TraceEvent → Option Response
+the_response (Asked id q) = None
+the_response (Answered id x) = Some x
+
+-- the request, or response, at a place
+abbrev pub request_at : List TraceEvent → ℕ → Option Request
+request_at es i = option_and_then the_request (slice_get es i)
+
+abbrev pub response_at : List TraceEvent → ℕ → Option Response
+response_at es i = option_and_then the_response (slice_get es i)

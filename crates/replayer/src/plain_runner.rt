@@ -1,0 +1,25 @@
+use crate::runner::{Next, Runner};
+use script_meaning::walker::{Walker, WalkerStep};
+use script_tree::request::Request;
+use script_tree::syntax::program::Program;
+use script_tree::value::Value;
+use std::alloc::{AllocError, Global};
+
+/// Runs requests by the plain walker.
+pub struct PlainRunner;
+
+impl Runner for PlainRunner {
+    fn next(
+        &self,
+        alloc: Global,
+        program: &Program,
+        request: &Request,
+        answers: &[Value],
+    ) -> Result<Next, AllocError> {
+        let mut walker = Walker::new(program, request);
+        match walker.next(alloc, answers)? {
+            WalkerStep::Wants(op) => Ok(Next::Wants(op)),
+            WalkerStep::Ends(response, _) => Ok(Next::Ends(response)),
+        }
+    }
+}

@@ -1,0 +1,37 @@
+ghost use Rattle.std.specs.Prelude.{IfOk, ◌<◌, ◌^◌, length};
+ghost use Rattle.script_tree.specs.StraightLine.{IsStraightLine};
+ghost use Rattle.script_meaning.specs.Replay.{ending_of};
+ghost use Rattle.replayer.specs.Runners.{IsReached, IsNext};
+
+use script_tree::operation::Op;
+use script_tree::request::{Request, Response};
+use script_tree::syntax::program::Program;
+use script_tree::value::Value;
+use std::alloc::{AllocError, Global};
+
+/// What a request does next.
+#[derive(Drop)]
+pub enum Next {
+    /// It wants this operation.
+    Wants(Op),
+    /// Its run is over, with this response.
+    Ends(Response),
+    /// It has more answers than operations.
+    Undefined,
+}
+
+/// What runs requests.
+pub trait Runner {
+    /// What the request does next, after these answers to its operations.
+    fn next(
+        &self,
+        alloc: Global,
+        program: &Program,
+        request: &Request,
+        answers: &[Value],
+    ) -> Result<Next, AllocError>
+        requires straight { IsStraightLine program.now }
+        requires few { length program.now < 2 ^ 32 }
+        requires reached { IsReached program.now request.now answers.now }
+        ensures { IfOk result (λ next. IsNext next (ending_of program.now request.now answers.now)) };
+}

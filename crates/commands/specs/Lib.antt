@@ -1,0 +1,6 @@
+pub mod Explained
+pub mod Inputs
+pub mod Lines
+pub mod NamesView
+pub mod Outcome
+pub mod Words

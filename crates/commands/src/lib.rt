@@ -1,0 +1,11 @@
+//! The top call: from words and files to a status and a line.
+#![tactic(auto)]
+
+pub mod answer;
+pub mod files;
+pub mod line;
+pub mod replay;
+pub mod run;
+#[cfg(test)]
+mod tests;
+pub mod words;

@@ -1,0 +1,50 @@
+//! The program: does what its words ask, and ends with the status.
+#![tactic(auto)]
+
+use commands::run::run;
+use commands::words::Words;
+use outside::{FixedClock, MemHouse, OpenGate};
+use outside_os::{FileShelf, StdSink};
+use std::io::ErrorKind;
+use std::process::ExitCode;
+use std::{env, io};
+
+/// The status where memory is lacking.
+const OUT_OF_MEMORY: u8 = 5;
+
+fn main(rt: HostRuntime) -> ExitCode {
+    ExitCode::from(status_of(rt).unwrap_or(OUT_OF_MEMORY))
+}
+
+/// The words after the program's name. There are none where one isn't UTF-8, which asks for the usage.
+fn words_of(rt: &HostRuntime) -> io::Result<Words> {
+    let mut words = Words::new(rt.alloc());
+    match env::args(rt) {
+        Ok(args) => {
+            for word in args.skip(1) {
+                words.push(word.as_str())?;
+            }
+            Ok(words)
+        }
+        Err(error) if error.kind() == ErrorKind::InvalidData => Ok(words),
+        Err(error) => Err(error),
+    }
+}
+
+/// The status of what the words ask, with the system's files and standard output.
+fn status_of(rt: HostRuntime) -> io::Result<u8> {
+    let alloc = rt.alloc();
+    let words = words_of(&rt)?;
+    let mut shelf = FileShelf::new(rt.clone()?);
+    let mut out = StdSink::new(rt);
+    let mut house = MemHouse::new(alloc, Vec::new(alloc), Vec::new(alloc));
+    Ok(run(
+        alloc,
+        &words,
+        &mut shelf,
+        &mut out,
+        &mut house,
+        &FixedClock(0),
+        &OpenGate,
+    ))
+}

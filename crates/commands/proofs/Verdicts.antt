@@ -7,7 +7,6 @@ use Rattle.script_tree.specs.Traces.{IsBalanced}
 use Rattle.script_tree.specs.declared.schedule.Moment.{Moment}
 use Rattle.script_tree.specs.declared.syntax.declaration.Declaration.{Declaration}
 use Rattle.script_tree.specs.declared.trace.TraceEvent.{TraceEvent}
-use Rattle.script_meaning.specs.Explains.{Explains}
 use Rattle.replayer.specs.declared.difference.Difference.{Difference}
 use Rattle.replayer.specs.declared.difference.Difference.TheVariants.{AtMoment, NotDeparted}
 use Rattle.replayer.specs.Differences.{difference_of}

@@ -1,4 +1,5 @@
 pub mod Explained
+pub mod Halts
 pub mod Inputs
 pub mod Lines
 pub mod NamesView

@@ -1,7 +1,8 @@
 ghost use Rattle.std.specs.Prelude.{◌≡◌, ◌≤◌, ◌<◌, ◌^◌, Ok, Err, IfOk, length, vec_len};
 ghost use Rattle.std.specs.Option.{ForSome};
 ghost use Rattle.outside.specs.Counts.{HasRisen};
-ghost use Rattle.commands.specs.Inputs.{IsInput, halt_status};
+ghost use Rattle.commands.specs.Halts.{halt_status, StaysSure};
+ghost use Rattle.commands.specs.Inputs.{IsInput};
 ghost use Rattle.commands.specs.declared.files.Halt.TheVariants.{Failed as HaltFailed};
 ghost use Rattle.commands.specs.declared.files.Input.TheVariants.{Absent as InputAbsent};
 
@@ -70,6 +71,7 @@ pub fn read_whole<F: Shelf>(
     ensures files { F.files shelf.new ≡ F.files shelf.old }
     ensures no_fall { F.faults shelf.old ≤ F.faults shelf.new }
     ensures failed { result ≡ Err HaltFailed → HasRisen (F.faults shelf.old) (F.faults shelf.new) }
+    ensures sure { StaysSure (F.never_fails shelf.old) (F.never_fails shelf.new) (result ≡ Err HaltFailed) }
     ensures absences { F.absences shelf.old ≤ F.absences shelf.new }
     ensures absent { result ≡ Ok InputAbsent → HasRisen (F.absences shelf.old) (F.absences shelf.new) }
 {
@@ -91,6 +93,7 @@ fn read_by<F: Shelf>(
     ensures files { F.files shelf.new ≡ F.files shelf.old }
     ensures no_fall { F.faults shelf.old ≤ F.faults shelf.new }
     ensures failed { result ≡ Err HaltFailed → HasRisen (F.faults shelf.old) (F.faults shelf.new) }
+    ensures sure { StaysSure (F.never_fails shelf.old) (F.never_fails shelf.new) (result ≡ Err HaltFailed) }
     ensures absences { F.absences shelf.old ≤ F.absences shelf.new }
     ensures absent { result ≡ Ok InputAbsent → HasRisen (F.absences shelf.old) (F.absences shelf.new) }
 {

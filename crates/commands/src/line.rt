@@ -1,5 +1,6 @@
 ghost use Rattle.std.specs.Prelude.{◌≡◌, ◌≤◌, Err, OnOk, OnErr};
 ghost use Rattle.outside.specs.Counts.{HasRisen};
+ghost use Rattle.commands.specs.Halts.{StaysSure};
 ghost use Rattle.commands.specs.Lines.{and_then, HasFront};
 ghost use Rattle.commands.specs.declared.files.Halt.TheVariants.{Failed as HaltFailed};
 
@@ -12,6 +13,7 @@ pub fn print<O: Sink>(out: &mut O, line: &[u8]) -> Result<(), Halt>
     ensures front { OnErr result (HasFront (O.written out.old) (O.written out.new) line.now) }
     ensures no_fall { O.faults out.old ≤ O.faults out.new }
     ensures failed { result ≡ Err HaltFailed → HasRisen (O.faults out.old) (O.faults out.new) }
+    ensures sure { StaysSure (O.never_fails out.old) (O.never_fails out.new) (result ≡ Err HaltFailed) }
 {
     let mut done = 0;
     while done < line.len() {

@@ -1,6 +1,7 @@
 ghost use Rattle.std.specs.Prelude.{◌≡◌, ◌≢◌, ◌<◌, ◌≤◌, ◌^◌, Some, Err, List, length, IfOk, IfSome, IfNone};
 ghost use Rattle.std.specs.Option.{ForSome};
 ghost use Rattle.outside.specs.Counts.{HasRisen};
+ghost use Rattle.commands.specs.Halts.{StaysSure};
 ghost use Rattle.script_tree.specs.StraightLine.{IsStraightLine};
 ghost use Rattle.script_tree.specs.Traces.{IsBalanced};
 ghost use Rattle.script_tree.specs.declared.syntax.declaration.Declaration.{Declaration};
@@ -40,6 +41,7 @@ pub fn replay_files<F: Shelf>(
     ensures files { F.files shelf.new ≡ F.files shelf.old }
     ensures no_fall { F.faults shelf.old ≤ F.faults shelf.new }
     ensures failed { result ≡ Err HaltFailed → HasRisen (F.faults shelf.old) (F.faults shelf.new) }
+    ensures sure { StaysSure (F.never_fails shelf.old) (F.never_fails shelf.new) (result ≡ Err HaltFailed) }
     ensures cause { IfOk result (λ a. HasCause (F.absences shelf.old) (F.absences shelf.new) a.status a.line.items) }
     ensures absences { F.absences shelf.old ≤ F.absences shelf.new }
 {
@@ -84,6 +86,7 @@ fn with_program<F: Shelf>(
     ensures files { F.files shelf.new ≡ F.files shelf.old }
     ensures no_fall { F.faults shelf.old ≤ F.faults shelf.new }
     ensures failed { result ≡ Err HaltFailed → HasRisen (F.faults shelf.old) (F.faults shelf.new) }
+    ensures sure { StaysSure (F.never_fails shelf.old) (F.never_fails shelf.new) (result ≡ Err HaltFailed) }
     ensures cause { IfOk result (λ a. HasCause (F.absences shelf.old) (F.absences shelf.new) a.status a.line.items) }
     ensures absences { F.absences shelf.old ≤ F.absences shelf.new }
 {
@@ -110,6 +113,7 @@ fn with_state<F: Shelf>(
     ensures files { F.files shelf.new ≡ F.files shelf.old }
     ensures no_fall { F.faults shelf.old ≤ F.faults shelf.new }
     ensures failed { result ≡ Err HaltFailed → HasRisen (F.faults shelf.old) (F.faults shelf.new) }
+    ensures sure { StaysSure (F.never_fails shelf.old) (F.never_fails shelf.new) (result ≡ Err HaltFailed) }
     ensures cause { IfOk result (λ a. HasCause (F.absences shelf.old) (F.absences shelf.new) a.status a.line.items) }
     ensures absences { F.absences shelf.old ≤ F.absences shelf.new }
 {
@@ -155,6 +159,7 @@ fn with_trace<F: Shelf>(
     ensures files { F.files shelf.new ≡ F.files shelf.old }
     ensures no_fall { F.faults shelf.old ≤ F.faults shelf.new }
     ensures failed { result ≡ Err HaltFailed → HasRisen (F.faults shelf.old) (F.faults shelf.new) }
+    ensures sure { StaysSure (F.never_fails shelf.old) (F.never_fails shelf.new) (result ≡ Err HaltFailed) }
     ensures cause { IfOk result (λ a. HasCause (F.absences shelf.old) (F.absences shelf.new) a.status a.line.items) }
     ensures absences { F.absences shelf.old ≤ F.absences shelf.new }
 {

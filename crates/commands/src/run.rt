@@ -1,9 +1,10 @@
-ghost use Rattle.std.specs.Prelude.{◌≡◌, ◌≢◌, ◌≤◌, ◌⊎◌, ◌++◌, ℕ, Err, List, IfOk, codes};
+ghost use Rattle.std.specs.Prelude.{◌≡◌, ◌≢◌, ◌≤◌, ◌⊎◌, ◌++◌, ℕ, Err, List, IfOk, codes, true};
 ghost use Rattle.std.specs.Option.{ForSome};
 ghost use Rattle.outside.specs.Counts.{HasRisen};
 ghost use Rattle.commands.specs.Explained.{IsExplained, IsUnexplained};
 ghost use Rattle.commands.specs.Lines.{and_then, HasFront};
 ghost use Rattle.commands.specs.Outcome.{IsOutcome, HasCause};
+ghost use Rattle.commands.specs.Halts.{StaysSure};
 ghost use Rattle.commands.specs.declared.files.Halt.TheVariants.{Failed as HaltFailed};
 
 use crate::answer::Answer;
@@ -36,6 +37,7 @@ pub fn run<F: Shelf, O: Sink, H: House, C: Clock + Sync, G: Gate + Sync>(
     // With status 4 or 5: nothing is printed, or a front part of the outcome's line.
     ensures stopped { (result ≡ 4) ⊎ (result ≡ 5) → ForSome (F.files shelf.old) (λ files. (O.written out.new ≡ O.written out.old) ⊎ ((status : ℕ) × (line : List ℕ) × IsOutcome words.now files status line × HasFront (O.written out.old) (O.written out.new) line)) }
     ensures failed { result ≡ 4 → HasRisen (F.faults shelf.old) (F.faults shelf.new) ⊎ HasRisen (O.faults out.old) (O.faults out.new) }
+    ensures never_failed { F.never_fails shelf.old ≡ true → O.never_fails out.old ≡ true → result ≢ 4 }
 
     // Also where the shelf tells nothing: an absence was counted, or the line says that an input isn't built.
     ensures cause { result ≡ 3 → HasRisen (F.absences shelf.old) (F.absences shelf.new) ⊎ ((role : List ℕ) × (O.written out.new ≡ and_then (O.written out.old) (role ++ codes ": not built\n"))) }
@@ -64,6 +66,7 @@ fn answer_of<F: Shelf>(alloc: Global, words: &Words, shelf: &mut F) -> Result<An
     ensures files { F.files shelf.new ≡ F.files shelf.old }
     ensures no_fall { F.faults shelf.old ≤ F.faults shelf.new }
     ensures failed { result ≡ Err HaltFailed → HasRisen (F.faults shelf.old) (F.faults shelf.new) }
+    ensures sure { StaysSure (F.never_fails shelf.old) (F.never_fails shelf.new) (result ≡ Err HaltFailed) }
     ensures cause { IfOk result (λ a. HasCause (F.absences shelf.old) (F.absences shelf.new) a.status a.line.items) }
     ensures absences { F.absences shelf.old ≤ F.absences shelf.new }
 {

@@ -12,7 +12,7 @@ use Rattle.script_tree.specs.declared.schedule.Moment.{Moment}
 use Rattle.script_tree.specs.declared.schedule.Moment.TheVariants.{Arrive, Depart}
 use Rattle.script_tree.specs.declared.trace.TraceEvent.{TraceEvent}
 use Rattle.script_tree.specs.declared.trace.TraceEvent.TheVariants.{Asked, Answered}
-use Rattle.replayer.specs.Differences.{is_arrival, is_departure, has_arrived, has_departed, is_too_early, not_departed}
+use Rattle.replayer.specs.Differences.{is_arrival, is_departure, has_arrived, has_departed, is_too_early, first_not_departed}
 use Rattle.replayer.specs.declared.difference.Difference.{Difference}
 use Rattle.replayer.specs.declared.difference.Difference.TheVariants.{NotDeparted}
 use Rattle.replayer.proofs.Places.{some_is, none_is_not, In, any_true, true_any, false_any, first_some, some_first}
@@ -133,17 +133,15 @@ departed_first : (b : Bool) (id : ℕ) (rest : Option Difference) → cond b res
 departed_first true id rest e = (refl, e)
 departed_first false id rest e = absurd (none_is_not (sym e))
 
-pub all_departed : (trace : List TraceEvent) (past : List Moment) (r i : ℕ) (q : Request) → not_departed trace past ≡ None → nth trace i ≡ Some (Asked r q) → has_departed past r ≡ true
-unfolding not_departed
+pub all_departed : (trace : List TraceEvent) (past : List Moment) (r i : ℕ) (q : Request) → first_not_departed (has_departed past) trace ≡ None → nth trace i ≡ Some (Asked r q) → has_departed past r ≡ true
 all_departed [] past r i q e h = absurd (none_is_not h)
-all_departed (Asked id p ∷ events) past r zero q e h = subst (λ n. has_departed past n ≡ true) (same_asked id r p q h) (departed_first (has_departed past id) id (not_departed events past) e).0
-all_departed (Asked id p ∷ events) past r (suc i) q e h = all_departed events past r i q (departed_first (has_departed past id) id (not_departed events past) e).1 h
+all_departed (Asked id p ∷ events) past r zero q e h = subst (λ n. has_departed past n ≡ true) (same_asked id r p q h) (departed_first (has_departed past id) id (first_not_departed (has_departed past) events) e).0
+all_departed (Asked id p ∷ events) past r (suc i) q e h = all_departed events past r i q (departed_first (has_departed past id) id (first_not_departed (has_departed past) events) e).1 h
 all_departed (Answered id y ∷ events) past r zero q e h = absurd (asked_is_not id r y q h)
 all_departed (Answered id y ∷ events) past r (suc i) q e h = all_departed events past r i q e h
 
-pub none_left : (trace : List TraceEvent) (past : List Moment) → ((r i : ℕ) (q : Request) → nth trace i ≡ Some (Asked r q) → has_departed past r ≡ true) → not_departed trace past ≡ None
-unfolding not_departed
+pub none_left : (trace : List TraceEvent) (past : List Moment) → ((r i : ℕ) (q : Request) → nth trace i ≡ Some (Asked r q) → has_departed past r ≡ true) → first_not_departed (has_departed past) trace ≡ None
 none_left [] past h = refl
 none_left (Asked id p ∷ events) past h =
-    ap (λ b. cond b (not_departed events past) (Some (NotDeparted id))) (h id 0 p refl) ∙ none_left events past (λ r i q e. h r (suc i) q e)
+    ap (λ b. cond b (first_not_departed (has_departed past) events) (Some (NotDeparted id))) (h id 0 p refl) ∙ none_left events past (λ r i q e. h r (suc i) q e)
 none_left (Answered id y ∷ events) past h = none_left events past (λ r i q e. h r (suc i) q e)

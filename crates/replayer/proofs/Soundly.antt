@@ -19,7 +19,7 @@ use Rattle.script_tree.specs.declared.trace.TraceEvent.{TraceEvent}
 use Rattle.script_meaning.specs.Conduct.{Ending, Wants, Ends, Undefined}
 use Rattle.script_meaning.specs.Explains.{rid_of, IsWhole, Explains}
 use Rattle.script_meaning.specs.Replay.{Scene, opening, ending_with, next_of, IsAllowed, IsAsTraced, after_act, after, Plays}
-use Rattle.replayer.specs.Differences.{is_arrival, is_departure, has_arrived, has_departed, is_too_early, is_same_response, arrival_fault, act_fault, departure_fault, fault_of, not_departed, difference_from, difference_of}
+use Rattle.replayer.specs.Differences.{is_arrival, is_departure, has_arrived, has_departed, is_too_early, is_same_response, arrival_fault, act_fault, departure_fault, fault_of, first_not_departed, difference_from, difference_of}
 use Rattle.replayer.specs.declared.difference.Reason.{Reason}
 use Rattle.replayer.specs.declared.difference.Reason.TheVariants.{UnknownRequest, SecondArrival, TooEarly, BadChoice, OtherResponse}
 use Rattle.replayer.specs.declared.difference.Difference.{Difference}
@@ -166,7 +166,7 @@ module _ (program : List Declaration) (trace : List TraceEvent) where
     pub asked : (k : ℕ) (m : Moment) → nth ms k ≡ Some m → (q : Request) × (request_of trace (rid_of m) ≡ Some q)
     pub fits : (k : ℕ) (m : Moment) → nth ms k ≡ Some m → Fits trace (past ++ take k ms) m
     pub plays : Plays program trace scene ms
-    pub all_gone : not_departed trace (past ++ ms) ≡ None
+    pub all_gone : first_not_departed (has_departed (past ++ ms)) trace ≡ None
 
   first_step : (past : List Moment) (scene : Scene) (m : Moment) (ms : List Moment) → difference_from program trace past scene (m ∷ ms) ≡ None
       → (fault_of program trace past scene m ≡ None) × (difference_from program trace (past ++ m ∷ []) (after program trace scene m) ms ≡ None)
@@ -187,7 +187,7 @@ module _ (program : List Declaration) (trace : List TraceEvent) where
     asked = λ k m h. absurd (none_is_not h);
     fits = λ k m h. absurd (none_is_not h);
     plays = tt;
-    all_gone = subst (λ l. not_departed trace l ≡ None) (sym (append-nil past)) e;
+    all_gone = subst (λ l. first_not_departed (has_departed l) trace ≡ None) (sym (append-nil past)) e;
   }
   sound_from past scene (m ∷ ms) known e =
       let first = first_step past scene m ms e in
@@ -197,7 +197,7 @@ module _ (program : List Declaration) (trace : List TraceEvent) where
         asked = asked_of passes rest;
         fits = fits_of passes rest;
         plays = (passes.is_allowed, passes.is_as_traced, rest.plays);
-        all_gone = subst (λ l. not_departed trace l ≡ None) (append_assoc past (m ∷ []) ms) rest.all_gone;
+        all_gone = subst (λ l. first_not_departed (has_departed l) trace ≡ None) (append_assoc past (m ∷ []) ms) rest.all_gone;
       }
     where
       asked_of : Passes program trace past scene m → Sound (past ++ m ∷ []) (after program trace scene m) ms → (k : ℕ) (n : Moment) → nth (m ∷ ms) k ≡ Some n → (q : Request) × (request_of trace (rid_of n) ≡ Some q)
@@ -213,7 +213,7 @@ module _ (program : List Declaration) (trace : List TraceEvent) where
   module _ (balanced : IsBalanced trace) (schedule : List Moment)
       (asked : (k : ℕ) (m : Moment) → nth schedule k ≡ Some m → (q : Request) × (request_of trace (rid_of m) ≡ Some q))
       (fits : (k : ℕ) (m : Moment) → nth schedule k ≡ Some m → Fits trace (take k schedule) m)
-      (all_gone : not_departed trace schedule ≡ None) where
+      (all_gone : first_not_departed (has_departed schedule) trace ≡ None) where
     one_arrival : (r i j : ℕ) → nth schedule i ≡ Some (Arrive r) → nth schedule j ≡ Some (Arrive r) → i < j → ⊥
     one_arrival r i j at_i at_j l = true≢false (sym (has_arrived-at (take j schedule) r i (nth_take schedule j i (Arrive r) l at_i)) ∙ (fits j (Arrive r) at_j).0)
 

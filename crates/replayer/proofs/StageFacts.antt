@@ -22,13 +22,13 @@ use Rattle.script_tree.specs.declared.trace.TraceEvent.{TraceEvent}
 use Rattle.script_tree.specs.declared.trace.TraceEvent.TheVariants.{Asked, Answered}
 use Rattle.script_meaning.specs.Conduct.{Ending, Wants, Ends}
 use Rattle.script_meaning.specs.Replay.{Scene, opening, with_request, after, after_act, and_answer, ending_of, ending_with, next_of}
-use Rattle.replayer.specs.Differences.{has_arrived, has_departed, is_arrival, is_departure, is_too_early, not_departed, act_fault, departure_fault, is_same_response, moment_fault, fault_of, difference_from}
+use Rattle.replayer.specs.Differences.{has_arrived, has_departed, is_arrival, is_departure, is_too_early, first_not_departed, act_fault, departure_fault, is_same_response, moment_fault, fault_of, difference_from}
 use Rattle.replayer.specs.declared.difference.Difference.TheVariants.{AtMoment, NotDeparted}
 use Rattle.replayer.specs.declared.difference.Reason.TheVariants.{BadChoice, OtherResponse, UnknownRequest}
 use Rattle.replayer.specs.OnRegisters.{objects_of}
 use Rattle.replayer.specs.Places.{first_place, is_request}
 use Rattle.replayer.specs.Runners.{IsReached}
-use Rattle.replayer.specs.StandingWords.{Standings, standing_in, answers_in, departed_in, is_departed, Puts, waits, first_waiting, first_not_departed, AreReached}
+use Rattle.replayer.specs.StandingWords.{Standings, standing_in, answers_in, departed_in, is_departed, Puts, waits, first_waiting, AreReached}
 use Rattle.replayer.specs.Stages.{Shows, IsStep}
 use Rattle.replayer.specs.declared.difference.Reason.{Reason}
 use Rattle.script_meaning.specs.Explains.{rid_of}
@@ -296,10 +296,9 @@ pub stops_here : (program : List Declaration) (trace : List TraceEvent) (past : 
 unfolding difference_from
 stops_here program trace past scene m ms reason e = rw (e, difference_from) refl
 
-left_over : (past : List Moment) (d : ℕ → Bool) → ((x : ℕ) → has_departed past x ≡ d x) → (es : List TraceEvent) → not_departed es past ≡ first_not_departed d es
-unfolding not_departed
+left_over : (past : List Moment) (d : ℕ → Bool) → ((x : ℕ) → has_departed past x ≡ d x) → (es : List TraceEvent) → first_not_departed (has_departed past) es ≡ first_not_departed d es
 left_over past d h [] = refl
-left_over past d h (Asked id q ∷ es) = ap (λ b. cond b (not_departed es past) (Some (NotDeparted id))) (h id) ∙ ap (λ o. cond (d id) o (Some (NotDeparted id))) (left_over past d h es)
+left_over past d h (Asked id q ∷ es) = ap (λ b. cond b (first_not_departed (has_departed past) es) (Some (NotDeparted id))) (h id) ∙ ap (λ o. cond (d id) o (Some (NotDeparted id))) (left_over past d h es)
 left_over past d h (Answered id x ∷ es) = left_over past d h es
 
 pub ends_here : (program : List Declaration) (trace : List TraceEvent) (past : List Moment) (scene : Scene) (d : ℕ → Bool) → ((x : ℕ) → has_departed past x ≡ d x) → difference_from program trace past scene [] ≡ first_not_departed d trace

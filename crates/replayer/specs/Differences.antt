@@ -85,14 +85,14 @@ fault_of program trace past scene m =
 -- ---- the first that fails
 
 -- the first request of the trace that hasn't departed
-unfoldable pub not_departed : List TraceEvent → List Moment → Option Difference
-not_departed [] past = None
-not_departed (Asked id q ∷ events) past = if has_departed past id then not_departed events past else Some (NotDeparted id)
-not_departed (Answered id x ∷ events) past = not_departed events past
+abbrev pub first_not_departed : (ℕ → Bool) → List TraceEvent → Option Difference
+first_not_departed departed [] = None
+first_not_departed departed (Asked id q ∷ events) = if departed id then first_not_departed departed events else Some (NotDeparted id)
+first_not_departed departed (Answered id x ∷ events) = first_not_departed departed events
 
 -- the first of these moments that fails, where those so far led to this scene; after the last, a request that hasn't departed
 unfoldable pub difference_from : List Declaration → List TraceEvent → List Moment → Scene → List Moment → Option Difference
-difference_from program trace past scene [] = not_departed trace past
+difference_from program trace past scene [] = first_not_departed (has_departed past) trace
 difference_from program trace past scene (m ∷ ms) = elim (fault_of program trace past scene m) [
   | Some reason ↦ Some (AtMoment reason (length past) (rid_of m))
   | None ↦ difference_from program trace (past ++ m ∷ []) (after program trace scene m) ms

@@ -5,7 +5,7 @@ use Rattle.script_tree.specs.Requests.{Request}
 use Rattle.script_tree.specs.declared.operation.Op.{Op}
 use Rattle.script_tree.specs.declared.path.Path.{Path}
 use Rattle.script_tree.specs.declared.syntax.declaration.Declaration.{Declaration}
-use Rattle.script_meaning.specs.Conduct.{Ending, Wants, Ends, Undefined}
+use Rattle.script_meaning.specs.Conduct.{Ending, Wants, Ends}
 use Rattle.script_meaning.specs.Replay.{ending_of}
 use Rattle.replayer.specs.OnRegisters.{IsOnRegister}
 use Rattle.replayer.specs.declared.runner.Next.{Next}
@@ -20,7 +20,6 @@ pub data IsReached (program : List Declaration) (request : Request) : List Datum
 abbrev pub IsNext : Next → Ending → Type 0
 IsNext (told.Wants op) ending = (ending ≡ Wants op) × IsOnRegister op
 IsNext (told.Ends response) ending = (path : Path) × (ending ≡ Ends response path)
-IsNext told.Undefined ending = ending ≡ Undefined
 
 -- the same, of a request that may not be open
 abbrev pub IsNextIfOpen : Option Next → Option Ending → Type 0

@@ -9,8 +9,6 @@ use Rattle.script_tree.specs.declared.syntax.declaration.Declaration.{Declaratio
 use Rattle.script_tree.specs.declared.trace.TraceEvent.{TraceEvent}
 use Rattle.script_tree.specs.declared.trace.TraceEvent.TheVariants.{Asked, Answered}
 use Rattle.replayer.specs.Runners.{IsReached}
-use Rattle.replayer.specs.declared.difference.Difference.{Difference}
-use Rattle.replayer.specs.declared.difference.Difference.TheVariants.{NotDeparted}
 use Rattle.replayer.specs.declared.standing.Standing.{Standing}
 use Rattle.replayer.specs.declared.standing.Standing.TheVariants.{Open, Departed}
 
@@ -48,12 +46,6 @@ waits departed (Answered id x) = not (departed id)
 abbrev pub first_waiting : (ℕ → Bool) → List TraceEvent → ℕ
 first_waiting departed [] = 0
 first_waiting departed (e ∷ es) = if waits departed e then 0 else suc (first_waiting departed es)
-
--- the first request that hasn't departed
-abbrev pub first_not_departed : (ℕ → Bool) → List TraceEvent → Option Difference
-first_not_departed departed [] = None
-first_not_departed departed (Asked id q ∷ es) = if departed id then first_not_departed departed es else Some (NotDeparted id)
-first_not_departed departed (Answered id x ∷ es) = first_not_departed departed es
 
 -- each open request of the trace has only answers to operations that it wanted
 abbrev pub AreReached : List Declaration → List TraceEvent → Standings → Type 0

@@ -16,8 +16,6 @@ pub enum Next {
     Wants(Op),
     /// Its run is over, with this response.
     Ends(Response),
-    /// It has more answers than operations.
-    Undefined,
 }
 
 /// What runs requests.

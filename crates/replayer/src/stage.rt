@@ -6,10 +6,10 @@ ghost use Rattle.script_tree.specs.declared.schedule.Moment.{Moment as AnyMoment
 ghost use Rattle.script_tree.specs.declared.syntax.declaration.Declaration.{Declaration};
 ghost use Rattle.script_meaning.specs.Explains.{rid_of};
 ghost use Rattle.script_meaning.specs.Replay.{Scene, opening, ending_with};
-ghost use Rattle.replayer.specs.Differences.{is_too_early, is_same_response, moment_fault, fault_of};
+ghost use Rattle.replayer.specs.Differences.{is_too_early, is_same_response, moment_fault, fault_of, first_not_departed};
 ghost use Rattle.replayer.specs.Runners.{IsNextIfOpen};
 ghost use Rattle.replayer.specs.Stages.{Shows, IsStep};
-ghost use Rattle.replayer.specs.StandingWords.{standing_in, answers_in, first_not_departed, departed_in, AreReached};
+ghost use Rattle.replayer.specs.StandingWords.{standing_in, answers_in, departed_in, AreReached};
 
 use crate::difference::{Difference, Reason};
 use crate::indexed_trace::IndexedTrace;
@@ -116,7 +116,7 @@ impl Stage {
     {
         let op = match self.next_of(alloc, runner, program, trace, r)? {
             Some(Next::Wants(op)) => op,
-            Some(Next::Ends(_)) | Some(Next::Undefined) => return Ok(Some(Reason::RunEnds)),
+            Some(Next::Ends(_)) => return Ok(Some(Reason::RunEnds)),
             None => return Ok(Some(Reason::NotOpen)),
         };
         if !Registers::take(choice) {
@@ -143,7 +143,7 @@ impl Stage {
     {
         let response = match self.next_of(alloc, runner, program, trace, r)? {
             Some(Next::Ends(response)) => response,
-            Some(Next::Wants(_)) | Some(Next::Undefined) => return Ok(Some(Reason::WantsOperation)),
+            Some(Next::Wants(_)) => return Ok(Some(Reason::WantsOperation)),
             None => return Ok(Some(Reason::NotOpen)),
         };
         if !is_same_response(&response, trace.response(r)) {

@@ -1,7 +1,8 @@
 ghost use Rattle.std.specs.Prelude.{◌≡◌, ◌+◌, drop, ℕ, OnOk, IfOk, option_copied, is_some, Some, ◌++◌, ◌∷◌, [], List};
 ghost use Rattle.std.specs.BTreeMap.{IsEmpty};
 ghost use Rattle.script_tree.specs.Datum.{Datum};
-ghost use Rattle.replayer.specs.StandingWords.{standing_in, departed_in, answers_in, Puts, waits, first_waiting, first_not_departed};
+ghost use Rattle.replayer.specs.Differences.{first_not_departed};
+ghost use Rattle.replayer.specs.StandingWords.{standing_in, departed_in, answers_in, Puts, waits, first_waiting};
 
 use crate::difference::Difference;
 use script_tree::trace::TraceEvent;

@@ -1,5 +1,5 @@
 -- What is known of the ids up to a place, and one event more.
-use Rattle.std.proofs.Common.{◌≡◌, ◌≢◌, ℕ, ◌+◌, ◌<◌, ◌≤◌, List, Option, Some, None, Bool, true, false, ◌⊎◌, inl, inr, ap, sym, ◌∙◌, refl, subst, arith}
+use Rattle.std.proofs.Common.{◌≡◌, ◌≢◌, ℕ, ◌+◌, ◌<◌, ◌≤◌, List, Option, Some, None, true, false, ◌⊎◌, inl, inr, ap, sym, ◌∙◌, refl, subst, arith}
 use Rattle.std.proofs.lemmas.Bool.{cases_eq}
 use Rattle.script_tree.specs.Lists.{nth}
 use Rattle.script_tree.specs.Requests.{Request}
@@ -7,24 +7,25 @@ use Rattle.script_tree.specs.declared.request.Response.{Response}
 use Rattle.script_tree.specs.declared.trace.TraceEvent.{TraceEvent}
 use Rattle.script_tree.specs.declared.trace.TraceEvent.TheVariants.{Asked, Answered}
 use Rattle.trace_format.specs.Balance.{IsAskedBefore, IsAnsweredBefore, IsFitting, IsAskedAgain, IsAnsweredInVain}
-use Rattle.trace_format.specs.Events.{is_request}
-use Rattle.trace_format.specs.Stages.{id_of, fits}
+use Rattle.trace_format.specs.Stages.{id_of, fits, stage_after}
+use Rattle.trace_format.specs.declared.balance.Stage.{Stage}
+use Rattle.trace_format.specs.declared.balance.Stage.TheVariants.{Open, Closed}
 
 -- what is known of an id tells what stands before the place
-abbrev pub StageIs : List TraceEvent → ℕ → ℕ → Option Bool → Type 0
+abbrev pub StageIs : List TraceEvent → ℕ → ℕ → Option Stage → Type 0
 StageIs trace n r None = ¬ IsAskedBefore trace n r
-StageIs trace n r (Some true) = IsAskedBefore trace n r × ¬ IsAnsweredBefore trace n r
-StageIs trace n r (Some false) = IsAskedBefore trace n r × IsAnsweredBefore trace n r
+StageIs trace n r (Some Open) = IsAskedBefore trace n r × ¬ IsAnsweredBefore trace n r
+StageIs trace n r (Some Closed) = IsAskedBefore trace n r × IsAnsweredBefore trace n r
 
-pub record Known (stage : ℕ → Option Bool) (trace : List TraceEvent) (n : ℕ) : Type 0 where
+pub record Known (stage : ℕ → Option Stage) (trace : List TraceEvent) (n : ℕ) : Type 0 where
   pub stages : (r : ℕ) → StageIs trace n r (stage r)
   pub fitting : (k : ℕ) → k < n → IsFitting trace k
 
-none_before : (trace : List TraceEvent) (r : ℕ) (o : Option Bool) → o ≡ None → StageIs trace 0 r o
+none_before : (trace : List TraceEvent) (r : ℕ) (o : Option Stage) → o ≡ None → StageIs trace 0 r o
 none_before trace r None e = λ h. absurd (let p : h.0 < 0 = h.2 in omega arith)
-none_before trace r (Some b) e = absurd (cc)
+none_before trace r (Some stage) e = absurd (cc)
 
-pub known-start : (stage : ℕ → Option Bool) (trace : List TraceEvent) → ((r : ℕ) → stage r ≡ None) → Known stage trace 0
+pub known-start : (stage : ℕ → Option Stage) (trace : List TraceEvent) → ((r : ℕ) → stage r ≡ None) → Known stage trace 0
 known-start stage trace e = record {
   stages = λ r. none_before trace r (stage r) (e r);
   fitting = λ k h. absurd (omega arith);
@@ -56,10 +57,10 @@ same_answered (Asked id p) r x h = absurd (cc)
 same_answered (Answered id y) r x h = cc
 
 -- an event of another id changes nothing
-kept : (trace : List TraceEvent) (n r : ℕ) (o : Option Bool) (e : TraceEvent) → nth trace n ≡ Some e → r ≢ id_of e → StageIs trace n r o → StageIs trace (n + 1) r o
+kept : (trace : List TraceEvent) (n r : ℕ) (o : Option Stage) (e : TraceEvent) → nth trace n ≡ Some e → r ≢ id_of e → StageIs trace n r o → StageIs trace (n + 1) r o
 kept trace n r None e is apart h = λ more. elim (asked_before-last trace n r more) [ inl before ↦ h before | inr here ↦ apart (same_asked e r here.0 (sym is ∙ here.1)) ]
-kept trace n r (Some true) e is apart h = (asked_before-more trace n (n + 1) r (omega arith) h.0, λ more. elim (answered_before-last trace n r more) [ inl before ↦ h.1 before | inr here ↦ apart (same_answered e r here.0 (sym is ∙ here.1)) ])
-kept trace n r (Some false) e is apart h = (asked_before-more trace n (n + 1) r (omega arith) h.0, answered_before-more trace n (n + 1) r (omega arith) h.1)
+kept trace n r (Some Open) e is apart h = (asked_before-more trace n (n + 1) r (omega arith) h.0, λ more. elim (answered_before-last trace n r more) [ inl before ↦ h.1 before | inr here ↦ apart (same_answered e r here.0 (sym is ∙ here.1)) ])
+kept trace n r (Some Closed) e is apart h = (asked_before-more trace n (n + 1) r (omega arith) h.0, answered_before-more trace n (n + 1) r (omega arith) h.1)
 
 -- a request whose id is new fits, and is open
 fitting-asked : (trace : List TraceEvent) (n id : ℕ) (q : Request) → nth trace n ≡ Some (Asked id q) → ¬ IsAskedBefore trace n id → IsFitting trace n
@@ -81,59 +82,59 @@ fitting-more : (trace : List TraceEvent) (n : ℕ) → ((k : ℕ) → k < n → 
 fitting-more trace n before here k h =
     elim (cases_eq k n) [ inl same ↦ subst (IsFitting trace) (sym same) here | inr apart ↦ before k (omega arith) ]
 
-new_fits : (id : ℕ) (q : Request) (o : Option Bool) → fits (Asked id q) o ≡ true → o ≡ None
+new_fits : (id : ℕ) (q : Request) (o : Option Stage) → fits (Asked id q) o ≡ true → o ≡ None
 new_fits id q None h = refl
-new_fits id q (Some b) h = absurd (cc)
+new_fits id q (Some stage) h = absurd (cc)
 
-open_fits : (id : ℕ) (x : Response) (o : Option Bool) → fits (Answered id x) o ≡ true → o ≡ Some true
+open_fits : (id : ℕ) (x : Response) (o : Option Stage) → fits (Answered id x) o ≡ true → o ≡ Some Open
 open_fits id x None h = absurd (cc)
-open_fits id x (Some true) h = refl
-open_fits id x (Some false) h = absurd (cc)
+open_fits id x (Some Open) h = refl
+open_fits id x (Some Closed) h = absurd (cc)
 
-stage_from : (stage : ℕ → Option Bool) (trace : List TraceEvent) (n r : ℕ) (o : Option Bool) → Known stage trace n → stage r ≡ o → StageIs trace n r o
-stage_from stage trace n r o known e = let P : Option Bool → Type 0 = λ w. StageIs trace n r w in subst P e (known.stages r)
+stage_from : (stage : ℕ → Option Stage) (trace : List TraceEvent) (n r : ℕ) (o : Option Stage) → Known stage trace n → stage r ≡ o → StageIs trace n r o
+stage_from stage trace n r o known e = let P : Option Stage → Type 0 = λ w. StageIs trace n r w in subst P e (known.stages r)
 
 -- what is known of each id behind the event
-stages-more : (stage after : ℕ → Option Bool) (trace : List TraceEvent) (n : ℕ) (e : TraceEvent) → nth trace n ≡ Some e → Known stage trace n → ((r : ℕ) → r ≢ id_of e → after r ≡ stage r) → StageIs trace (n + 1) (id_of e) (after (id_of e)) → (r : ℕ) → StageIs trace (n + 1) r (after r)
+stages-more : (stage after : ℕ → Option Stage) (trace : List TraceEvent) (n : ℕ) (e : TraceEvent) → nth trace n ≡ Some e → Known stage trace n → ((r : ℕ) → r ≢ id_of e → after r ≡ stage r) → StageIs trace (n + 1) (id_of e) (after (id_of e)) → (r : ℕ) → StageIs trace (n + 1) r (after r)
 stages-more stage after trace n e is known others here r =
     elim (cases_eq r (id_of e)) [
       | inl same ↦ let P : ℕ → Type 0 = λ s. StageIs trace (n + 1) s (after s) in subst P (sym same) here
-      | inr apart ↦ let P : Option Bool → Type 0 = λ o. StageIs trace (n + 1) r o in subst P (sym (others r apart)) (kept trace n r (stage r) e is apart (known.stages r))
+      | inr apart ↦ let P : Option Stage → Type 0 = λ o. StageIs trace (n + 1) r o in subst P (sym (others r apart)) (kept trace n r (stage r) e is apart (known.stages r))
     ]
 
-not_answered : (stage : ℕ → Option Bool) (trace : List TraceEvent) (n id : ℕ) (q : Request) → nth trace n ≡ Some (Asked id q) → Known stage trace n → ¬ IsAskedBefore trace n id → ¬ IsAnsweredBefore trace (n + 1) id
+not_answered : (stage : ℕ → Option Stage) (trace : List TraceEvent) (n id : ℕ) (q : Request) → nth trace n ≡ Some (Asked id q) → Known stage trace n → ¬ IsAskedBefore trace n id → ¬ IsAnsweredBefore trace (n + 1) id
 not_answered stage trace n id q is known new more =
     elim (answered_before-last trace n id more) [
       | inl before ↦ new (asked_before-more trace before.0 n id (let p : before.0 < n = before.2 in omega arith) ((known.fitting before.0 before.2).was_asked id before.1 before.3))
       | inr here ↦ asked_is_not (nth trace n) id id q here.0 is here.1
     ]
 
-pub known-more : (stage after : ℕ → Option Bool) (trace : List TraceEvent) (n : ℕ) (e : TraceEvent) → nth trace n ≡ Some e → Known stage trace n → fits e (stage (id_of e)) ≡ true → after (id_of e) ≡ Some (is_request e) → ((r : ℕ) → r ≢ id_of e → after r ≡ stage r) → Known after trace (n + 1)
+pub known-more : (stage after : ℕ → Option Stage) (trace : List TraceEvent) (n : ℕ) (e : TraceEvent) → nth trace n ≡ Some e → Known stage trace n → fits e (stage (id_of e)) ≡ true → after (id_of e) ≡ Some (stage_after e) → ((r : ℕ) → r ≢ id_of e → after r ≡ stage r) → Known after trace (n + 1)
 known-more stage after trace n (Asked id q) is known fit here others =
     let new : ¬ IsAskedBefore trace n id = stage_from stage trace n id None known (new_fits id q (stage id) fit) in
-    let now : StageIs trace (n + 1) id (Some true) = ((n, q, omega arith, is), not_answered stage trace n id q is known new) in
-    let P : Option Bool → Type 0 = λ o. StageIs trace (n + 1) id o in
+    let now : StageIs trace (n + 1) id (Some Open) = ((n, q, omega arith, is), not_answered stage trace n id q is known new) in
+    let P : Option Stage → Type 0 = λ o. StageIs trace (n + 1) id o in
     record {
       stages = stages-more stage after trace n (Asked id q) is known others (subst P (sym here) now);
       fitting = fitting-more trace n known.fitting (fitting-asked trace n id q is new);
     }
 known-more stage after trace n (Answered id x) is known fit here others =
-    let was : StageIs trace n id (Some true) = stage_from stage trace n id (Some true) known (open_fits id x (stage id) fit) in
-    let now : StageIs trace (n + 1) id (Some false) = (asked_before-more trace n (n + 1) id (omega arith) was.0, (n, x, omega arith, is)) in
-    let P : Option Bool → Type 0 = λ o. StageIs trace (n + 1) id o in
+    let was : StageIs trace n id (Some Open) = stage_from stage trace n id (Some Open) known (open_fits id x (stage id) fit) in
+    let now : StageIs trace (n + 1) id (Some Closed) = (asked_before-more trace n (n + 1) id (omega arith) was.0, (n, x, omega arith, is)) in
+    let P : Option Stage → Type 0 = λ o. StageIs trace (n + 1) id o in
     record {
       stages = stages-more stage after trace n (Answered id x) is known others (subst P (sym here) now);
       fitting = fitting-more trace n known.fitting (fitting-answered trace n id x is was.0 was.1);
     }
 
 -- an event that doesn't fit what is known
-misfit : (trace : List TraceEvent) (n : ℕ) (e : TraceEvent) (o : Option Bool) → nth trace n ≡ Some e → StageIs trace n (id_of e) o → fits e o ≡ false → IsAskedAgain trace n (id_of e) ⊎ IsAnsweredInVain trace n (id_of e)
+misfit : (trace : List TraceEvent) (n : ℕ) (e : TraceEvent) (o : Option Stage) → nth trace n ≡ Some e → StageIs trace n (id_of e) o → fits e o ≡ false → IsAskedAgain trace n (id_of e) ⊎ IsAnsweredInVain trace n (id_of e)
 misfit trace n (Asked id q) None is h unfit = absurd (cc)
-misfit trace n (Asked id q) (Some true) is h unfit = inl (q, is, h.0)
-misfit trace n (Asked id q) (Some false) is h unfit = inl (q, is, h.0)
+misfit trace n (Asked id q) (Some Open) is h unfit = inl (q, is, h.0)
+misfit trace n (Asked id q) (Some Closed) is h unfit = inl (q, is, h.0)
 misfit trace n (Answered id x) None is h unfit = inr (x, is, inl h)
-misfit trace n (Answered id x) (Some true) is h unfit = absurd (cc)
-misfit trace n (Answered id x) (Some false) is h unfit = inr (x, is, inr h.1)
+misfit trace n (Answered id x) (Some Open) is h unfit = absurd (cc)
+misfit trace n (Answered id x) (Some Closed) is h unfit = inr (x, is, inr h.1)
 
-pub known-misfit : (stage : ℕ → Option Bool) (trace : List TraceEvent) (n : ℕ) (e : TraceEvent) → nth trace n ≡ Some e → Known stage trace n → fits e (stage (id_of e)) ≡ false → IsAskedAgain trace n (id_of e) ⊎ IsAnsweredInVain trace n (id_of e)
+pub known-misfit : (stage : ℕ → Option Stage) (trace : List TraceEvent) (n : ℕ) (e : TraceEvent) → nth trace n ≡ Some e → Known stage trace n → fits e (stage (id_of e)) ≡ false → IsAskedAgain trace n (id_of e) ⊎ IsAnsweredInVain trace n (id_of e)
 known-misfit stage trace n e is known unfit = misfit trace n e (stage (id_of e)) is (known.stages (id_of e)) unfit

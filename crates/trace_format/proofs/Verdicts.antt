@@ -1,5 +1,5 @@
 -- From what is known of the whole trace to whether it is balanced.
-use Rattle.std.proofs.Common.{get_or, ◌≡◌, ◌≢◌, ℕ, zero, suc, ◌<◌, List, [], ◌∷◌, length, Option, Some, None, Bool, true, false, ◌⊎◌, inl, inr, refl, arith}
+use Rattle.std.proofs.Common.{get_or, ◌≡◌, ◌≢◌, ℕ, zero, suc, ◌<◌, List, [], ◌∷◌, length, Option, Some, None, ◌⊎◌, inl, inr, refl, arith}
 use Rattle.std.proofs.lemmas.Bool.{cases_lt, cases_order}
 use Rattle.script_tree.specs.Lists.{nth}
 use Rattle.script_tree.specs.Requests.{Request}
@@ -9,6 +9,8 @@ use Rattle.script_tree.specs.declared.trace.TraceEvent.{TraceEvent}
 use Rattle.script_tree.specs.declared.trace.TraceEvent.TheVariants.{Asked, Answered}
 use Rattle.trace_format.specs.Balance.{IsAskedBefore, IsAnswered, IsFitting, IsAskedAgain, IsAnsweredInVain, IsFirstFault}
 use Rattle.trace_format.specs.Stages.{NoneOpen, IsFirstOpen}
+use Rattle.trace_format.specs.declared.balance.Stage.{Stage}
+use Rattle.trace_format.specs.declared.balance.Stage.TheVariants.{Open, Closed}
 use Rattle.trace_format.proofs.StageSteps.{Known, StageIs}
 
 pub nth-get_or : {A : Type 0} (d : A) (xs : List A) (i : ℕ) → i < length xs → nth xs i ≡ Some (get_or xs i d)
@@ -40,7 +42,7 @@ misfit_unbalanced trace n r b (inr (x, is, inl never)) =
 pub misfit_is_fault : (trace : List TraceEvent) (n r : ℕ) → ((k : ℕ) → k < n → IsFitting trace k) → IsAskedAgain trace n r ⊎ IsAnsweredInVain trace n r → IsFirstFault trace (Some r)
 misfit_is_fault trace n r before here = (λ b. misfit_unbalanced trace n r b here, inl (record { place = n; before = before; here = here }))
 
-fitting_all : (stage : ℕ → Option Bool) (trace : List TraceEvent) → Known stage trace (length trace) → (k : ℕ) → IsFitting trace k
+fitting_all : (stage : ℕ → Option Stage) (trace : List TraceEvent) → Known stage trace (length trace) → (k : ℕ) → IsFitting trace k
 fitting_all stage trace known k =
     elim (cases_lt k (length trace)) [
       | inl inside ↦ known.fitting k inside
@@ -51,10 +53,10 @@ fitting_all stage trace known k =
       }
     ]
 
-answered_unless_open : (trace : List TraceEvent) (i r : ℕ) (q : Request) (o : Option Bool) → nth trace i ≡ Some (Asked r q) → StageIs trace (length trace) r o → o ≢ Some true → IsAnswered trace r
+answered_unless_open : (trace : List TraceEvent) (i r : ℕ) (q : Request) (o : Option Stage) → nth trace i ≡ Some (Asked r q) → StageIs trace (length trace) r o → o ≢ Some Open → IsAnswered trace r
 answered_unless_open trace i r q None is h closed = absurd (h (i, q, nth-inside trace i (Asked r q) is, is))
-answered_unless_open trace i r q (Some true) is h closed = absurd (closed refl)
-answered_unless_open trace i r q (Some false) is h closed = (h.1.0, h.1.1, h.1.3)
+answered_unless_open trace i r q (Some Open) is h closed = absurd (closed refl)
+answered_unless_open trace i r q (Some Closed) is h closed = (h.1.0, h.1.1, h.1.3)
 
 asked_once : (trace : List TraceEvent) → ((k : ℕ) → IsFitting trace k) → (r i j : ℕ) (p q : Request) → nth trace i ≡ Some (Asked r p) → nth trace j ≡ Some (Asked r q) → i ≡ j
 asked_once trace fitting r i j p q e f =
@@ -84,7 +86,7 @@ asked_somewhere trace fitting r j x is =
     let asked : IsAskedBefore trace j r = (fitting j).was_asked r x is in
     (asked.0, asked.1, asked.3)
 
-balanced : (stage : ℕ → Option Bool) (trace : List TraceEvent) → Known stage trace (length trace) → NoneOpen stage trace (length trace) → IsBalanced trace
+balanced : (stage : ℕ → Option Stage) (trace : List TraceEvent) → Known stage trace (length trace) → NoneOpen stage trace (length trace) → IsBalanced trace
 balanced stage trace known none =
     let fitting : (k : ℕ) → IsFitting trace k = fitting_all stage trace known in
     record {
@@ -94,13 +96,13 @@ balanced stage trace known none =
       was_asked = asked_somewhere trace fitting;
     }
 
-open_unanswered : (trace : List TraceEvent) (r : ℕ) (o : Option Bool) → StageIs trace (length trace) r o → o ≡ Some true → ¬ IsAnswered trace r
+open_unanswered : (trace : List TraceEvent) (r : ℕ) (o : Option Stage) → StageIs trace (length trace) r o → o ≡ Some Open → ¬ IsAnswered trace r
 open_unanswered trace r None h e = absurd (cc)
-open_unanswered trace r (Some true) h e = λ (k, x, is). h.1 (k, x, nth-inside trace k (Answered r x) is, is)
-open_unanswered trace r (Some false) h e = absurd (cc)
+open_unanswered trace r (Some Open) h e = λ (k, x, is). h.1 (k, x, nth-inside trace k (Answered r x) is, is)
+open_unanswered trace r (Some Closed) h e = absurd (cc)
 
 -- the first open request, if any, is the verdict on a trace whose events fit
-pub first_open_is_fault : (stage : ℕ → Option Bool) (trace : List TraceEvent) (o : Option ℕ) → Known stage trace (length trace) → IsFirstOpen stage trace o → IsFirstFault trace o
+pub first_open_is_fault : (stage : ℕ → Option Stage) (trace : List TraceEvent) (o : Option ℕ) → Known stage trace (length trace) → IsFirstOpen stage trace o → IsFirstFault trace o
 first_open_is_fault stage trace None known h = balanced stage trace known h
 first_open_is_fault stage trace (Some r) known (place, q, is, waits, none) =
     let unanswered : ¬ IsAnswered trace r = open_unanswered trace r (stage r) (known.stages r) waits in (

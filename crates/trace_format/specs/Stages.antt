@@ -4,24 +4,32 @@ use Rattle.script_tree.specs.Lists.{nth}
 use Rattle.script_tree.specs.Requests.{Request}
 use Rattle.script_tree.specs.declared.trace.TraceEvent.{TraceEvent}
 use Rattle.script_tree.specs.declared.trace.TraceEvent.TheVariants.{Asked, Answered}
+use Rattle.trace_format.specs.declared.balance.Stage.{Stage}
+use Rattle.trace_format.specs.declared.balance.Stage.TheVariants.{Open, Closed}
 
 abbrev pub id_of : TraceEvent → ℕ
 id_of (Asked id q) = id
 id_of (Answered id x) = id
 
 -- whether an event fits, where this is known of its id
-abbrev pub fits : TraceEvent → Option Bool → Bool
+abbrev pub fits : TraceEvent → Option Stage → Bool
 fits (Asked id q) None = true
-fits (Asked id q) (Some is_open) = false
+fits (Asked id q) (Some stage) = false
 fits (Answered id x) None = false
-fits (Answered id x) (Some is_open) = is_open
+fits (Answered id x) (Some Open) = true
+fits (Answered id x) (Some Closed) = false
+
+-- how its id stands behind it
+abbrev pub stage_after : TraceEvent → Stage
+stage_after (Asked id q) = Open
+stage_after (Answered id x) = Closed
 
 -- before the place, no request is one of an open id
-abbrev pub NoneOpen : (ℕ → Option Bool) → List TraceEvent → ℕ → Type 0
-NoneOpen stage trace place = (k s : ℕ) (q : Request) → k < place → nth trace k ≡ Some (Asked s q) → stage s ≢ Some true
+abbrev pub NoneOpen : (ℕ → Option Stage) → List TraceEvent → ℕ → Type 0
+NoneOpen stage trace place = (k s : ℕ) (q : Request) → k < place → nth trace k ≡ Some (Asked s q) → stage s ≢ Some Open
 
 -- the first request of an open id, if any
-abbrev pub IsFirstOpen : (ℕ → Option Bool) → List TraceEvent → Option ℕ → Type 0
+abbrev pub IsFirstOpen : (ℕ → Option Stage) → List TraceEvent → Option ℕ → Type 0
 IsFirstOpen stage trace None = NoneOpen stage trace (length trace)
 IsFirstOpen stage trace (Some r) =
-    (place : ℕ) × (q : Request) × (nth trace place ≡ Some (Asked r q)) × (stage r ≡ Some true) × NoneOpen stage trace place
+    (place : ℕ) × (q : Request) × (nth trace place ≡ Some (Asked r q)) × (stage r ≡ Some Open) × NoneOpen stage trace place

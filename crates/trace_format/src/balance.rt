@@ -2,22 +2,29 @@ ghost use Rattle.std.specs.Prelude.{◌≡◌, Some, IfOk, OnOk};
 ghost use Rattle.std.specs.Ordering.{nat_cmp};
 ghost use Rattle.std.specs.BTreeMap.{get, Updates};
 ghost use Rattle.trace_format.specs.Balance.{IsFirstFault, IsOneFault};
-ghost use Rattle.trace_format.specs.Events.{is_request};
-ghost use Rattle.trace_format.specs.Stages.{id_of, fits, IsFirstOpen};
+ghost use Rattle.trace_format.specs.Stages.{id_of, fits, stage_after, IsFirstOpen};
 
 use script_tree::trace::{Trace, TraceEvent};
 use std::alloc::{AllocError, Global};
 use std::collections::BTreeMap;
 
-/// Notes an event: of a request that its id is open, of a response that it isn't. Tells whether the
-/// event fits what was known of its id.
-fn note(stages: &mut BTreeMap<u32, bool>, event: &TraceEvent) -> Result<bool, AllocError>
+/// How an id stands whose request has come.
+#[derive(Clone, Copy, Debug, PartialEq, Eq)]
+pub enum Stage {
+    /// It waits for its response.
+    Open,
+    /// Its response has come.
+    Closed,
+}
+
+/// Notes how the id of an event stands behind it. Tells whether the event fits what was known of its id.
+fn note(stages: &mut BTreeMap<u32, Stage>, event: &TraceEvent) -> Result<bool, AllocError>
     ensures fits { IfOk result (λ b. b ≡ fits event.now (get nat_cmp stages.old (id_of event.now))) }
-    ensures noted { OnOk result (Updates nat_cmp stages.old stages.new (id_of event.now) (Some (is_request event.now))) }
+    ensures noted { OnOk result (Updates nat_cmp stages.old stages.new (id_of event.now) (Some (stage_after event.now))) }
 {
     match event {
-        TraceEvent::Asked(id, _) => Ok(stages.insert(*id, true)?.is_none()),
-        TraceEvent::Answered(id, _) => Ok(stages.insert(*id, false)?.unwrap_or(false)),
+        TraceEvent::Asked(id, _) => Ok(stages.insert(*id, Stage::Open)?.is_none()),
+        TraceEvent::Answered(id, _) => Ok(stages.insert(*id, Stage::Closed)? == Some(Stage::Open)),
     }
 }
 
@@ -29,12 +36,12 @@ fn id_of(event: &TraceEvent) -> u32
     }
 }
 
-fn first_open(events: &[TraceEvent], stages: &BTreeMap<u32, bool>) -> Option<u32>
+fn first_open(events: &[TraceEvent], stages: &BTreeMap<u32, Stage>) -> Option<u32>
     ensures { IsFirstOpen (get nat_cmp stages.now) events.now result }
 {
     for event in events {
         if let TraceEvent::Asked(id, _) = event
-            && stages.get(id) == Some(&true)
+            && stages.get(id) == Some(&Stage::Open)
         {
             return Some(*id);
         }

@@ -39,6 +39,7 @@ pieces-preserved g c =
       within = omega (arith, len, ok.0, c.len-in-pieces.ensures, c.if-count-limit.false, c.pieces.invariant.within);
       files = c.read_at.ensures.files ∙ c.pieces.invariant.files;
       no_fall = omega (arith, c.read_at.ensures.faults.no_fall, c.pieces.invariant.no_fall);
+      sure = c.read_at.ensures.faults.as_told ∙ c.pieces.invariant.sure;
       absences = omega (arith, c.read_at.ensures.absences.no_fall, c.pieces.invariant.absences);
       front = λ files told file there.
           let front : (f : List ℕ) → get files c.args.name.now ≡ Some f → c.pieces.bytes.items ≡ take (length c.pieces.bytes.items) f =

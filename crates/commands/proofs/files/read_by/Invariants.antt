@@ -11,6 +11,7 @@ invariant-pieces g l =
       within : vec_len l.bytes ≤ l.fn.limit;
       files : told.files l.shelf ≡ told.files l.fn.shelf;
       no_fall : told.faults l.fn.shelf ≤ told.faults l.shelf;
+      sure : told.never_fails l.shelf ≡ told.never_fails l.fn.shelf;
       absences : told.absences l.fn.shelf ≤ told.absences l.shelf;
       front : (files : Files) → told.files l.fn.shelf ≡ Some files → (file : List ℕ) → get files l.name ≡ Some file
           → l.bytes.items ≡ take (vec_len l.bytes) file;

@@ -10,6 +10,7 @@ invariant-loop-done g l =
       within : l.done ≤ length l.line;
       written : told.written l.out ≡ and_then (told.written l.fn.out) (take l.done l.line);
       no_fall : told.faults l.fn.out ≤ told.faults l.out;
+      sure : told.never_fails l.out ≡ told.never_fails l.fn.out;
     }
 
 abbrev pub decreases-loop-done : goal.decreases-loop-done

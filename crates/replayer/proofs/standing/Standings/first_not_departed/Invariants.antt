@@ -1,5 +1,6 @@
 use Rattle.std.proofs.Common.{◌≡◌, drop}
-use Rattle.replayer.specs.StandingWords.{departed_in, first_not_departed}
+use Rattle.replayer.specs.Differences.{first_not_departed}
+use Rattle.replayer.specs.StandingWords.{departed_in}
 use Rattle.replayer.proofs.standing.Standings.first_not_departed.Given as goal
 
 -- no request so far is the first

@@ -1,2 +1,5 @@
 pub mod Pieces
+pub mod ReadOneWay
+pub mod StateFacts
 pub mod Verdicts
+pub mod WordsRead

@@ -5,7 +5,7 @@ use Rattle.std.proofs.lemmas.List.{take-append-le}
 use Rattle.std.proofs.Math.Seq.{take-add}
 use Rattle.std.specs.FinMap.{get}
 use Rattle.outside.specs.Files.{Files, IsReadFrom}
-use Rattle.commands.specs.Lines.{and_then}
+use Rattle.commands.specs.Writing.{and_then}
 
 pub chosen : {A : Type 0} (b : Bool) (x y z : A) → b ≡ true → x ≡ (if b then y else z) → x ≡ y
 chosen b x y z e h = h ∙ ap (λ c. if c then y else z) e

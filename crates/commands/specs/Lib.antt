@@ -4,4 +4,8 @@ pub mod Inputs
 pub mod Lines
 pub mod NamesView
 pub mod Outcome
+pub mod State
+pub mod Traces
 pub mod Words
+pub mod WordsApp
+pub mod Writing

@@ -1,5 +1,5 @@
 -- What the words of a command line ask for.
-use Rattle.std.specs.Prelude.{ℕ, Bool, true, not, ◌==◌, ◌&&◌, if◌then◌else◌, List, [], ◌∷◌, Option, Some, None, codes}
+use Rattle.std.specs.Prelude.{ℕ, Bool, false, ◌==◌, if◌then◌else◌, List, [], ◌∷◌, Option, Some, None, option_map, codes}
 use Rattle.std.specs.Str.{bytes_eq}
 
 -- the names of replay's inputs
@@ -9,14 +9,29 @@ pub record ReplayNames : Type 0 where
   pub trace : List ℕ
   pub schedule : List ℕ
 
--- not with a dash in front (its code is 45)
-abbrev pub is_name : List ℕ → Bool
-is_name [] = true
-is_name (b ∷ word) = not (b == 45)
+-- a dash (its code is 45) and more behind it
+abbrev pub is_option : List ℕ → Bool
+is_option [] = false
+is_option (b ∷ []) = false
+is_option (b ∷ c ∷ word) = b == 45
+
+-- the names among words: no option may stand there; behind `--`, which is no name, each word is one
+abbrev pub names_in : List (List ℕ) → Option (List (List ℕ))
+names_in [] = Some []
+names_in (word ∷ words) =
+    if bytes_eq word (codes "--") then Some words
+    else (if is_option word then None else option_map (λ names. word ∷ names) (names_in words))
+
+-- the names, where they are four
+abbrev pub four_names : List (List ℕ) → Option ReplayNames
+four_names (p ∷ s ∷ t ∷ c ∷ []) = Some (record { program = p; state = s; trace = t; schedule = c })
+four_names names = None
+
+abbrev pub in_four : Option (List (List ℕ)) → Option ReplayNames
+in_four (Some names) = four_names names
+in_four None = None
 
 -- `replay` and four names
 abbrev pub replay_names : List (List ℕ) → Option ReplayNames
-replay_names (command ∷ p ∷ s ∷ t ∷ c ∷ []) =
-    if bytes_eq command (codes "replay") && (is_name p && (is_name s && (is_name t && is_name c)))
-    then Some (record { program = p; state = s; trace = t; schedule = c }) else None
-replay_names words = None
+replay_names [] = None
+replay_names (command ∷ words) = if bytes_eq command (codes "replay") then in_four (names_in words) else None

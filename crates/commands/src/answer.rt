@@ -1,92 +1,112 @@
-ghost use Rattle.std.specs.Prelude.{◌≡◌, ◌≤◌, ◌++◌, IfOk, codes};
-ghost use Rattle.commands.specs.Outcome.{numbered};
+ghost use Rattle.std.specs.Prelude.{◌≡◌, IfOk, string_bytes};
+ghost use Rattle.commands.specs.Lines.{difference_line, line_of, role_name, status_of, told};
 
-use replayer::Difference;
-use script_tree::schedule::Schedule;
+use crate::state::StateFault;
+use replayer::{ReplayReason, Replayed};
 use std::alloc::{AllocError, Global};
 
-/// The end of a command: its status, and the line that it prints.
-#[derive(Drop)]
-pub struct Answer {
-    pub status: u8,
-    pub line: Vec<u8>,
-    ghost no_halt: { status ≤ 3 },
+/// What an input is to a command.
+#[derive(Clone, Copy, Debug, PartialEq, Eq)]
+pub enum Role {
+    Program,
+    State,
+    Trace,
+    Schedule,
+}
+
+impl Role {
+    /// The word for it at the start of a line.
+    pub fn name(self) -> &'static str
+        ensures { result.now ≡ role_name self }
+    {
+        match self {
+            Role::Program => "program",
+            Role::State => "state",
+            Role::Trace => "trace",
+            Role::Schedule => "schedule",
+        }
+    }
+}
+
+/// The end of a command. Offsets count from 0.
+#[derive(Clone, Copy, Debug, PartialEq, Eq)]
+pub enum Answer {
+    /// The words aren't those of a command.
+    Usage,
+    /// An input isn't there.
+    Absent(Role),
+    /// An input has more bytes than its limit.
+    TooLong(Role),
+    /// The program isn't one of those that are built.
+    NotBuilt,
+    StateFault(StateFault),
+    /// The trace's first bad record begins here.
+    TraceUnreadable(u64),
+    /// This request names the fault of a trace that isn't balanced.
+    TraceUnbalanced(u32),
+    /// The schedule agrees with the trace; it has so many moments.
+    Agrees(u64),
+    Differs(ReplayReason),
 }
 
 impl Answer {
-    ghost use Rattle.commands.specs.Outcome.{IsTold, SaysNotBuilt};
-
-    /// Status 2: the words aren't those of a command.
-    pub fn usage(alloc: Global) -> Result<Answer, AllocError>
-        ensures { IfOk result (λ a. (a.status ≡ 2) × (a.line.items ≡ codes "usage\n")) }
+    /// What a replay of a schedule of so many moments found.
+    pub fn told(moments: u64, replayed: Replayed) -> Answer
+        ensures { result ≡ told moments replayed }
     {
-        Ok(Answer {
-            status: 2,
-            line: Vec::from_slice(alloc, b"usage\n")?,
-        })
+        match replayed {
+            Replayed::Agrees => Answer::Agrees(moments),
+            Replayed::Differs(reason) => Answer::Differs(reason),
+        }
     }
 
-    /// Status 3: an input isn't there.
-    pub fn absent(alloc: Global, role: &[u8]) -> Result<Answer, AllocError>
-        ensures { IfOk result (λ a. (a.status ≡ 3) × (a.line.items ≡ role.now ++ codes ": absent\n")) }
+    /// The exit status that tells of it.
+    pub fn status(self) -> u8
+        ensures { result ≡ status_of self }
     {
-        Ok(Answer {
-            status: 3,
-            line: joined(alloc, role, b": absent\n")?,
-        })
+        match self {
+            Answer::Agrees(_) => 0,
+            Answer::Differs(_) => 1,
+            Answer::Usage => 2,
+            Answer::Absent(_)
+            | Answer::TooLong(_)
+            | Answer::NotBuilt
+            | Answer::StateFault(_)
+            | Answer::TraceUnreadable(_)
+            | Answer::TraceUnbalanced(_) => 3,
+        }
     }
 
-    /// Status 3: an input is too long, or spells nothing of its kind.
-    pub fn not_built(alloc: Global, role: &[u8]) -> Result<Answer, AllocError>
-        ensures told { IfOk result (λ a. (a.status ≡ 3) × (a.line.items ≡ role.now ++ codes ": not built\n")) }
-        ensures says { IfOk result (λ a. SaysNotBuilt a.line.items) }
+    /// The line that tells of it.
+    pub fn line(self, alloc: Global) -> Result<String, AllocError>
+        ensures { IfOk result (λ line. string_bytes line ≡ line_of self) }
     {
-        Ok(Answer {
-            status: 3,
-            line: joined(alloc, role, b": not built\n")?,
-        })
-    }
-
-    /// Status 0 or 1: what a replay found.
-    pub fn told(
-        alloc: Global,
-        schedule: &Schedule,
-        difference: Option<Difference>,
-    ) -> Result<Answer, AllocError>
-        ensures told { IfOk result (λ a. IsTold schedule.now difference a.status a.line.items) }
-        ensures verdict { IfOk result (λ a. a.status ≤ 1) }
-    {
-        let moments = schedule.as_slice().len() as u64;
-        Ok(match difference {
-            None => Answer {
-                status: 0,
-                line: numbered_line(alloc, b"agrees: moments ", moments)?,
-            },
-            Some(Difference::AtMoment { moment, .. }) => Answer {
-                status: 1,
-                line: numbered_line(alloc, b"differs: moment ", moment)?,
-            },
-            Some(Difference::NotDeparted { .. }) => Answer {
-                status: 1,
-                line: numbered_line(alloc, b"differs: moment ", moments)?,
-            },
-        })
+        match self {
+            Answer::Usage => String::from_str(alloc, "usage\n"),
+            Answer::Absent(role) => format!(in alloc; "{}: absent\n", role.name()),
+            Answer::TooLong(role) => format!(in alloc; "{}: too long\n", role.name()),
+            Answer::NotBuilt => String::from_str(alloc, "program: not built\n"),
+            Answer::StateFault(fault) => format!(in alloc; "state: kind {}\n", fault.kind()),
+            Answer::TraceUnreadable(at) => format!(in alloc; "trace: unreadable at {at}\n"),
+            Answer::TraceUnbalanced(rid) => {
+                format!(in alloc; "trace: not balanced at request {rid}\n")
+            }
+            Answer::Agrees(moments) => format!(in alloc; "agrees: moments {moments}\n"),
+            Answer::Differs(reason) => difference(alloc, reason),
+        }
     }
 }
 
-fn joined(alloc: Global, front: &[u8], back: &[u8]) -> Result<Vec<u8>, AllocError>
-    ensures { IfOk result (λ line. line.items ≡ front.now ++ back.now) }
+/// The line that tells why a schedule differs.
+fn difference(alloc: Global, reason: ReplayReason) -> Result<String, AllocError>
+    ensures { IfOk result (λ line. string_bytes line ≡ difference_line reason) }
 {
-    let mut line = Vec::from_slice(alloc, front)?;
-    line.extend_from_slice(back)?;
-    Ok(line)
-}
-
-fn numbered_line(alloc: Global, text: &[u8], number: u64) -> Result<Vec<u8>, AllocError>
-    ensures { IfOk result (λ line. line.items ≡ numbered text.now number) }
-{
-    let mut line = Vec::from_slice(alloc, text)?;
-    line.extend_from_slice(number.to_string(alloc)?.as_bytes())?;
-    line.push(b'\n')?;
-    Ok(line)
+    let number = reason.number();
+    match reason {
+        ReplayReason::Unreadable(at) => format!(in alloc; "differs {number}: unreadable at {at}\n"),
+        ReplayReason::AtMoment { moment, rid, .. } => {
+            format!(in alloc; "differs {number}: moment {moment} request {rid}\n")
+        }
+        ReplayReason::Open(rid) => format!(in alloc; "differs {number}: request {rid}\n"),
+    }
 }

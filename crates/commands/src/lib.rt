@@ -6,6 +6,8 @@ pub mod files;
 pub mod line;
 pub mod replay;
 pub mod run;
+pub mod state;
 #[cfg(test)]
 mod tests;
+pub mod trace;
 pub mod words;

@@ -1,7 +1,7 @@
 ghost use Rattle.std.specs.Prelude.{◌≡◌, ◌≤◌, Err, OnOk, OnErr};
 ghost use Rattle.outside.specs.Counts.{HasRisen};
 ghost use Rattle.commands.specs.Halts.{StaysSure};
-ghost use Rattle.commands.specs.Lines.{and_then, HasFront};
+ghost use Rattle.commands.specs.Writing.{and_then, HasFront};
 ghost use Rattle.commands.specs.declared.files.Halt.TheVariants.{Failed as HaltFailed};
 
 use crate::files::Halt;

@@ -1,25 +1,28 @@
-ghost use Rattle.std.specs.Prelude.{◌≡◌, ◌≢◌, ◌<◌, ◌≤◌, ◌^◌, Some, Err, List, length, IfOk, IfSome, IfNone};
+ghost use Rattle.std.specs.Prelude.{◌≡◌, ◌<◌, ◌≤◌, ◌^◌, Some, Err, List, length, IfOk, IfSome, IfNone};
 ghost use Rattle.std.specs.Option.{ForSome};
 ghost use Rattle.outside.specs.Counts.{HasRisen};
-ghost use Rattle.commands.specs.Halts.{StaysSure};
 ghost use Rattle.script_tree.specs.StraightLine.{IsStraightLine};
 ghost use Rattle.script_tree.specs.Traces.{IsBalanced};
 ghost use Rattle.script_tree.specs.declared.syntax.declaration.Declaration.{Declaration};
-ghost use Rattle.script_tree.specs.declared.trace.TraceEvent.{TraceEvent};
+ghost use Rattle.replayer.specs.OnRegisters.{objects_of};
+ghost use Rattle.commands.specs.Halts.{StaysSure};
 ghost use Rattle.commands.specs.NamesView.{names_of};
-ghost use Rattle.commands.specs.Outcome.{IsReplayed, WithProgram, WithState, WithTrace, HasSchedule, SpellsProgram, SpellsTrace, HasCause};
+ghost use Rattle.commands.specs.Outcome.{IsReplayed, WithProgram, WithState, WithTrace, HasSchedule, SpellsProgram, HasCause};
 ghost use Rattle.commands.specs.declared.files.Halt.TheVariants.{Failed as HaltFailed};
 
-use crate::answer::Answer;
+use crate::answer::{Answer, Role};
 use crate::files::{Halt, Input, read_whole};
+use crate::state::{StateRead, read_state};
+use crate::trace::{TraceRead, read_trace};
 use crate::words::ReplayNames;
 use outside::Shelf;
-use replayer::replay_empty;
+use replayer::registers::Registers;
+use replayer::replay::replay;
+use schedule_format::decoding::decode;
 use script_syntax::straight_line::parse_straight_line;
 use script_tree::syntax::program::Program;
 use script_tree::trace::Trace;
 use std::alloc::{AllocError, Global};
-use trace_format::balance::first_unbalanced;
 use wire::fault::FileFault;
 
 /// The most bytes of an input.
@@ -37,19 +40,19 @@ pub fn replay_files<F: Shelf>(
     shelf: &mut F,
     names: ReplayNames<'_>,
 ) -> Result<Answer, Halt>
-    ensures answer { IfOk result (λ a. ForSome (F.files shelf.old) (λ files. IsReplayed files (Some (names_of names.entry)) a.status a.line.items)) }
+    ensures answer { IfOk result (λ a. ForSome (F.files shelf.old) (λ files. IsReplayed files (Some (names_of names.entry)) a)) }
     ensures files { F.files shelf.new ≡ F.files shelf.old }
     ensures no_fall { F.faults shelf.old ≤ F.faults shelf.new }
     ensures failed { result ≡ Err HaltFailed → HasRisen (F.faults shelf.old) (F.faults shelf.new) }
     ensures sure { StaysSure (F.never_fails shelf.old) (F.never_fails shelf.new) (result ≡ Err HaltFailed) }
-    ensures cause { IfOk result (λ a. HasCause (F.absences shelf.old) (F.absences shelf.new) a.status a.line.items) }
+    ensures cause { IfOk result (HasCause (F.absences shelf.old) (F.absences shelf.new)) }
     ensures absences { F.absences shelf.old ≤ F.absences shelf.new }
 {
     match read_whole(alloc, shelf, names.program, MOST_BYTES)? {
-        Input::Absent => Ok(Answer::absent(alloc, b"program")?),
-        Input::TooLong => Ok(Answer::not_built(alloc, b"program")?),
+        Input::Absent => Ok(Answer::Absent(Role::Program)),
+        Input::TooLong => Ok(Answer::TooLong(Role::Program)),
         Input::Whole(bytes) => match straight_program(alloc, &bytes)? {
-            None => Ok(Answer::not_built(alloc, b"program")?),
+            None => Ok(Answer::NotBuilt),
             Some(program) => with_program(alloc, shelf, names, &program),
         },
     }
@@ -73,7 +76,7 @@ fn straight_program(alloc: Global, bytes: &[u8]) -> Result<Option<Program>, Allo
     }
 }
 
-/// The state, which is to be empty.
+/// The state.
 fn with_program<F: Shelf>(
     alloc: Global,
     shelf: &mut F,
@@ -82,21 +85,21 @@ fn with_program<F: Shelf>(
 ) -> Result<Answer, Halt>
     requires straight { IsStraightLine program.now }
     requires few { length program.now < 2 ^ 32 }
-    ensures answer { IfOk result (λ a. ForSome (F.files shelf.old) (λ files. WithProgram files (names_of names.entry) program.now a.status a.line.items)) }
+    ensures answer { IfOk result (λ a. ForSome (F.files shelf.old) (λ files. WithProgram files (names_of names.entry) program.now a)) }
     ensures files { F.files shelf.new ≡ F.files shelf.old }
     ensures no_fall { F.faults shelf.old ≤ F.faults shelf.new }
     ensures failed { result ≡ Err HaltFailed → HasRisen (F.faults shelf.old) (F.faults shelf.new) }
     ensures sure { StaysSure (F.never_fails shelf.old) (F.never_fails shelf.new) (result ≡ Err HaltFailed) }
-    ensures cause { IfOk result (λ a. HasCause (F.absences shelf.old) (F.absences shelf.new) a.status a.line.items) }
+    ensures cause { IfOk result (HasCause (F.absences shelf.old) (F.absences shelf.new)) }
     ensures absences { F.absences shelf.old ≤ F.absences shelf.new }
 {
     match read_whole(alloc, shelf, names.state, MOST_BYTES)? {
-        Input::Absent => Ok(Answer::absent(alloc, b"state")?),
-        Input::TooLong => Ok(Answer::not_built(alloc, b"state")?),
-        Input::Whole(bytes) if bytes.as_slice() == b"{}".as_slice() => {
-            with_state(alloc, shelf, names, program)
-        }
-        Input::Whole(_) => Ok(Answer::not_built(alloc, b"state")?),
+        Input::Absent => Ok(Answer::Absent(Role::State)),
+        Input::TooLong => Ok(Answer::TooLong(Role::State)),
+        Input::Whole(bytes) => match read_state(alloc, &bytes)? {
+            StateRead::Fault(fault) => Ok(Answer::StateFault(fault)),
+            StateRead::State(start) => with_state(alloc, shelf, names, program, start),
+        },
     }
 }
 
@@ -106,41 +109,26 @@ fn with_state<F: Shelf>(
     shelf: &mut F,
     names: ReplayNames<'_>,
     program: &Program,
+    start: Registers,
 ) -> Result<Answer, Halt>
     requires straight { IsStraightLine program.now }
     requires few { length program.now < 2 ^ 32 }
-    ensures answer { IfOk result (λ a. ForSome (F.files shelf.old) (λ files. WithState files (names_of names.entry) program.now a.status a.line.items)) }
+    ensures answer { IfOk result (λ a. ForSome (F.files shelf.old) (λ files. WithState files (names_of names.entry) program.now (objects_of start.values) a)) }
     ensures files { F.files shelf.new ≡ F.files shelf.old }
     ensures no_fall { F.faults shelf.old ≤ F.faults shelf.new }
     ensures failed { result ≡ Err HaltFailed → HasRisen (F.faults shelf.old) (F.faults shelf.new) }
     ensures sure { StaysSure (F.never_fails shelf.old) (F.never_fails shelf.new) (result ≡ Err HaltFailed) }
-    ensures cause { IfOk result (λ a. HasCause (F.absences shelf.old) (F.absences shelf.new) a.status a.line.items) }
+    ensures cause { IfOk result (HasCause (F.absences shelf.old) (F.absences shelf.new)) }
     ensures absences { F.absences shelf.old ≤ F.absences shelf.new }
 {
     match read_whole(alloc, shelf, names.trace, MOST_BYTES)? {
-        Input::Absent => Ok(Answer::absent(alloc, b"trace")?),
-        Input::TooLong => Ok(Answer::not_built(alloc, b"trace")?),
-        Input::Whole(bytes) => match balanced_trace(alloc, &bytes)? {
-            None => Ok(Answer::not_built(alloc, b"trace")?),
-            Some(trace) => with_trace(alloc, shelf, names, program, &trace),
+        Input::Absent => Ok(Answer::Absent(Role::Trace)),
+        Input::TooLong => Ok(Answer::TooLong(Role::Trace)),
+        Input::Whole(bytes) => match read_trace(alloc, &bytes)? {
+            TraceRead::Unreadable(at) => Ok(Answer::TraceUnreadable(at)),
+            TraceRead::Unbalanced(rid) => Ok(Answer::TraceUnbalanced(rid)),
+            TraceRead::Balanced(trace) => with_trace(alloc, shelf, names, program, start, &trace),
         },
-    }
-}
-
-/// The balanced trace that the bytes spell.
-fn balanced_trace(alloc: Global, bytes: &[u8]) -> Result<Option<Trace>, AllocError>
-    ensures spelled { IfOk result (λ o. IfSome o (λ trace. SpellsTrace bytes.now trace)) }
-    ensures none { IfOk result (λ o. IfNone o ((trace : List TraceEvent) → SpellsTrace bytes.now trace → ⊥)) }
-{
-    trace_format::decoding::reading_is_exact();
-    let trace = match trace_format::decoding::decode(alloc, bytes) {
-        Ok(trace) => trace,
-        Err(FileFault::Memory) => return Err(AllocError),
-        Err(FileFault::Unreadable { .. }) => return Ok(None),
-    };
-    match first_unbalanced(alloc, &trace)? {
-        None => Ok(Some(trace)),
-        Some(_) => Ok(None),
     }
 }
 
@@ -150,23 +138,24 @@ fn with_trace<F: Shelf>(
     shelf: &mut F,
     names: ReplayNames<'_>,
     program: &Program,
+    start: Registers,
     trace: &Trace,
 ) -> Result<Answer, Halt>
     requires straight { IsStraightLine program.now }
     requires few { length program.now < 2 ^ 32 }
     requires balanced { IsBalanced trace.now }
-    ensures answer { IfOk result (λ a. ForSome (F.files shelf.old) (λ files. WithTrace files (names_of names.entry) program.now trace.now a.status a.line.items)) }
+    ensures answer { IfOk result (λ a. ForSome (F.files shelf.old) (λ files. WithTrace files (names_of names.entry) program.now (objects_of start.values) trace.now a)) }
     ensures files { F.files shelf.new ≡ F.files shelf.old }
     ensures no_fall { F.faults shelf.old ≤ F.faults shelf.new }
     ensures failed { result ≡ Err HaltFailed → HasRisen (F.faults shelf.old) (F.faults shelf.new) }
     ensures sure { StaysSure (F.never_fails shelf.old) (F.never_fails shelf.new) (result ≡ Err HaltFailed) }
-    ensures cause { IfOk result (λ a. HasCause (F.absences shelf.old) (F.absences shelf.new) a.status a.line.items) }
+    ensures cause { IfOk result (HasCause (F.absences shelf.old) (F.absences shelf.new)) }
     ensures absences { F.absences shelf.old ≤ F.absences shelf.new }
 {
     match read_whole(alloc, shelf, names.schedule, MOST_SCHEDULE_BYTES)? {
-        Input::Absent => Ok(Answer::absent(alloc, b"schedule")?),
-        Input::TooLong => Ok(Answer::not_built(alloc, b"schedule")?),
-        Input::Whole(bytes) => replay_bytes(alloc, program, trace, &bytes),
+        Input::Absent => Ok(Answer::Absent(Role::Schedule)),
+        Input::TooLong => Ok(Answer::TooLong(Role::Schedule)),
+        Input::Whole(bytes) => Ok(replay_bytes(alloc, program, start, trace, &bytes)?),
     }
 }
 
@@ -174,23 +163,25 @@ fn with_trace<F: Shelf>(
 fn replay_bytes(
     alloc: Global,
     program: &Program,
+    start: Registers,
     trace: &Trace,
     bytes: &[u8],
-) -> Result<Answer, Halt>
+) -> Result<Answer, AllocError>
     requires straight { IsStraightLine program.now }
     requires few { length program.now < 2 ^ 32 }
     requires balanced { IsBalanced trace.now }
-    ensures answer { IfOk result (λ a. length bytes.now ≤ MOST_SCHEDULE_BYTES → HasSchedule program.now trace.now (Some bytes.now) a.status a.line.items) }
-    ensures memory { result ≢ Err HaltFailed }
-    ensures cause { IfOk result (λ a. HasCause 0 0 a.status a.line.items) }
+    ensures answer { IfOk result (λ a. length bytes.now ≤ MOST_SCHEDULE_BYTES → HasSchedule program.now (objects_of start.values) trace.now (Some bytes.now) a) }
+    ensures present { IfOk result (HasCause 0 0) }
 {
-    schedule_format::decoding::reading_is_exact();
-    match schedule_format::decoding::decode(alloc, bytes) {
-        Err(FileFault::Memory) => Err(Halt::Memory),
-        Err(FileFault::Unreadable { .. }) => Ok(Answer::not_built(alloc, b"schedule")?),
+    match decode(alloc, bytes) {
+        Err(FileFault::Memory) => Err(AllocError),
+        Err(FileFault::Unreadable { at }) => {
+            let replayed = replay(alloc, program, start, trace, Err(at as u64))?;
+            Ok(Answer::told(0, replayed))
+        }
         Ok(schedule) => {
-            let difference = replay_empty(alloc, program, trace, &schedule)?;
-            Ok(Answer::told(alloc, &schedule, difference)?)
+            let replayed = replay(alloc, program, start, trace, Ok(&schedule))?;
+            Ok(Answer::told(schedule.as_slice().len() as u64, replayed))
         }
     }
 }

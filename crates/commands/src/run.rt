@@ -2,9 +2,11 @@ ghost use Rattle.std.specs.Prelude.{◌≡◌, ◌≢◌, ◌≤◌, ◌⊎◌, 
 ghost use Rattle.std.specs.Option.{ForSome};
 ghost use Rattle.outside.specs.Counts.{HasRisen};
 ghost use Rattle.commands.specs.Explained.{IsExplained, IsUnexplained};
-ghost use Rattle.commands.specs.Lines.{and_then, HasFront};
+ghost use Rattle.commands.specs.Writing.{and_then, HasFront};
+ghost use Rattle.commands.specs.Lines.{line_of, status_of};
 ghost use Rattle.commands.specs.Outcome.{IsOutcome, HasCause};
 ghost use Rattle.commands.specs.Halts.{StaysSure};
+ghost use Rattle.commands.specs.declared.answer.Answer.{Answer};
 ghost use Rattle.commands.specs.declared.files.Halt.TheVariants.{Failed as HaltFailed};
 
 use crate::answer::Answer;
@@ -27,20 +29,18 @@ pub fn run<F: Shelf, O: Sink, H: House, C: Clock + Sync, G: Gate + Sync>(
     _clock: &C,
     _gate: &G,
 ) -> u8
-    // With another status than 4 and 5: the outcome of the words and the files, and its line.
-    ensures outcome { result ≢ 4 → result ≢ 5 → ForSome (F.files shelf.old) (λ files. (line : List ℕ) × IsOutcome words.now files result line × (O.written out.new ≡ and_then (O.written out.old) line)) }
+    // With another status than 4 and 5: an answer's status and line. Behind an absence stands one that was counted;
+    // and where the shelf tells its files, the answer is the outcome of the words over them.
+    ensures outcome { result ≢ 4 → result ≢ 5 → (answer : Answer) × (result ≡ status_of answer) × (O.written out.new ≡ and_then (O.written out.old) (line_of answer)) × HasCause (F.absences shelf.old) (F.absences shelf.new) answer × ForSome (F.files shelf.old) (λ files. IsOutcome words.now files answer) }
 
     // Status 0 and 1: the schedule explains the trace, and it doesn't.
     ensures agrees { result ≡ 0 → ForSome (F.files shelf.old) (IsExplained words.now) }
     ensures differs { result ≡ 1 → ForSome (F.files shelf.old) (IsUnexplained words.now) }
 
     // With status 4 or 5: nothing is printed, or a front part of the outcome's line.
-    ensures stopped { (result ≡ 4) ⊎ (result ≡ 5) → ForSome (F.files shelf.old) (λ files. (O.written out.new ≡ O.written out.old) ⊎ ((status : ℕ) × (line : List ℕ) × IsOutcome words.now files status line × HasFront (O.written out.old) (O.written out.new) line)) }
+    ensures stopped { (result ≡ 4) ⊎ (result ≡ 5) → ForSome (F.files shelf.old) (λ files. (O.written out.new ≡ O.written out.old) ⊎ ((answer : Answer) × IsOutcome words.now files answer × HasFront (O.written out.old) (O.written out.new) (line_of answer))) }
     ensures failed { result ≡ 4 → HasRisen (F.faults shelf.old) (F.faults shelf.new) ⊎ HasRisen (O.faults out.old) (O.faults out.new) }
     ensures never_failed { F.never_fails shelf.old ≡ true → O.never_fails out.old ≡ true → result ≢ 4 }
-
-    // Also where the shelf tells nothing: an absence was counted, or the line says that an input isn't built.
-    ensures cause { result ≡ 3 → HasRisen (F.absences shelf.old) (F.absences shelf.new) ⊎ ((role : List ℕ) × (O.written out.new ≡ and_then (O.written out.old) (role ++ codes ": not built\n"))) }
 
     ensures status { result ≤ 5 }
     ensures files { F.files shelf.new ≡ F.files shelf.old }
@@ -54,24 +54,27 @@ pub fn run<F: Shelf, O: Sink, H: House, C: Clock + Sync, G: Gate + Sync>(
         Ok(answer) => answer,
         Err(halt) => return halt.status(),
     };
-    match print(out, answer.line.as_slice()) {
-        Ok(()) => answer.status,
+    let Ok(line) = answer.line(alloc) else {
+        return Halt::Memory.status();
+    };
+    match print(out, line.as_bytes()) {
+        Ok(()) => answer.status(),
         Err(halt) => halt.status(),
     }
 }
 
 /// The outcome of the words over the files.
 fn answer_of<F: Shelf>(alloc: Global, words: &Words, shelf: &mut F) -> Result<Answer, Halt>
-    ensures answer { IfOk result (λ a. ForSome (F.files shelf.old) (λ files. IsOutcome words.now files a.status a.line.items)) }
+    ensures answer { IfOk result (λ a. ForSome (F.files shelf.old) (λ files. IsOutcome words.now files a)) }
     ensures files { F.files shelf.new ≡ F.files shelf.old }
     ensures no_fall { F.faults shelf.old ≤ F.faults shelf.new }
     ensures failed { result ≡ Err HaltFailed → HasRisen (F.faults shelf.old) (F.faults shelf.new) }
     ensures sure { StaysSure (F.never_fails shelf.old) (F.never_fails shelf.new) (result ≡ Err HaltFailed) }
-    ensures cause { IfOk result (λ a. HasCause (F.absences shelf.old) (F.absences shelf.new) a.status a.line.items) }
+    ensures cause { IfOk result (HasCause (F.absences shelf.old) (F.absences shelf.new)) }
     ensures absences { F.absences shelf.old ≤ F.absences shelf.new }
 {
-    match words.replay_names() {
+    match words.replay_names(alloc)? {
         Some(names) => replay_files(alloc, shelf, names),
-        None => Ok(Answer::usage(alloc)?),
+        None => Ok(Answer::Usage),
     }
 }

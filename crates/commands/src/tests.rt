@@ -180,17 +180,23 @@ fn differences_of_requests(rt: HostRuntime) -> Result<(), Fail> {
     let alloc = rt.alloc();
     let arrive = Moment::Arrive(0);
     // not in the trace
-    assert!(rt; differs(alloc, &[arrive, Moment::Arrive(9)], b"differs: moment 1\n")?);
+    assert!(rt;
+        differs(
+            alloc,
+            &[Moment::Arrive(7)],
+            b"differs 2: moment 0 request 7\n"
+        )?
+    );
     // a second time
-    assert!(rt; differs(alloc, &[arrive, arrive], b"differs: moment 1\n")?);
+    assert!(rt; differs(alloc, &[arrive, arrive], b"differs 3: moment 1 request 0\n")?);
     // before the departure of a request that precedes it
     let early = [arrive, Moment::Arrive(1)];
-    assert!(rt; differs(alloc, &early, b"differs: moment 1\n")?);
+    assert!(rt; differs(alloc, &early, b"differs 4: moment 1 request 1\n")?);
     // not open
-    assert!(rt; differs(alloc, &[ACT_0], b"differs: moment 0\n")?);
-    assert!(rt; differs(alloc, &[Moment::Depart(1)], b"differs: moment 0\n")?);
-    let departed = [arrive, ACT_0, ACT_0, Moment::Depart(0), ACT_0];
-    assert!(rt; differs(alloc, &departed, b"differs: moment 4\n")?);
+    assert!(rt; differs(alloc, &[ACT_0], b"differs 5: moment 0 request 0\n")?);
+    let depart = Moment::Depart(0);
+    let departed = [arrive, ACT_0, ACT_0, depart, depart];
+    assert!(rt; differs(alloc, &departed, b"differs 5: moment 4 request 0\n")?);
     Ok(())
 }
 
@@ -200,20 +206,18 @@ fn differences_of_runs(rt: HostRuntime) -> Result<(), Fail> {
     let arrive = Moment::Arrive(0);
     // an operation at the end of the run
     let acts = [arrive, ACT_0, ACT_0, ACT_0];
-    assert!(rt; differs(alloc, &acts, b"differs: moment 3\n")?);
+    assert!(rt; differs(alloc, &acts, b"differs 6: moment 3 request 0\n")?);
     // a choice where there is none
-    let chosen = [arrive, Moment::Act(0, Choice::Number(1))];
-    assert!(rt; differs(alloc, &chosen, b"differs: moment 1\n")?);
+    let chosen = [arrive, Moment::Act(0, Choice::Number(0))];
+    assert!(rt; differs(alloc, &chosen, b"differs 7: moment 1 request 0\n")?);
     // a departure where the run goes on
     let early = [arrive, ACT_0, Moment::Depart(0)];
-    assert!(rt; differs(alloc, &early, b"differs: moment 2\n")?);
+    assert!(rt; differs(alloc, &early, b"differs 8: moment 2 request 0\n")?);
     // no departure
-    assert!(rt; differs(alloc, &[], b"differs: moment 0\n")?);
-    let open = [arrive, ACT_0, ACT_0];
-    assert!(rt; differs(alloc, &open, b"differs: moment 3\n")?);
+    assert!(rt; differs(alloc, &BOTH[..7], b"differs 10: request 1\n")?);
     // another response
     let trace = both_trace(alloc, b"2")?;
-    let line = b"differs: moment 7\n";
+    let line = b"differs 9: moment 7 request 1\n";
     assert!(rt; replays(alloc, PAGES, &trace, &BOTH, 1, line)?);
     Ok(())
 }
@@ -262,25 +266,75 @@ fn too_many_operations(rt: HostRuntime) -> Result<(), Fail> {
 #[test]
 fn inputs_at_fault(rt: HostRuntime) -> Result<(), Fail> {
     let alloc = rt.alloc();
-    let none = || Vec::new(alloc);
-    let cut = shelf_of(alloc, THREE, &THREE_TRACE[..53], THREE_SCHEDULE, none())?;
-    assert!(rt; ends(alloc, &NAMES, cut, 3, b"trace: not built\n")?);
     let hit = b"page \"/hit\" { let n = read(\"hits\"); echo n; }";
-    let branches = shelf_of(alloc, hit, THREE_TRACE, THREE_SCHEDULE, none())?;
+    let branches = shelf_of(alloc, hit, THREE_TRACE, THREE_SCHEDULE, Vec::new(alloc))?;
     assert!(rt; ends(alloc, &NAMES, branches, 3, b"program: not built\n")?);
-    let cut = shelf_of(alloc, THREE, THREE_TRACE, &THREE_SCHEDULE[..25], none())?;
-    assert!(rt; ends(alloc, &NAMES, cut, 3, b"schedule: not built\n")?);
+    let cut = &THREE_SCHEDULE[..25];
+    let unreadable = shelf_of(alloc, THREE, THREE_TRACE, cut, Vec::new(alloc))?;
+    assert!(rt;
+        ends(
+            alloc,
+            &NAMES,
+            unreadable,
+            1,
+            b"differs 1: unreadable at 17\n"
+        )?
+    );
 
     // the first in the order of the words tells
-    let mut two = MemShelf::new(alloc, none());
+    let mut two = MemShelf::new(alloc, Vec::new(alloc));
     two.put("p", THREE)?;
     assert!(rt; ends(alloc, &NAMES, two, 3, b"state: absent\n")?);
-    let mut two = MemShelf::new(alloc, none());
+    let mut two = MemShelf::new(alloc, Vec::new(alloc));
     two.put("p", THREE)?;
-    two.put("s", b"{ }")?;
-    assert!(rt; ends(alloc, &NAMES, two, 3, b"state: not built\n")?);
-    let empty = MemShelf::new(alloc, none());
+    two.put("s", b"[")?;
+    assert!(rt; ends(alloc, &NAMES, two, 3, b"state: kind 1\n")?);
+    let empty = MemShelf::new(alloc, Vec::new(alloc));
     assert!(rt; ends(alloc, &NAMES, empty, 3, b"program: absent\n")?);
+    Ok(())
+}
+
+#[test]
+fn cut_traces(rt: HostRuntime) -> Result<(), Fail> {
+    let alloc = rt.alloc();
+    let lines = [
+        (0, b"trace: unreadable at 0\n".as_slice()),
+        (7, b"trace: unreadable at 0\n"),
+        (9, b"trace: unreadable at 8\n"),
+        (37, b"trace: unreadable at 8\n"),
+        (38, b"trace: not balanced at request 0\n"),
+        (53, b"trace: unreadable at 38\n"),
+    ];
+    for (length, line) in lines {
+        let cut = &THREE_TRACE[..length];
+        let shelf = shelf_of(alloc, THREE, cut, THREE_SCHEDULE, Vec::new(alloc))?;
+        assert!(rt; ends(alloc, &NAMES, shelf, 3, line)?);
+    }
+    Ok(())
+}
+
+/// Both pages, where `/f` answers so, over this state.
+fn from_state(alloc: Global, first: &[u8], state: &[u8]) -> Result<MemShelf, AllocError> {
+    let mut trace = b"SSCOTRC1".to_vec(alloc)?;
+    push_exchange(&mut trace, 0, b"/f", 200, first)?;
+    push_exchange(&mut trace, 1, b"/g", 200, b"1")?;
+    let schedule = schedule_of(alloc, &BOTH)?;
+    let mut shelf = shelf_of(alloc, PAGES, &trace, &schedule, Vec::new(alloc))?;
+    shelf.put("s", state)?;
+    Ok(shelf)
+}
+
+#[test]
+fn states(rt: HostRuntime) -> Result<(), Fail> {
+    let alloc = rt.alloc();
+    let five = from_state(alloc, b"5", b"{\"registers\":[[\"B\",5]]}")?;
+    assert!(rt; ends(alloc, &NAMES, five, 0, b"agrees: moments 8\n")?);
+    let twice = from_state(alloc, b"", b"{\"registers\":[[\"B\",5],[\"B\",6]]}")?;
+    assert!(rt; ends(alloc, &NAMES, twice, 3, b"state: kind 5\n")?);
+    let tables = from_state(alloc, b"", b"{\"tables\":{}}")?;
+    assert!(rt; ends(alloc, &NAMES, tables, 3, b"state: kind 2\n")?);
+    let fraction = from_state(alloc, b"", b"{\"registers\":[[\"B\",1.0]]}")?;
+    assert!(rt; ends(alloc, &NAMES, fraction, 3, b"state: kind 2\n")?);
     Ok(())
 }
 
@@ -291,12 +345,41 @@ fn usage(rt: HostRuntime) -> Result<(), Fail> {
         ["replay", "p", "s", "t"].as_slice(),
         &["replay", "p", "s", "t", "c", "c"],
         &["replay", "p", "s", "-t", "c"],
+        &["replay", "p", "s", "t", "c", "--help"],
+        &["replay", "--help"],
+        &["replay", "-h", "p", "s", "t", "c"],
+        &["replay", "p", "s", "--", "t"],
+        &["--", "replay", "p", "s", "t", "c"],
         &["audit", "p", "s", "t", "c"],
+        &["help"],
         &[],
     ] {
         let empty = MemShelf::new(alloc, Vec::new(alloc));
         assert!(rt; ends(alloc, texts, empty, 2, b"usage\n")?);
     }
+    Ok(())
+}
+
+#[test]
+fn odd_names(rt: HostRuntime) -> Result<(), Fail> {
+    let alloc = rt.alloc();
+    for texts in [
+        ["replay", "-", "", "t", "c"].as_slice(),
+        &["replay", "--", "-", "", "t", "c"],
+        &["replay", "-", "", "t", "--", "c"],
+        &["replay", "-", "", "t", "c", "--"],
+    ] {
+        let mut shelf = MemShelf::new(alloc, Vec::new(alloc));
+        shelf.put("-", THREE)?;
+        shelf.put("", b"{}")?;
+        shelf.put("t", THREE_TRACE)?;
+        shelf.put("c", THREE_SCHEDULE)?;
+        assert!(rt; ends(alloc, texts, shelf, 0, b"agrees: moments 2\n")?);
+    }
+    let mut shelf = MemShelf::new(alloc, Vec::new(alloc));
+    shelf.put("-p", THREE)?;
+    let texts = ["replay", "--", "-p", "--", "t", "c"];
+    assert!(rt; ends(alloc, &texts, shelf, 3, b"state: absent\n")?);
     Ok(())
 }
 

@@ -1,6 +1,12 @@
-ghost use Rattle.std.specs.Prelude.{◌≡◌, ◌++◌, ◌∷◌, [], OnOk, OnErr, string_bytes};
-ghost use Rattle.commands.specs.Words.{is_name};
+ghost use Rattle.std.specs.Prelude.{◌≡◌, ◌++◌, ◌∷◌, [], map, option_map, IfOk, OnOk, OnErr, string_bytes};
+ghost use Rattle.clap.specs.Matches.{found_of};
+ghost use Rattle.clap.specs.Simple.{app_of};
+ghost use Rattle.commands.specs.Words.{in_four, names_in};
+ghost use Rattle.commands.specs.WordsApp.{found_names, replay_app};
+ghost use Rattle.commands.specs.NamesView.{names_of};
 
+use clap::error::ErrorKind;
+use clap::{Arg, ArgMatches, Command};
 use std::alloc::{AllocError, Global};
 use std::marker::Model;
 
@@ -29,9 +35,7 @@ pub struct ReplayNames<'a> {
 }
 
 impl Words {
-    ghost use Rattle.std.specs.Option.{option_map};
     ghost use Rattle.commands.specs.Words.{replay_names};
-    ghost use Rattle.commands.specs.NamesView.{names_of};
 
     pub fn new(alloc: Global) -> Words
         ensures { result ≡ [] }
@@ -53,32 +57,48 @@ impl Words {
     }
 
     /// The names, where the words are `replay` and four of them.
-    pub fn replay_names(&self) -> Option<ReplayNames<'_>>
-        ensures { option_map names_of result ≡ replay_names self.now }
+    pub fn replay_names(&self, alloc: Global) -> Result<Option<ReplayNames<'_>>, AllocError>
+        ensures { IfOk result (λ names. option_map names_of names ≡ replay_names self.now) }
     {
-        let [command, program, state, trace, schedule] = self.items.as_slice() else {
-            return None;
-        };
-        let are_names = is_name(program) && is_name(state) && is_name(trace) && is_name(schedule);
-        if command.as_str() == "replay" && are_names {
-            Some(ReplayNames {
-                program: program.as_str(),
-                state: state.as_str(),
-                trace: trace.as_str(),
-                schedule: schedule.as_str(),
-            })
-        } else {
-            None
+        match self.items.as_slice() {
+            [command, rest @ ..] if command.as_str() == "replay" => four_names(alloc, rest),
+            _ => Ok(None),
         }
     }
 }
 
-/// Whether the word is no option.
-fn is_name(word: &String) -> bool
-    ensures { result ≡ is_name (string_bytes word.now) }
+/// The names, where these words are four of them.
+fn four_names(alloc: Global, words: &[String]) -> Result<Option<ReplayNames<'_>>, AllocError>
+    ensures { IfOk result (λ names. option_map names_of names ≡ in_four (names_in (map string_bytes words.now))) }
 {
-    match word.as_bytes().first() {
-        Some(first) => *first != b'-',
-        None => true,
+    match replay_command(alloc)?.try_get_matches_from(words) {
+        Ok(matches) => Ok(found_names(&matches)),
+        Err(error) => match error.kind() {
+            ErrorKind::OutOfMemory => Err(AllocError),
+            _ => Ok(None),
+        },
     }
+}
+
+fn found_names<'a>(matches: &ArgMatches<'a>) -> Option<ReplayNames<'a>>
+    ensures { option_map names_of result ≡ found_names (found_of matches.now) }
+{
+    Some(ReplayNames {
+        program: matches.get_str("program")?,
+        state: matches.get_str("state")?,
+        trace: matches.get_str("trace")?,
+        schedule: matches.get_str("schedule")?,
+    })
+}
+
+/// The words behind `replay`.
+fn replay_command<'a>(alloc: Global) -> Result<Command<'a>, AllocError>
+    ensures { IfOk result (λ command. app_of command ≡ replay_app) }
+{
+    Command::new(alloc, "replay")
+        .no_binary_name(true)
+        .arg(Arg::new(alloc, "program").required(true))?
+        .arg(Arg::new(alloc, "state").required(true))?
+        .arg(Arg::new(alloc, "trace").required(true))?
+        .arg(Arg::new(alloc, "schedule").required(true))
 }

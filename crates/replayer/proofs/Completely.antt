@@ -16,8 +16,8 @@ use Rattle.script_meaning.specs.Conduct.{Ends}
 use Rattle.script_meaning.specs.Explains.{rid_of, Explains}
 use Rattle.script_meaning.specs.Replay.{Scene, opening, IsAllowed, IsAsTraced, after, Plays}
 use Rattle.replayer.specs.Differences.{has_arrived, is_too_early, is_same_response, arrival_fault, act_fault, departure_fault, moment_fault, fault_of, difference_from, difference_of}
-use Rattle.replayer.specs.declared.difference.Difference.TheVariants.{AtMoment}
-use Rattle.replayer.specs.declared.difference.Reason.TheVariants.{UnknownRequest, SecondArrival, TooEarly, BadChoice, OtherResponse}
+use Rattle.replayer.specs.declared.reason.ReplayReason.TheVariants.{AtMoment}
+use Rattle.replayer.specs.declared.reason.Reason.TheVariants.{UnknownRequest, SecondArrival, TooEarly, BadChoice, OtherResponse}
 use Rattle.replayer.proofs.Places.{nth_left, nth_next, nth_within, nth_before}
 use Rattle.replayer.proofs.DifferenceTests.{not_arrived, has_departed-at, asked_at, request_of-at, not_too_early, none_left}
 

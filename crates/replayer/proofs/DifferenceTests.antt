@@ -13,8 +13,8 @@ use Rattle.script_tree.specs.declared.schedule.Moment.TheVariants.{Arrive, Depar
 use Rattle.script_tree.specs.declared.trace.TraceEvent.{TraceEvent}
 use Rattle.script_tree.specs.declared.trace.TraceEvent.TheVariants.{Asked, Answered}
 use Rattle.replayer.specs.Differences.{is_arrival, is_departure, has_arrived, has_departed, is_too_early, first_not_departed}
-use Rattle.replayer.specs.declared.difference.Difference.{Difference}
-use Rattle.replayer.specs.declared.difference.Difference.TheVariants.{NotDeparted}
+use Rattle.replayer.specs.declared.reason.ReplayReason.{ReplayReason}
+use Rattle.replayer.specs.declared.reason.ReplayReason.TheVariants.{Open as LeftOpen}
 use Rattle.replayer.proofs.Places.{some_is, none_is_not, In, any_true, true_any, false_any, first_some, some_first}
 
 -- ---- arrivals and departures
@@ -129,7 +129,7 @@ not_too_early (Answered id y ∷ events) past r (suc j) q at_j before =
 
 -- ---- departures of all
 
-departed_first : (b : Bool) (id : ℕ) (rest : Option Difference) → cond b rest (Some (NotDeparted id)) ≡ None → (b ≡ true) × (rest ≡ None)
+departed_first : (b : Bool) (id : ℕ) (rest : Option ReplayReason) → cond b rest (Some (LeftOpen id)) ≡ None → (b ≡ true) × (rest ≡ None)
 departed_first true id rest e = (refl, e)
 departed_first false id rest e = absurd (none_is_not (sym e))
 
@@ -143,5 +143,5 @@ all_departed (Answered id y ∷ events) past r (suc i) q e h = all_departed even
 pub none_left : (trace : List TraceEvent) (past : List Moment) → ((r i : ℕ) (q : Request) → nth trace i ≡ Some (Asked r q) → has_departed past r ≡ true) → first_not_departed (has_departed past) trace ≡ None
 none_left [] past h = refl
 none_left (Asked id p ∷ events) past h =
-    ap (λ b. cond b (first_not_departed (has_departed past) events) (Some (NotDeparted id))) (h id 0 p refl) ∙ none_left events past (λ r i q e. h r (suc i) q e)
+    ap (λ b. cond b (first_not_departed (has_departed past) events) (Some (LeftOpen id))) (h id 0 p refl) ∙ none_left events past (λ r i q e. h r (suc i) q e)
 none_left (Answered id y ∷ events) past h = none_left events past (λ r i q e. h r (suc i) q e)

@@ -20,10 +20,10 @@ use Rattle.script_meaning.specs.Conduct.{Ending, Wants, Ends, Undefined}
 use Rattle.script_meaning.specs.Explains.{rid_of, IsWhole, Explains}
 use Rattle.script_meaning.specs.Replay.{Scene, opening, ending_with, next_of, IsAllowed, IsAsTraced, after_act, after, Plays}
 use Rattle.replayer.specs.Differences.{is_arrival, is_departure, has_arrived, has_departed, is_too_early, is_same_response, arrival_fault, act_fault, departure_fault, fault_of, first_not_departed, difference_from, difference_of}
-use Rattle.replayer.specs.declared.difference.Reason.{Reason}
-use Rattle.replayer.specs.declared.difference.Reason.TheVariants.{UnknownRequest, SecondArrival, TooEarly, BadChoice, OtherResponse}
-use Rattle.replayer.specs.declared.difference.Difference.{Difference}
-use Rattle.replayer.specs.declared.difference.Difference.TheVariants.{AtMoment}
+use Rattle.replayer.specs.declared.reason.Reason.{Reason}
+use Rattle.replayer.specs.declared.reason.Reason.TheVariants.{UnknownRequest, SecondArrival, TooEarly, BadChoice, OtherResponse}
+use Rattle.replayer.specs.declared.reason.ReplayReason.{ReplayReason}
+use Rattle.replayer.specs.declared.reason.ReplayReason.TheVariants.{AtMoment}
 use Rattle.replayer.proofs.Places.{some_is, none_is_not, nth_take, take_nth}
 use Rattle.replayer.proofs.DifferenceTests.{arrived_more, departed_more, arrived_at, has_arrived-at, departed_at, has_departed-at, asked_at, departed_before, all_departed}
 
@@ -173,10 +173,10 @@ module _ (program : List Declaration) (trace : List TraceEvent) where
   unfolding difference_from
   first_step past scene m ms e = go (fault_of program trace past scene m) refl e
     where
-      rest : Option Difference
+      rest : Option ReplayReason
       rest = difference_from program trace (past ++ m ∷ []) (after program trace scene m) ms
 
-      go : (o : Option Reason) → fault_of program trace past scene m ≡ o → ◌≡◌ {A = Option Difference} (elim o [ Some reason ↦ Some (AtMoment reason (length past) (rid_of m)) | None ↦ rest ]) None
+      go : (o : Option Reason) → fault_of program trace past scene m ≡ o → ◌≡◌ {A = Option ReplayReason} (elim o [ Some reason ↦ Some (AtMoment reason (length past) (rid_of m)) | None ↦ rest ]) None
           → (fault_of program trace past scene m ≡ None) × (rest ≡ None)
       go None is h = (is, h)
       go (Some reason) is h = absurd (none_is_not (sym h))

@@ -7,7 +7,7 @@ use Rattle.std.specs.List.{list_any}
 use Rattle.std.proofs.lemmas.List.Folds.{list_any-append}
 use Rattle.std.proofs.lemmas.Bool.{ltb-true, lt-ltb, cases_eq, eq-eqb, eqb-true}
 use Rattle.script_tree.specs.Datum.{Datum}
-use Rattle.script_tree.specs.Objects.{is_same, plausible, acted, holding, nothing_stored}
+use Rattle.script_tree.specs.Objects.{is_same, plausible, acted, holding}
 use Rattle.script_tree.specs.Requests.{Request}
 use Rattle.script_tree.specs.Traces.{request_of, response_of}
 use Rattle.script_tree.specs.declared.operation.Choice.{Choice}
@@ -23,14 +23,14 @@ use Rattle.script_tree.specs.declared.trace.TraceEvent.TheVariants.{Asked, Answe
 use Rattle.script_meaning.specs.Conduct.{Ending, Wants, Ends}
 use Rattle.script_meaning.specs.Replay.{Scene, opening, with_request, after, after_act, and_answer, ending_of, ending_with, next_of}
 use Rattle.replayer.specs.Differences.{has_arrived, has_departed, is_arrival, is_departure, is_too_early, first_not_departed, act_fault, departure_fault, is_same_response, moment_fault, fault_of, difference_from}
-use Rattle.replayer.specs.declared.difference.Difference.TheVariants.{AtMoment, NotDeparted}
-use Rattle.replayer.specs.declared.difference.Reason.TheVariants.{BadChoice, OtherResponse, UnknownRequest}
+use Rattle.replayer.specs.declared.reason.ReplayReason.TheVariants.{AtMoment, Open as LeftOpen}
+use Rattle.replayer.specs.declared.reason.Reason.TheVariants.{BadChoice, OtherResponse, UnknownRequest}
 use Rattle.replayer.specs.OnRegisters.{objects_of}
 use Rattle.replayer.specs.Places.{first_place, is_request}
 use Rattle.replayer.specs.Runners.{IsReached}
 use Rattle.replayer.specs.StandingWords.{Standings, standing_in, answers_in, departed_in, is_departed, Puts, waits, first_waiting, AreReached}
 use Rattle.replayer.specs.Stages.{Shows, IsStep}
-use Rattle.replayer.specs.declared.difference.Reason.{Reason}
+use Rattle.replayer.specs.declared.reason.Reason.{Reason}
 use Rattle.script_meaning.specs.Explains.{rid_of}
 use Rattle.std.specs.declared.alloc.AllocError.{AllocError}
 use Rattle.replayer.specs.declared.stage.Stage.{Stage}
@@ -258,12 +258,12 @@ departure_told program trace scene r response path b next p = ap (departure_faul
 
 -- ---- before the first moment
 
-pub shows_opening : (trace : List TraceEvent) (stage : Stage) → ((o : Object) → nothing_stored o ≡ objects_of stage.registers.values o) → stage.standings.by_id.entries ≡ [] → stage.waiting ≡ first_waiting (departed_in stage.standings.by_id) trace → Shows trace [] (opening nothing_stored) stage
+pub shows_opening : (trace : List TraceEvent) (stage : Stage) → stage.standings.by_id.entries ≡ [] → stage.waiting ≡ first_waiting (departed_in stage.standings.by_id) trace → Shows trace [] (opening (objects_of stage.registers.values)) stage
 unfolding has_arrived has_departed
-shows_opening trace stage objects none waits =
+shows_opening trace stage none waits =
     let nobody : (r : ℕ) → standing_in stage.standings.by_id r ≡ None = λ r. ap (lookup (is_at (nat_cmp r))) none in
     record {
-      objects = objects;
+      objects = λ o. refl;
       answers = λ r. sym (ap answers_in (nobody r));
       arrived = λ r. sym (ap is_some (nobody r));
       departed = λ r. sym (ap is_departed (nobody r));
@@ -298,7 +298,7 @@ stops_here program trace past scene m ms reason e = rw (e, difference_from) refl
 
 left_over : (past : List Moment) (d : ℕ → Bool) → ((x : ℕ) → has_departed past x ≡ d x) → (es : List TraceEvent) → first_not_departed (has_departed past) es ≡ first_not_departed d es
 left_over past d h [] = refl
-left_over past d h (Asked id q ∷ es) = ap (λ b. cond b (first_not_departed (has_departed past) es) (Some (NotDeparted id))) (h id) ∙ ap (λ o. cond (d id) o (Some (NotDeparted id))) (left_over past d h es)
+left_over past d h (Asked id q ∷ es) = ap (λ b. cond b (first_not_departed (has_departed past) es) (Some (LeftOpen id))) (h id) ∙ ap (λ o. cond (d id) o (Some (LeftOpen id))) (left_over past d h es)
 left_over past d h (Answered id x ∷ es) = left_over past d h es
 
 pub ends_here : (program : List Declaration) (trace : List TraceEvent) (past : List Moment) (scene : Scene) (d : ℕ → Bool) → ((x : ℕ) → has_departed past x ≡ d x) → difference_from program trace past scene [] ≡ first_not_departed d trace

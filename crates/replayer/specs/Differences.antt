@@ -1,5 +1,5 @@
--- Where a schedule first differs from a trace.
-use Rattle.std.specs.Prelude.{ℕ, Bool, false, ◌||◌, not, if◌then◌else◌, List, [], ◌∷◌, ◌++◌, length, Option, Some, None, nat_eq, is_none}
+-- Where a schedule first differs from a trace, and what a replay finds.
+use Rattle.std.specs.Prelude.{ℕ, Bool, false, ◌||◌, not, if◌then◌else◌, List, [], ◌∷◌, ◌++◌, length, Option, Some, None, Result, Ok, Err, nat_eq, is_none}
 use Rattle.std.specs.List.{list_any}
 use Rattle.std.specs.Str.{bytes_eq}
 use Rattle.script_tree.specs.Objects.{Objects, plausible}
@@ -14,10 +14,12 @@ use Rattle.script_tree.specs.declared.trace.TraceEvent.TheVariants.{Asked, Answe
 use Rattle.script_meaning.specs.Conduct.{Ending, Wants, Ends}
 use Rattle.script_meaning.specs.Explains.{rid_of}
 use Rattle.script_meaning.specs.Replay.{Scene, opening, next_of, after}
-use Rattle.replayer.specs.declared.difference.Reason.{Reason}
-use Rattle.replayer.specs.declared.difference.Reason.TheVariants.{UnknownRequest, SecondArrival, TooEarly, NotOpen, RunEnds, BadChoice, WantsOperation, OtherResponse}
-use Rattle.replayer.specs.declared.difference.Difference.{Difference}
-use Rattle.replayer.specs.declared.difference.Difference.TheVariants.{AtMoment, NotDeparted}
+use Rattle.replayer.specs.declared.reason.Reason.{Reason}
+use Rattle.replayer.specs.declared.reason.Reason.TheVariants.{UnknownRequest, SecondArrival, TooEarly, NotOpen, RunEnds, BadChoice, WantsOperation, OtherResponse}
+use Rattle.replayer.specs.declared.reason.ReplayReason.{ReplayReason}
+use Rattle.replayer.specs.declared.reason.ReplayReason.TheVariants.{Unreadable, AtMoment, Open as LeftOpen}
+use Rattle.replayer.specs.declared.reason.Replayed.{Replayed}
+use Rattle.replayer.specs.declared.reason.Replayed.TheVariants.{Agrees, Differs}
 
 abbrev pub reason_number : Reason → ℕ
 reason_number UnknownRequest = 2
@@ -28,6 +30,11 @@ reason_number RunEnds = 6
 reason_number BadChoice = 7
 reason_number WantsOperation = 8
 reason_number OtherResponse = 9
+
+abbrev pub replay_number : ReplayReason → ℕ
+replay_number (Unreadable at) = 1
+replay_number (AtMoment reason moment rid) = reason_number reason
+replay_number (LeftOpen rid) = 10
 
 -- ---- what the moments so far tell of a request
 
@@ -85,13 +92,13 @@ fault_of program trace past scene m =
 -- ---- the first that fails
 
 -- the first request of the trace that hasn't departed
-abbrev pub first_not_departed : (ℕ → Bool) → List TraceEvent → Option Difference
+abbrev pub first_not_departed : (ℕ → Bool) → List TraceEvent → Option ReplayReason
 first_not_departed departed [] = None
-first_not_departed departed (Asked id q ∷ events) = if departed id then first_not_departed departed events else Some (NotDeparted id)
+first_not_departed departed (Asked id q ∷ events) = if departed id then first_not_departed departed events else Some (LeftOpen id)
 first_not_departed departed (Answered id x ∷ events) = first_not_departed departed events
 
 -- the first of these moments that fails, where those so far led to this scene; after the last, a request that hasn't departed
-unfoldable pub difference_from : List Declaration → List TraceEvent → List Moment → Scene → List Moment → Option Difference
+unfoldable pub difference_from : List Declaration → List TraceEvent → List Moment → Scene → List Moment → Option ReplayReason
 difference_from program trace past scene [] = first_not_departed (has_departed past) trace
 difference_from program trace past scene (m ∷ ms) = elim (fault_of program trace past scene m) [
   | Some reason ↦ Some (AtMoment reason (length past) (rid_of m))
@@ -99,5 +106,14 @@ difference_from program trace past scene (m ∷ ms) = elim (fault_of program tra
 ]
 
 -- where a schedule first differs from a trace, if it does
-abbrev pub difference_of : List Declaration → Objects → List TraceEvent → List Moment → Option Difference
+abbrev pub difference_of : List Declaration → Objects → List TraceEvent → List Moment → Option ReplayReason
 difference_of program start trace schedule = difference_from program trace [] (opening start) schedule
+
+abbrev pub verdict : Option ReplayReason → Replayed
+verdict None = Agrees
+verdict (Some reason) = Differs reason
+
+-- what a replay finds of a schedule, or of a file that is none from a byte on
+abbrev pub replayed : List Declaration → Objects → List TraceEvent → Result (List Moment) ℕ → Replayed
+replayed program start trace (Ok schedule) = verdict (difference_of program start trace schedule)
+replayed program start trace (Err at) = Differs (Unreadable at)

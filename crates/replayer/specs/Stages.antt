@@ -8,7 +8,7 @@ use Rattle.script_meaning.specs.Replay.{Scene, after}
 use Rattle.replayer.specs.Differences.{has_arrived, has_departed}
 use Rattle.replayer.specs.OnRegisters.{objects_of}
 use Rattle.replayer.specs.StandingWords.{standing_in, answers_in, departed_in, first_waiting}
-use Rattle.replayer.specs.declared.difference.Reason.{Reason}
+use Rattle.replayer.specs.declared.reason.Reason.{Reason}
 use Rattle.replayer.specs.declared.stage.Stage.{Stage}
 
 -- Registers, standings and the place of the first response that is waited for are those of the scene after the moments so far.

@@ -1,10 +1,10 @@
 //! A schedule against a trace: it agrees, or the first moment that differs, and why.
 #![tactic(auto)]
 
-pub mod difference;
 pub mod indexed_trace;
 pub mod law;
 pub mod plain_runner;
+pub mod reason;
 pub mod registers;
 pub mod replay;
 pub mod runner;
@@ -13,5 +13,5 @@ pub mod standing;
 #[cfg(test)]
 mod tests;
 
-pub use difference::{Difference, Reason};
-pub use replay::replay_empty;
+pub use reason::{Reason, ReplayReason, Replayed};
+pub use registers::Registers;

@@ -1,4 +1,4 @@
-ghost use Rattle.std.specs.Prelude.{◌≡◌, List, ℕ, Some, IfOk, OnOk, OnErr, if◌then◌else◌};
+ghost use Rattle.std.specs.Prelude.{◌≡◌, List, ℕ, Some, is_some, IfOk, OnOk, OnErr, if◌then◌else◌};
 ghost use Rattle.std.specs.BTreeMap.{get};
 ghost use Rattle.std.specs.Cmp.Lexicographic.{slice_cmp};
 ghost use Rattle.std.specs.Ordering.{nat_cmp};
@@ -76,7 +76,18 @@ impl Registers {
         ensures written { OnOk result ((x : List ℕ) → get (slice_cmp nat_cmp) self.new.values x ≡ (if bytes_eq name x then Some value else get (slice_cmp nat_cmp) self.old.values x)) }
         ensures unwritten { OnErr result (self.new.values.entries ≡ self.old.values.entries) }
     {
-        self.values.insert(name, value)?;
+        self.put(name, value)?;
         Ok(())
+    }
+
+    /// Gives a register its value, and tells whether it had one. The registers stay as they are where memory is
+    /// wanting.
+    pub fn put(&mut self, name: Text, value: Value) -> Result<bool, AllocError>
+        ensures had { IfOk result (λ had. had ≡ is_some (get (slice_cmp nat_cmp) self.old.values name)) }
+        ensures written { OnOk result ((x : List ℕ) → get (slice_cmp nat_cmp) self.new.values x ≡ (if bytes_eq name x then Some value else get (slice_cmp nat_cmp) self.old.values x)) }
+        ensures unwritten { OnErr result (self.new.values.entries ≡ self.old.values.entries) }
+    {
+        let before = self.values.insert(name, value)?;
+        Ok(before.is_some())
     }
 }

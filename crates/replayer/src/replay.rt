@@ -1,11 +1,17 @@
-ghost use Rattle.std.specs.Prelude.{◌≡◌, IfOk, ◌<◌, ◌^◌, length};
-ghost use Rattle.script_tree.specs.Objects.{nothing_stored};
+ghost use Rattle.std.specs.Prelude.{◌≡◌, ◌↔◌, IfOk, ◌<◌, ◌^◌, length};
+ghost use Rattle.std.specs.Result.{result_map_both};
 ghost use Rattle.script_tree.specs.StraightLine.{IsStraightLine};
-ghost use Rattle.replayer.specs.Differences.{difference_of};
+ghost use Rattle.script_tree.specs.Traces.{IsBalanced};
+ghost use Rattle.replayer.specs.Differences.{difference_of, replayed};
+ghost use Rattle.replayer.specs.Laws.{ExplainsIfRead};
+ghost use Rattle.replayer.specs.OnRegisters.{objects_of};
+ghost use Rattle.replayer.specs.declared.reason.Replayed.TheVariants.{Agrees};
 
-use crate::difference::Difference;
 use crate::indexed_trace::IndexedTrace;
+use crate::law::agreement;
 use crate::plain_runner::PlainRunner;
+use crate::reason::{ReplayReason, Replayed};
+use crate::registers::Registers;
 use crate::runner::Runner;
 use crate::stage::{Stage, rid_of};
 use script_tree::schedule::Schedule;
@@ -13,25 +19,27 @@ use script_tree::syntax::program::Program;
 use script_tree::trace::Trace;
 use std::alloc::{AllocError, Global};
 
-/// Where the schedule first differs from the trace, if it does. Requests are run by the runner.
+/// Where the schedule first differs from the trace, if it does, from what these registers hold. Requests
+/// are run by the runner.
 pub fn replay_by<R: Runner>(
     alloc: Global,
     runner: &R,
     program: &Program,
+    start: Registers,
     trace: &Trace,
     schedule: &Schedule,
-) -> Result<Option<Difference>, AllocError>
+) -> Result<Option<ReplayReason>, AllocError>
     requires straight { IsStraightLine program.now }
     requires few { length program.now < 2 ^ 32 }
-    ensures { IfOk result (λ d. d ≡ difference_of program.now nothing_stored trace.now schedule.now) }
+    ensures { IfOk result (λ d. d ≡ difference_of program.now (objects_of start.values) trace.now schedule.now) }
 {
     let events = IndexedTrace::new(alloc, trace.as_slice())?;
     let moments = schedule.as_slice();
-    let mut stage = Stage::new(alloc, &events);
+    let mut stage = Stage::new(alloc, start, &events);
     for place in 0..moments.len() {
         let moment = moments[place];
         if let Some(reason) = stage.step(alloc, runner, program, &events, moment)? {
-            return Ok(Some(Difference::AtMoment {
+            return Ok(Some(ReplayReason::AtMoment {
                 reason,
                 moment: place as u64,
                 rid: rid_of(moment),
@@ -41,16 +49,28 @@ pub fn replay_by<R: Runner>(
     Ok(stage.first_not_departed(&events))
 }
 
-/// Where the schedule first differs from the trace, if it does, from a start where nothing is stored.
-pub fn replay_empty(
+/// Replays a schedule against a trace, moment by moment, from what these registers hold; the offset of its
+/// first bad record stands for a schedule that can't be read.
+pub fn replay(
     alloc: Global,
     program: &Program,
+    start: Registers,
     trace: &Trace,
-    schedule: &Schedule,
-) -> Result<Option<Difference>, AllocError>
+    schedule: Result<&Schedule, u64>,
+) -> Result<Replayed, AllocError>
     requires straight { IsStraightLine program.now }
     requires few { length program.now < 2 ^ 32 }
-    ensures { IfOk result (λ d. d ≡ difference_of program.now nothing_stored trace.now schedule.now) }
+    requires balanced { IsBalanced trace.now }
+    ensures replayed { IfOk result (λ r. r ≡ replayed program.now (objects_of start.values) trace.now (result_map_both (λ s. s.now) (λ at. at) schedule.entry)) }
+    ensures agrees { IfOk result (λ r. (r ≡ Agrees) ↔ ExplainsIfRead program.now (objects_of start.values) trace.now (result_map_both (λ s. s.now) (λ at. at) schedule.entry)) }
 {
-    replay_by(alloc, &PlainRunner, program, trace, schedule)
+    agreement();
+    let schedule = match schedule {
+        Ok(schedule) => schedule,
+        Err(at) => return Ok(Replayed::Differs(ReplayReason::Unreadable(at))),
+    };
+    match replay_by(alloc, &PlainRunner, program, start, trace, schedule)? {
+        Some(reason) => Ok(Replayed::Differs(reason)),
+        None => Ok(Replayed::Agrees),
+    }
 }

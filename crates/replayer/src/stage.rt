@@ -1,5 +1,4 @@
 ghost use Rattle.std.specs.Prelude.{◌≡◌, ℕ, List, [], ◌∷◌, ◌++◌, Option, None, IfOk, option_copied, ◌<◌, ◌^◌, length};
-ghost use Rattle.script_tree.specs.Objects.{nothing_stored};
 ghost use Rattle.script_tree.specs.StraightLine.{IsStraightLine};
 ghost use Rattle.script_tree.specs.Traces.{request_of};
 ghost use Rattle.script_tree.specs.declared.schedule.Moment.{Moment as AnyMoment};
@@ -9,10 +8,11 @@ ghost use Rattle.script_meaning.specs.Replay.{Scene, opening, ending_with};
 ghost use Rattle.replayer.specs.Differences.{is_too_early, is_same_response, moment_fault, fault_of, first_not_departed};
 ghost use Rattle.replayer.specs.Runners.{IsNextIfOpen};
 ghost use Rattle.replayer.specs.Stages.{Shows, IsStep};
+ghost use Rattle.replayer.specs.OnRegisters.{objects_of};
 ghost use Rattle.replayer.specs.StandingWords.{standing_in, answers_in, departed_in, AreReached};
 
-use crate::difference::{Difference, Reason};
 use crate::indexed_trace::IndexedTrace;
+use crate::reason::{Reason, ReplayReason};
 use crate::registers::Registers;
 use crate::runner::{Next, Runner};
 use crate::standing::{Standing, Standings};
@@ -33,15 +33,15 @@ pub struct Stage {
 }
 
 impl Stage {
-    /// Before the first moment.
-    pub fn new(alloc: Global, trace: &IndexedTrace) -> Stage
-        ensures shown { Shows trace.now.events.now [] (opening nothing_stored) result }
+    /// Before the first moment, where the registers hold this.
+    pub fn new(alloc: Global, start: Registers, trace: &IndexedTrace) -> Stage
+        ensures shown { Shows trace.now.events.now [] (opening (objects_of start.values)) result }
         ensures reached { (program : List Declaration) → AreReached program trace.now.events.now result.standings.by_id }
     {
         let standings = Standings::new(alloc);
         let waiting = standings.first_waiting(trace.events(), 0);
         Stage {
-            registers: Registers::new(alloc),
+            registers: start,
             standings,
             waiting,
         }
@@ -178,7 +178,7 @@ impl Stage {
     }
 
     /// After the last moment: the first request of the trace that has not departed.
-    pub fn first_not_departed(&self, trace: &IndexedTrace) -> Option<Difference>
+    pub fn first_not_departed(&self, trace: &IndexedTrace) -> Option<ReplayReason>
         ensures { result ≡ first_not_departed (departed_in self.now.standings.by_id) trace.now.events.now }
     {
         self.standings.first_not_departed(trace.events())

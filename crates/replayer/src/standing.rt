@@ -4,7 +4,7 @@ ghost use Rattle.script_tree.specs.Datum.{Datum};
 ghost use Rattle.replayer.specs.Differences.{first_not_departed};
 ghost use Rattle.replayer.specs.StandingWords.{standing_in, departed_in, answers_in, Puts, waits, first_waiting};
 
-use crate::difference::Difference;
+use crate::reason::ReplayReason;
 use script_tree::trace::TraceEvent;
 use script_tree::value::{Value, Values};
 use std::alloc::{AllocError, Global};
@@ -99,13 +99,13 @@ impl Standings {
     }
 
     /// The first request of these that has not departed.
-    pub fn first_not_departed(&self, events: &[TraceEvent]) -> Option<Difference>
+    pub fn first_not_departed(&self, events: &[TraceEvent]) -> Option<ReplayReason>
         ensures { result ≡ first_not_departed (departed_in self.now.by_id) events.now }
     {
         for event in events {
             if let TraceEvent::Asked(id, _) = event {
                 if !self.has_departed(*id) {
-                    return Some(Difference::NotDeparted { rid: *id });
+                    return Some(ReplayReason::Open(*id));
                 }
             }
         }

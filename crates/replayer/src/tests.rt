@@ -1,4 +1,5 @@
-use crate::difference::{Difference, Reason};
+use crate::reason::{Reason, ReplayReason};
+use crate::registers::Registers;
 use crate::replay::replay_by;
 use crate::runner::{Next, Runner};
 use script_tree::operation::Choice;
@@ -55,15 +56,22 @@ fn one_after_the_other(alloc: Global) -> Result<Trace, Fail> {
     Ok(Trace::from_vec(events))
 }
 
-fn played(alloc: Global, moments: &[Moment]) -> Result<Option<Difference>, Fail> {
+fn played(alloc: Global, moments: &[Moment]) -> Result<Option<ReplayReason>, Fail> {
     let program = Program::from_tree(Tree::from_vec(Vec::new(alloc)));
     let trace = one_after_the_other(alloc)?;
     let schedule = Schedule::from_vec(Vec::from_slice(alloc, moments)?);
-    Ok(replay_by(alloc, &Idle, &program, &trace, &schedule)?)
+    Ok(replay_by(
+        alloc,
+        &Idle,
+        &program,
+        Registers::new(alloc),
+        &trace,
+        &schedule,
+    )?)
 }
 
-fn at(reason: Reason, moment: u64, rid: u32) -> Option<Difference> {
-    Some(Difference::AtMoment {
+fn at(reason: Reason, moment: u64, rid: u32) -> Option<ReplayReason> {
+    Some(ReplayReason::AtMoment {
         reason,
         moment,
         rid,
@@ -94,9 +102,6 @@ fn first_differences(rt: HostRuntime) -> Result<(), Fail> {
         played(alloc, &[Moment::Depart(3)])?,
         at(Reason::NotOpen, 0, 3)
     );
-    assert_eq!(rt;
-        played(alloc, &[arrival])?,
-        Some(Difference::NotDeparted { rid: 7 })
-    );
+    assert_eq!(rt; played(alloc, &[arrival])?, Some(ReplayReason::Open(7)));
     Ok(())
 }

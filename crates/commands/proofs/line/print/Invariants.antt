@@ -1,5 +1,5 @@
 use Rattle.std.proofs.Common.{◌≡◌, ◌≤◌, ◌-◌, length, take}
-use Rattle.commands.specs.Lines.{and_then}
+use Rattle.commands.specs.Writing.{and_then}
 use Rattle.commands.proofs.line.print.Given as goal
 
 -- what is done of the line is written

@@ -1,12 +1,12 @@
-use Rattle.std.proofs.Common.{inl, inr}
+use Rattle.std.proofs.Common.{◌∙◌, ap, inr, Ok, Err, length}
+use Rattle.commands.specs.Lines.{told}
 use Rattle.commands.proofs.replay.replay_bytes.Goals as goal
 
-pub returns-in_ok-not_built-in-Err-Unreadable-clause-answer : goal.returns-in_ok-not_built-in-Err-Unreadable-clause-answer
-returns-in_ok-not_built-in-Err-Unreadable-clause-answer c = λ short.
-    let exact = c.reading_is_exact.ensures in
-    let fault = c.in-Err-Unreadable.ensures in
-    let told = c.in_ok-not_built-in-Err-Unreadable.ensures.told in
-    inl (inr (λ schedule spelled. c.reading_is_exact.ensures.no_reading_at_fault _ _ _ (rw c.in-Err-Unreadable.field-0-is at fault) spelled), told.0, told.1)
+pub returns-in_ok-replayed-in-Err-Unreadable-clause-answer : goal.returns-in_ok-replayed-in-Err-Unreadable-clause-answer
+returns-in_ok-replayed-in-Err-Unreadable-clause-answer c = λ short.
+    let bad = rw c.in-Err-Unreadable.field-0-is at c.in-Err-Unreadable.ensures in
+    inr (inr (Err c.in-Err-Unreadable.at, short, bad, c.told.ensures ∙ ap (told 0) c.in_ok-replayed-in-Err-Unreadable.ensures.replayed))
 
-pub returns-in_ok-not_built-in-Err-Unreadable-clause-cause : goal.returns-in_ok-not_built-in-Err-Unreadable-clause-cause
-returns-in_ok-not_built-in-Err-Unreadable-clause-cause c = λ three. inr c.in_ok-not_built-in-Err-Unreadable.ensures.says
+pub returns-in_ok-replayed-in-Ok-clause-answer : goal.returns-in_ok-replayed-in-Ok-clause-answer
+returns-in_ok-replayed-in-Ok-clause-answer c = λ short.
+    inr (inr (Ok c.in-Ok.schedule, short, c.in-Ok.ensures, c.told-in-Ok.ensures ∙ (λ i. told (length (c.as_slice.ensures i)) (c.in_ok-replayed-in-Ok.ensures.replayed i))))

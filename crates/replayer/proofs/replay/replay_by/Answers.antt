@@ -1,18 +1,19 @@
 use Rattle.std.proofs.Common.{◌≡◌, ◌∙◌, ap, sym, subst, ◌+◌, ◌<◌, [], ◌∷◌, ◌++◌, Some, length, take, drop, get_or, arith}
 use Rattle.std.proofs.lemmas.List.{take_more, drop_more, length-take-le, drop_all}
-use Rattle.script_tree.specs.Objects.{nothing_stored}
 use Rattle.script_tree.specs.declared.schedule.Moment.TheVariants.{Arrive}
 use Rattle.script_meaning.specs.Replay.{after}
 use Rattle.replayer.specs.Differences.{difference_from, difference_of}
+use Rattle.replayer.specs.OnRegisters.{objects_of}
 use Rattle.replayer.specs.StandingWords.{departed_in}
 use Rattle.replayer.specs.Stages.{Shows}
-use Rattle.replayer.specs.declared.difference.Difference.TheVariants.{AtMoment}
+use Rattle.replayer.specs.declared.reason.ReplayReason.TheVariants.{AtMoment}
 use Rattle.replayer.proofs.StageFacts.{goes_on, stops_here, ends_here}
 use Rattle.replayer.proofs.replay.replay_by.Goals as goal
 
 pub returns-in-Some : goal.returns-in-Some
 returns-in-Some g c =
     let program = c.args.program.now in
+    let start = objects_of c.args.start.values in
     let events = c.in_ok-events.events.events.now in
     let ms = c.as_slice-moments.result.now in
     let place = c.loop-place.place in
@@ -25,8 +26,8 @@ returns-in-Some g c =
     ap (λ k. Some (AtMoment c.in-Some.reason k c.rid_of.result)) (sym long)
     ∙ ap (λ r. Some (AtMoment c.in-Some.reason (length (take place ms)) r)) c.rid_of.ensures
     ∙ sym stop ∙ sym shown.2
-    ∙ ap (λ es. difference_of program nothing_stored es ms) (c.in_ok-events.ensures ∙ c.as_slice.ensures)
-    ∙ ap (difference_of program nothing_stored c.args.trace.now) c.as_slice-moments.ensures
+    ∙ ap (λ es. difference_of program start es ms) (c.in_ok-events.ensures ∙ c.as_slice.ensures)
+    ∙ ap (difference_of program start c.args.trace.now) c.as_slice-moments.ensures
 
 pub loop-place-preserved : goal.loop-place-preserved
 loop-place-preserved g c =
@@ -55,6 +56,7 @@ loop-place-preserved g c =
 pub returns : goal.returns
 returns g c =
     let program = c.args.program.now in
+    let start = objects_of c.args.start.values in
     let events = c.in_ok-events.events.events.now in
     let ms = c.as_slice-moments.result.now in
     let place = c.loop-place.place in
@@ -64,5 +66,5 @@ returns g c =
     ∙ sym (ends_here program events (take place ms) shown.0 (departed_in c.loop-place.stage.standings.by_id) shown.1.departed)
     ∙ ap (difference_from program events (take place ms) shown.0) (sym none)
     ∙ sym shown.2
-    ∙ ap (λ es. difference_of program nothing_stored es ms) (c.in_ok-events.ensures ∙ c.as_slice.ensures)
-    ∙ ap (difference_of program nothing_stored c.args.trace.now) c.as_slice-moments.ensures
+    ∙ ap (λ es. difference_of program start es ms) (c.in_ok-events.ensures ∙ c.as_slice.ensures)
+    ∙ ap (difference_of program start c.args.trace.now) c.as_slice-moments.ensures

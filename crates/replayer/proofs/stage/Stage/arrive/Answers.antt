@@ -4,7 +4,7 @@ use Rattle.script_tree.specs.declared.trace.TraceEvent.{TraceEvent}
 use Rattle.replayer.specs.Differences.{has_arrived, is_too_early, arrival_fault}
 use Rattle.replayer.specs.Runners.{IsReached, begun}
 use Rattle.replayer.specs.StandingWords.{Puts}
-use Rattle.replayer.specs.declared.difference.Reason.TheVariants.{SecondArrival, TooEarly}
+use Rattle.replayer.specs.declared.reason.Reason.TheVariants.{SecondArrival, TooEarly}
 use Rattle.replayer.specs.declared.standing.Standing.TheVariants.{Open}
 use Rattle.replayer.proofs.StageFacts.{shows_arrival, reached_more}
 use Rattle.replayer.proofs.stage.Stage.arrive.Goals as goal

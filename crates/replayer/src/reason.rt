@@ -1,5 +1,5 @@
 ghost use Rattle.std.specs.Prelude.{◌≡◌};
-ghost use Rattle.replayer.specs.Differences.{reason_number};
+ghost use Rattle.replayer.specs.Differences.{reason_number, replay_number};
 
 /// Why a moment of a schedule is not one of the trace. Reasons are tested in this order.
 #[derive(Clone, Copy, Debug, PartialEq, Eq)]
@@ -31,17 +31,37 @@ impl Reason {
     }
 }
 
-/// Where a schedule first differs from a trace.
+/// Why a schedule doesn't agree with a trace.
 #[derive(Clone, Copy, Debug, PartialEq, Eq)]
-pub enum Difference {
-    /// At this moment, counted from 0, of this request.
+pub enum ReplayReason {
+    /// The schedule is not in its grammar: its first bad record begins at this byte.
+    Unreadable(u64),
+    /// The first moment, counted from 0, that is not one of the trace; it is of this request.
     AtMoment {
         reason: Reason,
         moment: u64,
         rid: u32,
     },
     /// After the last moment: this request, the first one by the trace, has not departed.
-    NotDeparted {
-        rid: u32,
-    },
+    Open(u32),
+}
+
+impl ReplayReason {
+    /// The number by which it is printed: docs/formats.md.
+    pub fn number(self) -> u8
+        ensures { result ≡ replay_number self }
+    {
+        match self {
+            ReplayReason::Unreadable(_) => 1,
+            ReplayReason::AtMoment { reason, .. } => reason.number(),
+            ReplayReason::Open(_) => 10,
+        }
+    }
+}
+
+/// What a replay finds.
+#[derive(Clone, Copy, Debug, PartialEq, Eq)]
+pub enum Replayed {
+    Agrees,
+    Differs(ReplayReason),
 }

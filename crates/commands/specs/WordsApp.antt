@@ -1,0 +1,25 @@
+-- The command whose words `clap` reads behind `replay`.
+use Rattle.std.specs.Prelude.{ℕ, List, true, codes, Option, Some}
+use Rattle.clap.specs.Matches.{first_value}
+use Rattle.clap.specs.Walk.{Rule}
+use Rattle.clap.specs.declared.parser.matches.Found.{Found}
+use Rattle.clap.specs.Simple.{App, new_app, new_rule, on_top, with_rule}
+use Rattle.wire.specs.Fields.{◌>>=◌}
+use Rattle.commands.specs.Words.{ReplayNames}
+
+-- a name that has to be there
+abbrev pub name_rule : List ℕ → Rule
+name_rule id = record (new_rule id) { required = true }
+
+abbrev pub replay_app : App
+replay_app = with_rule (with_rule (with_rule (with_rule (on_top (λ s. record s { no_binary_name = true }) (new_app (codes "replay")))
+    (name_rule (codes "program"))) (name_rule (codes "state"))) (name_rule (codes "trace"))) (name_rule (codes "schedule"))
+
+-- the names that were found
+abbrev pub found_names : Found → Option ReplayNames
+found_names found = do
+  program ← first_value found (codes "program")
+  state ← first_value found (codes "state")
+  trace ← first_value found (codes "trace")
+  schedule ← first_value found (codes "schedule")
+  Some (record { program = program; state = state; trace = trace; schedule = schedule })

@@ -10,10 +10,10 @@ use Rattle.script_tree.specs.declared.syntax.declaration.Declaration.{Declaratio
 use Rattle.script_tree.specs.declared.trace.TraceEvent.{TraceEvent}
 use Rattle.replayer.specs.Differences.{replayed}
 use Rattle.script_syntax.specs.Grammar.{Spells as SpellsPages}
-use Rattle.wire.specs.Records.{Spells as SpellsRecords, IsFault as IsRecordFault}
+use Rattle.wire.specs.Files.{Spells, IsFault}
 use Rattle.trace_format.specs.Balance.{IsFirstFault}
-use Rattle.trace_format.specs.Events.{trace_magic, event_in}
-use Rattle.schedule_format.specs.Moments.{schedule_magic, moment_in}
+use Rattle.trace_format.specs.Events.{trace_format}
+use Rattle.schedule_format.specs.Moments.{schedule_format}
 use Rattle.commands.specs.Lines.{told}
 use Rattle.commands.specs.State.{given_objects, SpellsState, HasFault}
 use Rattle.commands.specs.Words.{ReplayNames, replay_names}
@@ -49,17 +49,17 @@ IsStateFault bytes answer = ⊥
 
 -- a trace is also balanced
 abbrev pub SpellsTrace : List ℕ → List TraceEvent → Type 0
-SpellsTrace bytes trace = SpellsRecords trace_magic event_in bytes trace × IsBalanced trace
+SpellsTrace bytes trace = Spells trace_format bytes trace × IsBalanced trace
 
 abbrev pub IsTraceFault : List ℕ → Answers
-IsTraceFault bytes (TraceUnreadable at) = IsRecordFault trace_magic event_in bytes at
-IsTraceFault bytes (TraceUnbalanced rid) = (trace : List TraceEvent) × SpellsRecords trace_magic event_in bytes trace × IsFirstFault trace (Some rid)
+IsTraceFault bytes (TraceUnreadable at) = IsFault trace_format bytes at
+IsTraceFault bytes (TraceUnbalanced rid) = (trace : List TraceEvent) × Spells trace_format bytes trace × IsFirstFault trace (Some rid)
 IsTraceFault bytes answer = ⊥
 
 -- a schedule, or the place of the first bad record: with both it goes on
 abbrev pub SpellsSchedule : List ℕ → Result (List Moment) ℕ → Type 0
-SpellsSchedule bytes (Ok schedule) = SpellsRecords schedule_magic moment_in bytes schedule
-SpellsSchedule bytes (Err at) = IsRecordFault schedule_magic moment_in bytes at
+SpellsSchedule bytes (Ok schedule) = Spells schedule_format bytes schedule
+SpellsSchedule bytes (Err at) = IsFault schedule_format bytes at
 
 abbrev pub IsNoFault : List ℕ → Answers
 IsNoFault bytes answer = ⊥

@@ -1,35 +1,26 @@
--- What a record of a schedule spells.
-use Rattle.std.specs.Prelude.{ℕ, ◌==◌, List, length, codes, Option, Some, None, if◌then◌else◌}
-use Rattle.std.specs.Int.{w32}
-use Rattle.wire.specs.Fields.{◌>>=◌, byte_at, number_at, choice_at}
+-- How a schedule is spelled.
+use Rattle.std.specs.Prelude.{ℕ, ◌<◌, ◌^◌, List, ◌∷◌, ◌++◌, codes}
+use Rattle.std.specs.Int.{w32, to_be_bytes}
+use Rattle.wire.specs.Spellings.{Field, IsWideChoice, choice_spelling}
+use Rattle.wire.specs.Files.{Format}
 use Rattle.script_tree.specs.declared.schedule.Moment.{Moment}
 use Rattle.script_tree.specs.declared.schedule.Moment.TheVariants.{Arrive, Act, Depart}
 
-abbrev pub schedule_magic : List ℕ
-schedule_magic = codes "SSCOSCH1"
+-- a tag, the id of the request and, of an operation, its choice
+abbrev pub moment_spelling : Moment → List ℕ
+moment_spelling (Arrive id) = 1 ∷ to_be_bytes w32 id
+moment_spelling (Act id choice) = 2 ∷ (to_be_bytes w32 id ++ choice_spelling choice)
+moment_spelling (Depart id) = 3 ∷ to_be_bytes w32 id
 
--- the operation of a request, with the choice at a place
-abbrev pub act_at : List ℕ → ℕ → ℕ → Option (Moment × ℕ)
-act_at payload id at = do
-  choice ← choice_at payload at
-  Some (Act id choice.0, choice.1)
+-- Its numbers have their widths.
+abbrev pub IsMoment : Moment → Type 0
+IsMoment (Arrive id) = id < 2 ^ 32
+IsMoment (Act id choice) = (id < 2 ^ 32) × IsWideChoice choice
+IsMoment (Depart id) = id < 2 ^ 32
 
--- a tag, a request id and, of an operation, its choice
-abbrev pub moment_at : List ℕ → ℕ → Option (Moment × ℕ)
-moment_at payload at = do
-  tag ← byte_at payload at
-  id ← number_at w32 payload tag.1
-  if tag.0 == 1 then Some (Arrive id.0, id.1)
-      else if tag.0 == 2 then act_at payload id.0 id.1
-      else if tag.0 == 3 then Some (Depart id.0, id.1)
-      else None
+abbrev pub moment_field : Field Moment
+moment_field = record { allows = λ m. IsMoment m; spelling = λ m. moment_spelling m }
 
--- the moment that is the whole payload
-abbrev pub moment_of : List ℕ → Option Moment
-moment_of payload = do
-  moment ← moment_at payload 0
-  if moment.1 == length payload then Some moment.0 else None
-
--- the same, whatever moments stand before it
-abbrev pub moment_in : List Moment → List ℕ → Option Moment
-moment_in before payload = moment_of payload
+-- any moments, in any order
+abbrev pub schedule_format : Format Moment
+schedule_format = record { magic = codes "SSCOSCH1"; payload = λ m. moment_spelling m; allows = λ before m. IsMoment m }

@@ -1,14 +1,15 @@
 ghost use Rattle.std.specs.Prelude.{◌≡◌, IfSome, MatchResult};
-ghost use Rattle.wire.specs.Fields.{IsWithin};
-ghost use Rattle.wire.specs.Records.{Decodes, IsExact, record_at};
-ghost use Rattle.schedule_format.specs.Moments.{schedule_magic, moment_at, moment_of, moment_in};
+ghost use Rattle.wire.specs.Fields.{IsWithin, record_at, whole_of};
+ghost use Rattle.wire.specs.Files.{Decodes, IsExact};
+ghost use Rattle.schedule_format.specs.Moments.{schedule_format};
+ghost use Rattle.schedule_format.specs.Readings.{moment_at};
 
 use script_tree::schedule::{Moment, Schedule};
 use std::alloc::Global;
 use wire::fault::{FileFault, WireFault};
 use wire::field::{frame, read_choice, read_u8, read_u32};
 
-const MAGIC: &[u8; 8] = b"SSCOSCH1";
+pub(crate) const MAGIC: &[u8; 8] = b"SSCOSCH1";
 
 fn read_moment(payload: &[u8]) -> Result<(Moment, usize), WireFault>
     ensures { MatchResult result (λ x. moment_at payload.now 0 ≡ Some x) (λ _. moment_at payload.now 0 ≡ None) }
@@ -28,7 +29,7 @@ fn read_moment(payload: &[u8]) -> Result<(Moment, usize), WireFault>
 
 /// The moment that is the whole payload.
 fn moment_of(payload: &[u8]) -> Option<Moment>
-    ensures { result ≡ moment_of payload.now }
+    ensures { result ≡ whole_of moment_at payload.now }
 {
     match read_moment(payload) {
         Ok((moment, next)) if next == payload.len() => Some(moment),
@@ -38,7 +39,7 @@ fn moment_of(payload: &[u8]) -> Option<Moment>
 
 /// The record at a place, and the place behind it.
 fn record_of(bytes: &[u8], at: usize) -> Option<(Moment, usize)>
-    ensures record { result ≡ record_at moment_of bytes.now at }
+    ensures record { result ≡ record_at (whole_of moment_at) bytes.now at }
     ensures within { IfSome result (λ x. IsWithin bytes.now at x.1) }
 {
     let (payload, next) = frame(bytes, at).ok()?;
@@ -48,7 +49,7 @@ fn record_of(bytes: &[u8], at: usize) -> Option<(Moment, usize)>
 
 /// The schedule that the whole file spells.
 pub fn decode(alloc: Global, bytes: &[u8]) -> Result<Schedule, FileFault>
-    ensures { Decodes schedule_magic moment_in bytes.now result }
+    ensures { Decodes schedule_format bytes.now result }
 {
     if !bytes.starts_with(MAGIC) {
         return Err(FileFault::Unreadable { at: 0 });
@@ -65,7 +66,8 @@ pub fn decode(alloc: Global, bytes: &[u8]) -> Result<Schedule, FileFault>
     Ok(Schedule::from_vec(moments))
 }
 
-/// A file is read in one way: as one schedule at most, or as unreadable at one place.
+/// A file is read in one way: as one schedule at most, or as unreadable at one place; and what is
+/// encoded is decoded again.
 pub fn reading_is_exact()
-    ensures { IsExact schedule_magic moment_in }
+    ensures { IsExact schedule_format }
 {}

@@ -2,5 +2,6 @@
 #![tactic(auto)]
 
 pub mod decoding;
+pub mod encoding;
 #[cfg(test)]
 mod tests;

@@ -1,4 +1,5 @@
 use crate::decoding::decode;
+use crate::encoding::encode;
 use script_tree::operation::Choice;
 use script_tree::schedule::Moment;
 use std::test::Fail;
@@ -17,12 +18,16 @@ fn files_of_the_examples(rt: HostRuntime) -> Result<(), Fail> {
     let schedule = decode(rt.alloc(), FILE)?;
     let moments = [Moment::Arrive(0), Moment::Depart(0)];
     assert!(rt; schedule.as_slice() == moments.as_slice());
+    let bytes = encode(rt.alloc(), &schedule)?;
+    assert!(rt; bytes.as_slice() == FILE.as_slice());
     let schedule = decode(rt.alloc(), CHOICES)?;
     let moments = [
         Moment::Act(7, Choice::Number(258)),
         Moment::Act(7, Choice::Nothing),
     ];
     assert!(rt; schedule.as_slice() == moments.as_slice());
+    let bytes = encode(rt.alloc(), &schedule)?;
+    assert!(rt; bytes.as_slice() == CHOICES.as_slice());
     Ok(())
 }
 

@@ -5,7 +5,7 @@ use Rattle.std.specs.Int.{w32}
 use Rattle.wire.specs.Fields.{◌>>=◌, bytes_at, number_at}
 use Rattle.script_tree.specs.Requests.{Request, text_fits, parameters_fit}
 use Rattle.script_tree.specs.declared.request.Parameter.{Parameter}
-use Rattle.trace_format.specs.RequestFields.{parameter_at, parameters_at, request_at, within_limits}
+use Rattle.trace_format.specs.Readings.{parameter_at, parameters_at, request_at, within_limits}
 
 some_one : {B : Type 0} (x y : B) → Some x ≡ Some y → x ≡ y
 some_one x y e = cc

@@ -2,7 +2,7 @@
 use Rattle.std.proofs.Common.{◌≡◌, ℕ, suc, List, [], ◌∷◌, ◌++◌, Option, Some, None, ap, sym, ◌∙◌, refl, append_assoc}
 use Rattle.script_tree.specs.declared.request.Parameter.{Parameter}
 use Rattle.wire.specs.Fields.{◌>>=◌}
-use Rattle.trace_format.specs.RequestFields.{parameter_at, parameters_at}
+use Rattle.trace_format.specs.Readings.{parameter_at, parameters_at}
 
 -- these, and then those that are found
 abbrev pub behind : List Parameter → Option (List Parameter × ℕ) → Option (List Parameter × ℕ)

@@ -1,13 +1,41 @@
--- What a record of a trace spells.
-use Rattle.std.specs.Prelude.{ℕ, ◌==◌, nat_lt, Bool, true, false, List, length, codes, count_by, Option, Some, None, if◌then◌else◌}
-use Rattle.std.specs.Int.{w32}
-use Rattle.wire.specs.Fields.{◌>>=◌, byte_at, number_at}
+-- How a trace is spelled.
+use Rattle.std.specs.Prelude.{ℕ, ◌<◌, ◌^◌, Bool, true, false, List, [], ◌∷◌, ◌++◌, length, codes, count_by}
+use Rattle.std.specs.Int.{w16, w32, to_be_bytes}
+use Rattle.wire.specs.Spellings.{Field, bytes_spelling}
+use Rattle.wire.specs.Files.{Format}
+use Rattle.script_tree.specs.Requests.{Request, IsRequestWithinLimits}
+use Rattle.script_tree.specs.declared.request.Parameter.{Parameter}
+use Rattle.script_tree.specs.declared.request.Response.{Response}
 use Rattle.script_tree.specs.declared.trace.TraceEvent.{TraceEvent}
 use Rattle.script_tree.specs.declared.trace.TraceEvent.TheVariants.{Asked, Answered}
-use Rattle.trace_format.specs.RequestFields.{request_at, response_at}
 
-abbrev pub trace_magic : List ℕ
-trace_magic = codes "SSCOTRC1"
+abbrev pub parameter_spelling : Parameter → List ℕ
+parameter_spelling p = bytes_spelling p.name ++ bytes_spelling p.value
+
+abbrev pub parameters_spelling : List Parameter → List ℕ
+parameters_spelling [] = []
+parameters_spelling (p ∷ ps) = parameter_spelling p ++ parameters_spelling ps
+
+-- method, path, how many parameters, these, and the body
+abbrev pub request_spelling : Request → List ℕ
+request_spelling q =
+    bytes_spelling q.method ++ (bytes_spelling q.path ++ (to_be_bytes w32 (length q.parameters) ++ (parameters_spelling q.parameters ++ bytes_spelling q.body)))
+
+abbrev pub response_spelling : Response → List ℕ
+response_spelling x = to_be_bytes w16 x.status ++ bytes_spelling x.body
+
+-- a tag, the id, and the request or the response
+abbrev pub event_spelling : TraceEvent → List ℕ
+event_spelling (Asked id q) = 1 ∷ (to_be_bytes w32 id ++ request_spelling q)
+event_spelling (Answered id x) = 2 ∷ (to_be_bytes w32 id ++ response_spelling x)
+
+-- Behind so many requests it may stand: its numbers have their widths, a request is within its limits, and a trace has at most 65,536 of them.
+abbrev pub IsEvent : ℕ → TraceEvent → Type 0
+IsEvent asked (Asked id q) = (id < 2 ^ 32) × (IsRequestWithinLimits q × (asked < 65536))
+IsEvent asked (Answered id x) = (id < 2 ^ 32) × ((x.status < 2 ^ 16) × (length x.body < 2 ^ 32))
+
+abbrev pub event_field : ℕ → Field TraceEvent
+event_field asked = record { allows = λ e. IsEvent asked e; spelling = λ e. event_spelling e }
 
 abbrev pub is_request : TraceEvent → Bool
 is_request (Asked id q) = true
@@ -16,31 +44,5 @@ is_request (Answered id x) = false
 abbrev pub request_count : List TraceEvent → ℕ
 request_count events = count_by is_request events
 
-abbrev pub asked_at : List ℕ → ℕ → ℕ → Option (TraceEvent × ℕ)
-asked_at payload id at = do
-  request ← request_at payload at
-  Some (Asked id request.0, request.1)
-
-abbrev pub answered_at : List ℕ → ℕ → ℕ → Option (TraceEvent × ℕ)
-answered_at payload id at = do
-  response ← response_at payload at
-  Some (Answered id response.0, response.1)
-
--- A tag, a request id, and the request or the response. A trace has at most 65,536 requests: behind so many there is none more.
-abbrev pub event_at : ℕ → List ℕ → ℕ → Option (TraceEvent × ℕ)
-event_at asked payload at = do
-  tag ← byte_at payload at
-  id ← number_at w32 payload tag.1
-  if tag.0 == 1 then (if nat_lt asked 65536 then asked_at payload id.0 id.1 else None)
-      else if tag.0 == 2 then answered_at payload id.0 id.1
-      else None
-
--- the event that is the whole payload, behind so many requests
-abbrev pub event_after : ℕ → List ℕ → Option TraceEvent
-event_after asked payload = do
-  event ← event_at asked payload 0
-  if event.1 == length payload then Some event.0 else None
-
--- the event that is the whole payload, behind these events
-abbrev pub event_in : List TraceEvent → List ℕ → Option TraceEvent
-event_in before payload = event_after (request_count before) payload
+abbrev pub trace_format : Format TraceEvent
+trace_format = record { magic = codes "SSCOTRC1"; payload = λ e. event_spelling e; allows = λ before e. IsEvent (request_count before) e }

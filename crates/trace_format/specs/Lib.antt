@@ -1,4 +1,4 @@
 pub mod Balance
 pub mod Events
-pub mod RequestFields
+pub mod Readings
 pub mod Stages

@@ -1,7 +1,8 @@
 ghost use Rattle.std.specs.Prelude.{◌≡◌, ◌≤◌, [], ◌∷◌, IfOk};
-ghost use Rattle.wire.specs.Fields.{IsWithin, Takes};
-ghost use Rattle.wire.specs.Records.{Decodes, IsExact, TakesRecord};
-ghost use Rattle.trace_format.specs.Events.{trace_magic, event_at, event_after, event_in, request_count};
+ghost use Rattle.wire.specs.Fields.{IsWithin, Takes, TakesRecord, whole_of};
+ghost use Rattle.wire.specs.Files.{Decodes, IsExact};
+ghost use Rattle.trace_format.specs.Events.{trace_format, request_count};
+ghost use Rattle.trace_format.specs.Readings.{event_at};
 
 use crate::request::{read_request, read_response};
 use script_tree::trace::{Trace, TraceEvent};
@@ -9,7 +10,7 @@ use std::alloc::Global;
 use wire::fault::FileFault;
 use wire::field::{frame, read_u8, read_u32};
 
-const MAGIC: &[u8; 8] = b"SSCOTRC1";
+pub(crate) const MAGIC: &[u8; 8] = b"SSCOTRC1";
 
 /// The most requests that a trace may have.
 pub const MOST_REQUESTS: usize = 65_536;
@@ -35,7 +36,7 @@ fn read_event(alloc: Global, payload: &[u8], asked: usize) -> Result<(TraceEvent
 
 /// The event that is the whole payload.
 fn event_of(alloc: Global, payload: &[u8], asked: usize) -> Result<TraceEvent, FileFault>
-    ensures { Takes (λ x. x) result (event_after asked payload.now) }
+    ensures { Takes (λ x. x) result (whole_of (event_at asked) payload.now) }
 {
     let (event, next) = read_event(alloc, payload, asked)?;
     if next != payload.len() {
@@ -51,7 +52,7 @@ fn read_record(
     at: usize,
     asked: usize,
 ) -> Result<(TraceEvent, usize), FileFault>
-    ensures takes { TakesRecord (event_after asked) bytes.now at result }
+    ensures takes { TakesRecord (whole_of (event_at asked)) bytes.now at result }
     ensures within { IfOk result (λ x. IsWithin bytes.now at x.1) }
 {
     let (payload, next) = frame(bytes, at)?;
@@ -74,7 +75,7 @@ fn requests_in(event: &TraceEvent) -> usize
 
 /// The trace that the whole file spells.
 pub fn decode(alloc: Global, bytes: &[u8]) -> Result<Trace, FileFault>
-    ensures { Decodes trace_magic event_in bytes.now result }
+    ensures { Decodes trace_format bytes.now result }
 {
     if !bytes.starts_with(MAGIC) {
         return Err(FileFault::Unreadable { at: 0 });
@@ -91,7 +92,8 @@ pub fn decode(alloc: Global, bytes: &[u8]) -> Result<Trace, FileFault>
     Ok(Trace::from_vec(events))
 }
 
-/// A file is read in one way: as one trace at most, or as unreadable at one place.
+/// A file is read in one way: as one trace at most, or as unreadable at one place; and what is
+/// encoded is decoded again.
 pub fn reading_is_exact()
-    ensures { IsExact trace_magic event_in }
+    ensures { IsExact trace_format }
 {}

@@ -3,6 +3,7 @@
 
 pub mod balance;
 pub mod decoding;
-pub mod request;
+pub mod encoding;
+mod request;
 #[cfg(test)]
 mod tests;

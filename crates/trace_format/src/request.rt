@@ -1,5 +1,5 @@
 ghost use Rattle.wire.specs.Fields.{IsWithin, Takes, bytes_at};
-ghost use Rattle.trace_format.specs.RequestFields.{parameter_at, parameters_at, request_at, response_at};
+ghost use Rattle.trace_format.specs.Readings.{parameter_at, parameters_at, request_at, response_at};
 
 use script_tree::request::{MOST_PARAMETERS, Parameter, Parameters, Request, Response};
 use script_tree::text::Text;
@@ -41,7 +41,11 @@ fn read_parameters(
 }
 
 /// The request that is spelled at a place, and the place behind it.
-pub fn read_request(alloc: Global, bytes: &[u8], at: usize) -> Result<(Request, usize), FileFault>
+pub(crate) fn read_request(
+    alloc: Global,
+    bytes: &[u8],
+    at: usize,
+) -> Result<(Request, usize), FileFault>
     ensures { Takes (λ x. x) result (request_at bytes.now at) }
 {
     let (method, next) = read_text(alloc, bytes, at)?;
@@ -59,7 +63,11 @@ pub fn read_request(alloc: Global, bytes: &[u8], at: usize) -> Result<(Request, 
 }
 
 /// The response that is spelled at a place, and the place behind it.
-pub fn read_response(alloc: Global, bytes: &[u8], at: usize) -> Result<(Response, usize), FileFault>
+pub(crate) fn read_response(
+    alloc: Global,
+    bytes: &[u8],
+    at: usize,
+) -> Result<(Response, usize), FileFault>
     ensures { Takes (λ x. x) result (response_at bytes.now at) }
 {
     let (status, next) = read_u16(bytes, at)?;

@@ -1,5 +1,6 @@
 use crate::balance::first_unbalanced;
 use crate::decoding::decode;
+use crate::encoding::encode;
 use script_tree::request::{Parameters, Request, Response};
 use script_tree::text::Text;
 use script_tree::trace::{Trace, TraceEvent};
@@ -50,8 +51,12 @@ fn has_the_parameter(trace: &Trace) -> bool {
 fn files_of_the_examples(rt: HostRuntime) -> Result<(), Fail> {
     let trace = decode(rt.alloc(), FILE)?;
     assert!(rt; is_the_example(&trace));
+    let bytes = encode(rt.alloc(), &trace)?;
+    assert!(rt; bytes.as_slice() == FILE.as_slice());
     let trace = decode(rt.alloc(), PARAMETER)?;
     assert!(rt; has_the_parameter(&trace));
+    let bytes = encode(rt.alloc(), &trace)?;
+    assert!(rt; bytes.as_slice() == PARAMETER.as_slice());
     Ok(())
 }
 

@@ -1,2 +1,11 @@
-pub mod RecordLaws
+pub mod FileSteps
+pub mod FileLaws
+pub mod ChoiceFields
+pub mod NumberFields
+pub mod Spelled
 pub mod TakesLaws
+pub mod ValueSizes
+pub mod ValueSpellings
+pub mod ValueSteps
+pub mod ValueTags
+pub mod ToldApart

@@ -1,4 +1,4 @@
--- Fields of a binary file, each at a place: what is spelled there and the place behind it, or nothing.
+-- What the readers find, step by step: each field at a place, what stands there and the place behind it, or nothing. It is what is spelled there (`Spellings`).
 use Rattle.std.specs.Prelude.{◌≡◌, ℕ, ◌+◌, ◌<◌, ◌≤◌, ◌==◌, ℤ, List, length, take, drop, slice_get, Option, Some, None, Result, Ok, Err, nat_le, if◌then◌else◌}
 use Rattle.std.specs.Int.{Width, w32, w64, byte_len, from_be_bytes, cast_signed}
 use Rattle.script_tree.specs.declared.operation.Choice.{Choice}
@@ -60,3 +60,22 @@ choice_at bytes at = do
     number_choice_at bytes at = do
       number ← integer_at bytes at
       Some (Number number.0, number.1)
+
+-- what is the whole of these bytes
+abbrev pub whole_of : {A : Type 0} → (List ℕ → ℕ → Option (A × ℕ)) → List ℕ → Option A
+whole_of read bytes = do
+  x ← read bytes 0
+  if x.1 == length bytes then Some x.0 else None
+
+-- what the record at a place spells, and the place behind it
+abbrev pub record_at : {A : Type 0} → (List ℕ → Option A) → List ℕ → ℕ → Option (A × ℕ)
+record_at reads bytes at = do
+  payload ← bytes_at bytes at
+  item ← reads payload.0
+  Some (item, payload.1)
+
+-- What is read of the record at a place is what it spells; a fault means that it spells nothing, and names its place.
+abbrev pub TakesRecord : {A : Type 0} → (List ℕ → Option A) → List ℕ → ℕ → Result (A × ℕ) FileFault → Type 0
+TakesRecord reads bytes at (Ok x) = record_at reads bytes at ≡ Some x
+TakesRecord reads bytes at (Err Memory) = Unit {0}
+TakesRecord reads bytes at (Err (Unreadable place)) = (record_at reads bytes at ≡ None) × (place ≡ at)

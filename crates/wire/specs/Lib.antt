@@ -1,2 +1,5 @@
 pub mod Fields
-pub mod Records
+pub mod Files
+pub mod Readers
+pub mod Spellings
+pub mod ValueReadings

@@ -1,11 +1,13 @@
 ghost use Rattle.std.specs.Prelude.{◌≡◌, ◌<◌, ◌≤◌, IfOk, length};
 ghost use Rattle.std.specs.Int.{w16, w32, w64};
+ghost use Rattle.wire.specs.Spellings.{ReadsField, byte_field, number_field, integer_field, bytes_field, choice_field};
 ghost use Rattle.wire.specs.Fields.{Reads, IsWithin, byte_at, number_at, integer_at, bytes_at, choice_at};
 
 use crate::fault::WireFault;
 use script_tree::operation::Choice;
 
 pub fn read_u8(bytes: &[u8], at: usize) -> Result<(u8, usize), WireFault>
+    ensures field { ReadsField (λ x. x) byte_field bytes.now at result }
     ensures reads { Reads (λ x. x) at result (byte_at bytes.now at) }
     ensures within { IfOk result (λ x. IsWithin bytes.now at x.1) }
 {
@@ -16,6 +18,7 @@ pub fn read_u8(bytes: &[u8], at: usize) -> Result<(u8, usize), WireFault>
 }
 
 pub fn read_u16(bytes: &[u8], at: usize) -> Result<(u16, usize), WireFault>
+    ensures field { ReadsField (λ x. x) (number_field w16) bytes.now at result }
     ensures reads { Reads (λ x. x) at result (number_at w16 bytes.now at) }
     ensures within { IfOk result (λ x. IsWithin bytes.now at x.1) }
 {
@@ -26,6 +29,7 @@ pub fn read_u16(bytes: &[u8], at: usize) -> Result<(u16, usize), WireFault>
 }
 
 pub fn read_u32(bytes: &[u8], at: usize) -> Result<(u32, usize), WireFault>
+    ensures field { ReadsField (λ x. x) (number_field w32) bytes.now at result }
     ensures reads { Reads (λ x. x) at result (number_at w32 bytes.now at) }
     ensures within { IfOk result (λ x. IsWithin bytes.now at x.1) }
 {
@@ -36,6 +40,7 @@ pub fn read_u32(bytes: &[u8], at: usize) -> Result<(u32, usize), WireFault>
 }
 
 pub fn read_u64(bytes: &[u8], at: usize) -> Result<(u64, usize), WireFault>
+    ensures field { ReadsField (λ x. x) (number_field w64) bytes.now at result }
     ensures reads { Reads (λ x. x) at result (number_at w64 bytes.now at) }
     ensures within { IfOk result (λ x. IsWithin bytes.now at x.1) }
 {
@@ -49,6 +54,7 @@ pub fn read_u64(bytes: &[u8], at: usize) -> Result<(u64, usize), WireFault>
 }
 
 pub fn read_i64(bytes: &[u8], at: usize) -> Result<(i64, usize), WireFault>
+    ensures field { ReadsField (λ x. x) integer_field bytes.now at result }
     ensures reads { Reads (λ x. x) at result (integer_at bytes.now at) }
     ensures within { IfOk result (λ x. IsWithin bytes.now at x.1) }
 {
@@ -58,6 +64,7 @@ pub fn read_i64(bytes: &[u8], at: usize) -> Result<(i64, usize), WireFault>
 
 /// The bytes are a part of the slice.
 pub fn read_bytes(bytes: &[u8], at: usize) -> Result<(&[u8], usize), WireFault>
+    ensures field { ReadsField (λ x. x.now) bytes_field bytes.now at result }
     ensures reads { Reads (λ x. (x.0.now, x.1)) at result (bytes_at bytes.now at) }
     ensures within { IfOk result (λ x. IsWithin bytes.now at x.1) }
 {
@@ -71,6 +78,7 @@ pub fn read_bytes(bytes: &[u8], at: usize) -> Result<(&[u8], usize), WireFault>
 
 /// The payload of the record at a place, a part of the slice, and the place of the next record.
 pub fn frame(bytes: &[u8], at: usize) -> Result<(&[u8], usize), WireFault>
+    ensures field { ReadsField (λ x. x.now) bytes_field bytes.now at result }
     ensures reads { Reads (λ x. (x.0.now, x.1)) at result (bytes_at bytes.now at) }
     ensures within { IfOk result (λ x. IsWithin bytes.now at x.1) }
 {
@@ -78,6 +86,7 @@ pub fn frame(bytes: &[u8], at: usize) -> Result<(&[u8], usize), WireFault>
 }
 
 pub fn read_choice(bytes: &[u8], at: usize) -> Result<(Choice, usize), WireFault>
+    ensures field { ReadsField (λ x. x) choice_field bytes.now at result }
     ensures reads { Reads (λ x. x) at result (choice_at bytes.now at) }
     ensures within { IfOk result (λ x. IsWithin bytes.now at x.1) }
 {

@@ -1,8 +1,12 @@
-//! Fields of binary files, each read from a slice at a place, and what a file of records is. No
-//! reader takes memory.
+//! Fields of binary files, each read from a slice at a place or written at the end of a vector, and
+//! what a file of records is. Values alone take memory to read.
 #![tactic(auto)]
 
 pub mod fault;
 pub mod field;
+pub mod laws;
 #[cfg(test)]
 mod tests;
+pub mod value_reading;
+pub mod value_writing;
+pub mod writing;

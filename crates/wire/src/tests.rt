@@ -1,8 +1,14 @@
-use crate::fault::WireFault;
+use crate::fault::{FileFault, WireFault};
 use crate::field::{
     frame, read_bytes, read_choice, read_i64, read_u8, read_u16, read_u32, read_u64,
 };
+use crate::value_reading::read_value;
+use crate::value_writing::write_value;
+use crate::writing::{
+    write_bytes, write_choice, write_i64, write_u8, write_u16, write_u32, write_u64,
+};
 use script_tree::operation::Choice;
+use script_tree::value::{Value, Values};
 use std::test::Fail;
 
 /// The record of the second response of the examples: 200 and the text `3`.
@@ -45,4 +51,58 @@ fn choices(rt: HostRuntime) {
     assert_eq!(rt; read_choice(choices, 1), Ok((Choice::Number(5), 10)));
     assert_eq!(rt; read_choice(choices, 10), Err(WireFault { at: 10 }));
     assert_eq!(rt; read_choice(choices, 11), Err(WireFault { at: 11 }));
+}
+
+#[test]
+fn written_fields(rt: HostRuntime) -> Result<(), Fail> {
+    let mut out = Vec::new(rt.alloc());
+    write_u8(&mut out, 2)?;
+    write_u32(&mut out, 0)?;
+    write_u16(&mut out, 200)?;
+    write_bytes(&mut out, b"3")?;
+    let (payload, _) = frame(RECORD, 0)?;
+    assert!(rt; out.as_slice() == payload);
+    let mut out = Vec::new(rt.alloc());
+    write_choice(&mut out, Choice::Nothing)?;
+    write_choice(&mut out, Choice::Number(-2))?;
+    write_u64(&mut out, 258)?;
+    write_i64(&mut out, 1)?;
+    let bytes =
+        b"\x00\x01\xff\xff\xff\xff\xff\xff\xff\xfe\x00\x00\x00\x00\x00\x00\x01\x02\x00\x00\x00\x00\x00\x00\x00\x01";
+    assert!(rt; out.as_slice() == bytes.as_slice());
+    Ok(())
+}
+
+#[test]
+fn values(rt: HostRuntime) -> Result<(), Fail> {
+    let mut items = Vec::new(rt.alloc());
+    items.push(Value::null())?;
+    let list = Value::list(Values::from_vec(items));
+    let rows: [(&[u8], Value); 2] = [
+        (b"\x03\x00\x00\x00\x00\x00\x00\x00\x01", Value::number(1)),
+        (b"\x05\x00\x00\x00\x01\x00", list),
+    ];
+    for (bytes, value) in &rows {
+        let (found, next) = read_value(rt.alloc(), bytes, 0)?;
+        assert!(rt; found == *value);
+        assert_eq!(rt; next, bytes.len());
+        let mut out = Vec::new(rt.alloc());
+        write_value(&mut out, value)?;
+        assert!(rt; out.as_slice() == *bytes);
+    }
+    Ok(())
+}
+
+#[test]
+fn bad_values(rt: HostRuntime) {
+    let rows: [&[u8]; 4] = [
+        b"\x06",
+        b"\x05\xff\xff\xff\xff\x00\x00",
+        b"\x04\x00\x00\x00\x02a",
+        b"\x05\x00\x00\x00\x01\x05\x00\x00\x00\x01\x05\x00\x00\x00\x01\x05\x00\x00\x00\x01\x05\x00\x00\x00\x01\x05\x00\x00\x00\x01\x05\x00\x00\x00\x01\x05\x00\x00\x00\x01\x05\x00\x00\x00\x01\x05\x00\x00\x00\x01\x05\x00\x00\x00\x01\x05\x00\x00\x00\x01\x05\x00\x00\x00\x01\x05\x00\x00\x00\x01\x05\x00\x00\x00\x01\x05\x00\x00\x00\x01\x05\x00\x00\x00\x00",
+    ];
+    for bytes in rows {
+        let found = read_value(rt.alloc(), bytes, 0).err();
+        assert_eq!(rt; found, Some(FileFault::Unreadable { at: 0 }));
+    }
 }

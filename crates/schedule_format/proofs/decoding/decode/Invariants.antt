@@ -1,14 +1,10 @@
-use Rattle.std.proofs.Common.{length, ◌-◌, ◌≤◌, []}
-use Rattle.wire.specs.Records.{Leads, HasMagic}
-use Rattle.schedule_format.specs.Moments.{schedule_magic, moment_in}
+use Rattle.std.proofs.Common.{length, ◌-◌}
+use Rattle.wire.proofs.FileSteps.{IsReadUpTo}
+use Rattle.schedule_format.specs.Moments.{schedule_format}
 use Rattle.schedule_format.proofs.decoding.decode.Given as goal
 
 abbrev pub invariant-loop-at : goal.invariant-loop-at
-invariant-loop-at l = record {
-  begins : HasMagic schedule_magic l.bytes;
-  within : l.at ≤ length l.bytes;
-  leads : Leads moment_in l.bytes [] l.moments.items 8 l.at;
-}
+invariant-loop-at l = IsReadUpTo schedule_format l.bytes l.moments.items l.at
 
 abbrev pub decreases-loop-at : goal.decreases-loop-at
 decreases-loop-at l = length l.bytes - l.at

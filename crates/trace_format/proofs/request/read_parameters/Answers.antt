@@ -1,6 +1,6 @@
 use Rattle.std.proofs.Common.{◌≡◌, ◌+◌, ◌-◌, suc, ◌∙◌, arith}
 use Rattle.wire.proofs.TakesLaws.{Takes-handed_on}
-use Rattle.trace_format.specs.RequestFields.{parameter_at, parameters_at}
+use Rattle.trace_format.specs.Readings.{parameter_at, parameters_at}
 use Rattle.trace_format.proofs.ParameterSteps.{behind-more, behind-none}
 use Rattle.trace_format.proofs.request.read_parameters.Goals as goal
 

@@ -1,5 +1,5 @@
 use Rattle.std.proofs.Common.{◌≡◌, ◌-◌}
-use Rattle.trace_format.specs.RequestFields.{parameters_at}
+use Rattle.trace_format.specs.Readings.{parameters_at}
 use Rattle.trace_format.proofs.ParameterSteps.{behind}
 use Rattle.trace_format.proofs.request.read_parameters.Given as goal
 

@@ -1,10 +1,12 @@
--- Requests and responses, each at a place: what is spelled there and the place behind it, or nothing.
-use Rattle.std.specs.Prelude.{ℕ, zero, suc, List, [], ◌∷◌, Option, Some, None, if◌then◌else◌}
+-- What the reader finds in a payload, step by step: what is spelled at a place and the place behind it, or nothing. Proofs say that it is what is spelled there.
+use Rattle.std.specs.Prelude.{ℕ, zero, suc, ◌==◌, nat_lt, List, [], ◌∷◌, Option, Some, None, if◌then◌else◌}
 use Rattle.std.specs.Int.{w16, w32}
-use Rattle.wire.specs.Fields.{◌>>=◌, number_at, bytes_at}
+use Rattle.wire.specs.Fields.{◌>>=◌, byte_at, number_at, bytes_at}
 use Rattle.script_tree.specs.Requests.{Request, is_request_within_limits}
 use Rattle.script_tree.specs.declared.request.Parameter.{Parameter}
 use Rattle.script_tree.specs.declared.request.Response.{Response}
+use Rattle.script_tree.specs.declared.trace.TraceEvent.{TraceEvent}
+use Rattle.script_tree.specs.declared.trace.TraceEvent.TheVariants.{Asked, Answered}
 
 abbrev pub parameter_at : List ℕ → ℕ → Option (Parameter × ℕ)
 parameter_at bytes at = do
@@ -39,3 +41,22 @@ response_at bytes at = do
   status ← number_at w16 bytes at
   body ← bytes_at bytes status.1
   Some (record { status = status.0; body = body.0 }, body.1)
+
+abbrev pub asked_at : List ℕ → ℕ → ℕ → Option (TraceEvent × ℕ)
+asked_at payload id at = do
+  request ← request_at payload at
+  Some (Asked id request.0, request.1)
+
+abbrev pub answered_at : List ℕ → ℕ → ℕ → Option (TraceEvent × ℕ)
+answered_at payload id at = do
+  response ← response_at payload at
+  Some (Answered id response.0, response.1)
+
+-- A tag, a request id, and the request or the response. A trace has at most 65,536 requests: behind so many there is none more.
+abbrev pub event_at : ℕ → List ℕ → ℕ → Option (TraceEvent × ℕ)
+event_at asked payload at = do
+  tag ← byte_at payload at
+  id ← number_at w32 payload tag.1
+  if tag.0 == 1 then (if nat_lt asked 65536 then asked_at payload id.0 id.1 else None)
+      else if tag.0 == 2 then answered_at payload id.0 id.1
+      else None

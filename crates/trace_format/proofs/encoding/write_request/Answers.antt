@@ -1,0 +1,7 @@
+use Rattle.std.proofs.Common.{◌∙◌}
+use Rattle.trace_format.proofs.Lengths.{few_parameters}
+use Rattle.trace_format.proofs.encoding.write_request.Goals as goal
+
+pub overflow_cast-parameters : goal.overflow_cast-parameters
+overflow_cast-parameters c =
+    record { fits = few_parameters c.args.request.now c.as_slice-parameters.result.now (c.as_slice-parameters.ensures ∙ c.parameters.ensures) c.requires }

@@ -1,0 +1,91 @@
+-- A file: a magic, then records up to the end.
+use Rattle.std.specs.Prelude.{◌≡◌, ℕ, ◌+◌, ◌<◌, ◌≤◌, List, [], ◌∷◌, ◌++◌, length, Result, Ok, Err, ◌⊎◌}
+use Rattle.wire.specs.Spellings.{Field, IsSpelled, IsFieldAt, bytes_spelling, framed, HasOneSpelling}
+use Rattle.wire.specs.declared.fault.FileFault.{FileFault}
+use Rattle.wire.specs.declared.fault.FileFault.TheVariants.{Memory, Unreadable}
+
+-- a kind of file: its magic, how the payload of a record is spelled, and which one may stand behind which records
+pub record Format (A : Type 0) : Type 1 where
+  pub magic : List ℕ
+  pub payload : A → List ℕ
+  pub allows : List A → A → Type 0
+
+-- a record: the length of its payload, and the payload
+abbrev pub record_spelling : {A : Type 0} → Format A → A → List ℕ
+record_spelling format x = bytes_spelling (format.payload x)
+
+abbrev pub records_spelling : {A : Type 0} → Format A → List A → List ℕ
+records_spelling format [] = []
+records_spelling format (x ∷ xs) = record_spelling format x ++ records_spelling format xs
+
+-- the whole file
+abbrev pub file_spelling : {A : Type 0} → Format A → List A → List ℕ
+file_spelling format xs = format.magic ++ records_spelling format xs
+
+-- what the payload of a record behind these may be, and the record
+abbrev pub payload_field : {A : Type 0} → Format A → List A → Field A
+payload_field format before = record { allows = λ x. format.allows before x; spelling = λ x. format.payload x }
+
+abbrev pub record_field : {A : Type 0} → Format A → List A → Field A
+record_field format before = framed (payload_field format before)
+
+-- Behind these records the others may stand, one after another.
+abbrev pub MayFollow : {A : Type 0} → Format A → List A → List A → Type 0
+MayFollow format before [] = Unit {0}
+MayFollow format before (x ∷ xs) = (record_field format before).allows x × MayFollow format (before ++ x ∷ []) xs
+
+-- The file has these records and no others.
+pub record Spells {A : Type 0} (format : Format A) (bytes : List ℕ) (items : List A) : Type 0 where
+  pub spelled : bytes ≡ file_spelling format items
+  pub allowed : MayFollow format [] items
+
+abbrev pub HasMagic : {A : Type 0} → Format A → List ℕ → Type 0
+HasMagic format bytes = (rest : List ℕ) × (bytes ≡ format.magic ++ rest)
+
+-- Up to this place the file is whole and well spelled, and there no record that may follow begins, although it goes on.
+pub record IsBadRecord {A : Type 0} (format : Format A) (bytes : List ℕ) (at : ℕ) : Type 0 where
+  pub before : List A
+  pub allowed : MayFollow format [] before
+  pub spelled : IsSpelled bytes 0 (file_spelling format before) at
+  pub inside : at < length bytes
+  pub bad : (x : A) (next : ℕ) → IsFieldAt (record_field format before) bytes at x next → ⊥
+
+-- where a file that has no spelling is at fault
+abbrev pub IsFault : {A : Type 0} → Format A → List ℕ → ℕ → Type 0
+IsFault format bytes at = (¬ HasMagic format bytes × (at ≡ 0)) ⊎ IsBadRecord format bytes at
+
+-- the records of the file, or its fault, unless memory ran out
+abbrev pub Decodes : {A : Type 0} → Format A → List ℕ → Result (List A) FileFault → Type 0
+Decodes format bytes (Ok items) = Spells format bytes items
+Decodes format bytes (Err Memory) = Unit {0}
+Decodes format bytes (Err (Unreadable at)) = IsFault format bytes at
+
+-- Of these items, the first whose record would end behind the limit has its record here.
+pub record IsBeyond {A : Type 0} (format : Format A) (limit : ℕ) (items : List A) (at : ℕ) : Type 0 where
+  pub before : List A
+  pub item : A
+  pub after : List A
+  pub parts : items ≡ before ++ item ∷ after
+  pub at_is : at ≡ length (file_spelling format before)
+  pub within : at ≤ limit
+  pub beyond : limit < at + length (record_spelling format item)
+
+-- the file of these items, seen by `view`, or where it would pass the limit, unless memory ran out
+abbrev pub Encodes : {A X : Type 0} → (X → List ℕ) → Format A → ℕ → List A → Result X FileFault → Type 0
+Encodes view format limit items (Ok bytes) = (view bytes ≡ file_spelling format items) × (length (view bytes) ≤ limit)
+Encodes view format limit items (Err Memory) = Unit {0}
+Encodes view format limit items (Err (Unreadable at)) = IsBeyond format limit items at
+
+-- what decoding the file of these items gives: them again, unless memory ran out
+abbrev pub GivesBack : {A : Type 0} → List A → Result (List A) FileFault → Type 0
+GivesBack items (Ok found) = found ≡ items
+GivesBack items (Err Memory) = Unit {0}
+GivesBack items (Err (Unreadable at)) = ⊥
+
+-- No record is spelled as another, and none begins another; a file has one list of records at most, and none where it has a fault; it has one fault at most; and what is encoded is decoded again.
+pub record IsExact {A : Type 0} (format : Format A) : Type 0 where
+  pub one_spelling : (before : List A) → HasOneSpelling (record_field format before)
+  pub one_reading : (bytes : List ℕ) (xs ys : List A) → Spells format bytes xs → Spells format bytes ys → xs ≡ ys
+  pub one_fault : (bytes : List ℕ) (at at' : ℕ) → IsFault format bytes at → IsFault format bytes at' → at ≡ at'
+  pub no_reading_at_fault : (bytes : List ℕ) (at : ℕ) (xs : List A) → IsFault format bytes at → Spells format bytes xs → ⊥
+  pub gives_back : (xs : List A) (r : Result (List A) FileFault) → MayFollow format [] xs → Decodes format (file_spelling format xs) r → GivesBack xs r

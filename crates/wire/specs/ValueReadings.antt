@@ -1,0 +1,48 @@
+-- What the reader of values finds, by the limits that are left to it.
+use Rattle.std.specs.Prelude.{◌≡◌, ℕ, ◌+◌, ◌≤◌, List, [], ◌++◌, length, true, false, Result, Ok, Err}
+use Rattle.std.specs.Int.{w32, to_be_bytes}
+use Rattle.script_tree.specs.Datum.{Datum, null, bool, number, text, list, members, size, nesting}
+use Rattle.wire.specs.Spellings.{IsSpelled, value_spelling, values_spelling, integer_spelling, bytes_spelling, HasWideNumbers}
+use Rattle.wire.specs.declared.fault.FileFault.{FileFault}
+use Rattle.wire.specs.declared.fault.FileFault.TheVariants.{Memory, Unreadable}
+use Rattle.wire.specs.declared.value_reading.Part.{Part}
+
+-- the first byte of a value's spelling, and what stands behind it
+abbrev pub tag_of : Datum → ℕ
+tag_of null = 0
+tag_of (bool false) = 1
+tag_of (bool true) = 2
+tag_of (number n) = 3
+tag_of (text bytes) = 4
+tag_of (list ds) = 5
+
+abbrev pub tail_of : Datum → List ℕ
+tail_of null = []
+tail_of (bool b) = []
+tail_of (number n) = integer_spelling n
+tail_of (text bytes) = bytes_spelling bytes
+tail_of (list ds) = to_be_bytes w32 (length (members ds)) ++ values_spelling ds
+
+-- A value of at most this nesting and this size.
+pub record IsBounded (depth room : ℕ) (d : Datum) : Type 0 where
+  pub wide : HasWideNumbers d
+  pub nested : nesting d ≤ depth
+  pub sized : size d ≤ room
+
+-- What is left of the room, and the value's size, are the room.
+pub record IsWithinRoom (depth room : ℕ) (part : Part) : Type 0 where
+  pub wide : HasWideNumbers part.value
+  pub nested : nesting part.value ≤ depth
+  pub sized : part.room + size part.value ≡ room
+
+-- the value at a place, or none of these bounds stands there
+abbrev pub GivesValue : ℕ → ℕ → List ℕ → ℕ → Result Part FileFault → Type 0
+GivesValue depth room bytes at (Ok part) = IsSpelled bytes at (value_spelling part.value) part.next × IsWithinRoom depth room part
+GivesValue depth room bytes at (Err Memory) = Unit {0}
+GivesValue depth room bytes at (Err (Unreadable place)) = (d : Datum) (next : ℕ) → IsBounded depth room d → IsSpelled bytes at (value_spelling d) next → ⊥
+
+-- the same behind the value's tag
+abbrev pub GivesTail : ℕ → ℕ → ℕ → List ℕ → ℕ → Result Part FileFault → Type 0
+GivesTail tag depth room bytes at (Ok part) = (tag ≡ tag_of part.value) × (IsSpelled bytes at (tail_of part.value) part.next × IsWithinRoom depth room part)
+GivesTail tag depth room bytes at (Err Memory) = Unit {0}
+GivesTail tag depth room bytes at (Err (Unreadable place)) = (d : Datum) (next : ℕ) → tag ≡ tag_of d → IsBounded depth room d → IsSpelled bytes at (tail_of d) next → ⊥

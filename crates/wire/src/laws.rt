@@ -1,0 +1,13 @@
+ghost use Rattle.wire.specs.Spellings.{AreToldApart};
+ghost use Rattle.wire.specs.Readers.{FindFields};
+
+/// No two fields of one kind are spelled alike, and no spelling begins another. A record is spelled
+/// as a byte string is.
+pub fn fields_are_told_apart()
+    ensures { AreToldApart }
+{}
+
+/// What the readers' clauses say step by step is what is spelled.
+pub fn readers_find_what_is_spelled()
+    ensures { FindFields }
+{}

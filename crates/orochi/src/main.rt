@@ -35,8 +35,8 @@ fn words_of(rt: &HostRuntime) -> io::Result<Words> {
 fn status_of(rt: HostRuntime) -> io::Result<u8> {
     let alloc = rt.alloc();
     let words = words_of(&rt)?;
-    let mut shelf = FileShelf::new(rt.clone()?);
-    let mut out = StdSink::new(rt);
+    let mut out = StdSink::new(rt.stdout());
+    let mut shelf = FileShelf::new(rt);
     let mut house = MemHouse::new(alloc, Vec::new(alloc), Vec::new(alloc));
     Ok(run(
         alloc,

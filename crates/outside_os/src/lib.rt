@@ -8,4 +8,4 @@ pub mod sink;
 mod tests;
 
 pub use shelf::FileShelf;
-pub use sink::StdSink;
+pub use sink::{StdSink, StreamSink};

@@ -1,4 +1,4 @@
-ghost use Rattle.std.specs.Prelude.{◌≤◌, IfOk, length, None, false};
+ghost use Rattle.std.specs.Prelude.{◌≡◌, ◌≤◌, IfOk, length, None, false};
 
 use outside::{Fault, Shelf, ShelfFault};
 use std::io::{ErrorKind, Read, Seek, SeekFrom, Write};
@@ -13,7 +13,9 @@ pub struct FileShelf {
 }
 
 impl FileShelf {
-    pub fn new(rt: HostRuntime) -> Self {
+    pub fn new(rt: HostRuntime) -> Self
+        ensures { (result.faults ≡ 0) × (result.absences ≡ 0) }
+    {
         FileShelf {
             rt,
             faults: 0,

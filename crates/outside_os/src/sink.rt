@@ -1,22 +1,27 @@
-ghost use Rattle.std.specs.Prelude.{None, false};
+ghost use Rattle.std.specs.Prelude.{◌≡◌, None, false};
 
 use outside::{Fault, Sink};
-use std::io::{ErrorKind, Write};
+use std::io::{ErrorKind, Stdout, Write};
 
-/// Standard output.
+/// A stream that is only written.
 #[derive(Drop)]
-pub struct StdSink {
-    rt: HostRuntime,
+pub struct StreamSink<W: Write + Drop> {
+    stream: W,
     pub(crate) faults: u64,
 }
 
-impl StdSink {
-    pub fn new(rt: HostRuntime) -> Self {
-        StdSink { rt, faults: 0 }
+/// Standard output.
+pub type StdSink = StreamSink<Stdout>;
+
+impl<W: Write + Drop> StreamSink<W> {
+    pub fn new(stream: W) -> Self
+        ensures { result.faults ≡ 0 }
+    {
+        StreamSink { stream, faults: 0 }
     }
 }
 
-impl Sink for StdSink {
+impl<W: Write + Drop> Sink for StreamSink<W> {
     ghost written = { λ _. None };
 
     ghost faults = { λ sink. sink.faults };
@@ -24,7 +29,7 @@ impl Sink for StdSink {
     ghost never_fails = { λ _. false };
 
     fn write(&mut self, bytes: &[u8]) -> Result<usize, Fault> {
-        match self.rt.stdout().write(bytes) {
+        match self.stream.write(bytes) {
             Ok(0) if !bytes.is_empty() => {
                 self.faults = self.faults.saturating_add(1);
                 Err(Fault::Failed)

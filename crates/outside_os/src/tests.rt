@@ -3,7 +3,7 @@ use crate::*;
 use outside::{Fault, Shelf, ShelfFault, Sink};
 use std::process::Abort;
 use std::test::Fail;
-use std::{fs, process};
+use std::{fs, io, process};
 
 fn use_shelf<S: Shelf>(rt: &impl Abort, shelf: &mut S, notes: &str) {
     let mut piece = [b'.'; 4];
@@ -42,9 +42,18 @@ fn use_sink<O: Sink>(rt: &impl Abort, out: &mut O) {
 }
 
 #[test]
-fn sink(rt: HostRuntime) -> Result<(), Fail> {
-    let mut out = StdSink::new(rt.clone()?);
+fn sink(rt: HostRuntime) {
+    let mut out = StdSink::new(rt.stdout());
     use_sink(&rt, &mut out);
     assert_eq!(rt; out.faults, 0);
+}
+
+#[test]
+fn closed_pipe(rt: HostRuntime) -> Result<(), Fail> {
+    let (reader, writer) = io::pipe(&rt)?;
+    drop(reader);
+    let mut out = StreamSink::new(writer);
+    assert_eq!(rt; out.write(b"lost"), Err(Fault::Failed));
+    assert_eq!(rt; out.faults, 1);
     Ok(())
 }

@@ -1,4 +1,5 @@
 ghost use Rattle.std.specs.Prelude.{◌≡◌, ◌≤◌, IfOk, length, None, false};
+ghost use Rattle.outside.specs.Counts.{HasRisen};
 
 use outside::{Fault, Shelf, ShelfFault};
 use std::io::{ErrorKind, Read, Seek, SeekFrom, Write};
@@ -22,6 +23,14 @@ impl FileShelf {
             absences: 0,
         }
     }
+
+    fn count_fault(&mut self)
+        ensures faults { HasRisen self.old.faults self.new.faults }
+        ensures no_fall { self.old.faults ≤ self.new.faults }
+        ensures absences { self.new.absences ≡ self.old.absences }
+    {
+        self.faults = self.faults.saturating_add(1);
+    }
 }
 
 impl Shelf for FileShelf {
@@ -42,7 +51,7 @@ impl Shelf for FileShelf {
                 Err(ShelfFault::Absent)
             }
             Err(_) => {
-                self.faults = self.faults.saturating_add(1);
+                self.count_fault();
                 Err(ShelfFault::Failed)
             }
         }
@@ -53,7 +62,7 @@ impl Shelf for FileShelf {
             Ok(()) => Ok(()),
             Err(error) if error.kind() == ErrorKind::OutOfMemory => Err(Fault::Memory),
             Err(_) => {
-                self.faults = self.faults.saturating_add(1);
+                self.count_fault();
                 Err(Fault::Failed)
             }
         }

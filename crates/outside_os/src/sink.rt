@@ -30,13 +30,9 @@ impl<W: Write + Drop> Sink for StreamSink<W> {
 
     fn write(&mut self, bytes: &[u8]) -> Result<usize, Fault> {
         match self.stream.write(bytes) {
-            Ok(0) if !bytes.is_empty() => {
-                self.faults = self.faults.saturating_add(1);
-                Err(Fault::Failed)
-            }
-            Ok(count) => Ok(count),
+            Ok(count) if count > 0 || bytes.is_empty() => Ok(count),
             Err(error) if error.kind() == ErrorKind::OutOfMemory => Err(Fault::Memory),
-            Err(_) => {
+            Ok(_) | Err(_) => {
                 self.faults = self.faults.saturating_add(1);
                 Err(Fault::Failed)
             }

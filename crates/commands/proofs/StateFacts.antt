@@ -15,7 +15,7 @@ use Rattle.serde_json.specs.Find as find
 use Rattle.serde_json.specs.View.{members_view}
 use Rattle.serde_json.proofs.Views.{Entry}
 use Rattle.serde_json.specs.Find.{as_array, as_object, get_member}
-use Rattle.wire.specs.Fields.{◌>>=◌}
+use Rattle.basis.specs.Options.{◌>>=◌}
 use Rattle.script_tree.specs.Datum.{Datum}
 use Rattle.script_tree.specs.Objects.{nothing_stored, one}
 use Rattle.script_tree.specs.declared.operation.Object.{Object}

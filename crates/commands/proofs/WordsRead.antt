@@ -2,7 +2,7 @@
 use Rattle.std.proofs.Common.{◌≡◌, ◌∙◌, ℕ, suc, ◌==◌, List, [], ◌∷◌, ◌++◌, fold, drop, map, length, Option, Some, None, option_map, is_some, Bool, true, false, cond, codes, ◌⊎◌, inl, inr, append_assoc, refl, ap, ap₂, sym, subst, arith, slice_get, encode_utf8, append-nil, String, Global, string_bytes}
 use Rattle.std.specs.Str.{bytes_eq, chars, IsUtf8, encode_utf8_all}
 use Rattle.std.proofs.lemmas.Str.{chars-encodes, IsUtf8-drop, IsUtf8-had, IsCharBoundary-after_ascii}
-use Rattle.wire.specs.Fields.{◌>>=◌}
+use Rattle.basis.specs.Options.{◌>>=◌}
 use Rattle.clap.specs.Lexer.{long_of, name_and_value, short_of}
 use Rattle.clap.specs.Kinds.{HasKind, IsAmong, Kinds, or_else}
 use Rattle.clap.specs.Matches.{found_of}

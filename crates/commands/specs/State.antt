@@ -6,7 +6,7 @@ use Rattle.std.specs.Str.{bytes_eq}
 use Rattle.serde_json.specs.Data as json
 use Rattle.serde_json.specs.Find.{as_array, as_i64, as_str}
 use Rattle.serde_json.specs.Read.{read}
-use Rattle.wire.specs.Fields.{◌>>=◌}
+use Rattle.basis.specs.Options.{◌>>=◌}
 use Rattle.script_tree.specs.Datum.{Datum, null, bool, number, text, list, data_of, is_within_limits}
 use Rattle.script_tree.specs.Objects.{Objects, one, nothing_stored}
 use Rattle.script_tree.specs.declared.operation.Object.{Object}

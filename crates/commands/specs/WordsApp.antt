@@ -4,7 +4,7 @@ use Rattle.clap.specs.Matches.{first_value}
 use Rattle.clap.specs.Walk.{Rule}
 use Rattle.clap.specs.declared.parser.matches.Found.{Found}
 use Rattle.clap.specs.Simple.{App, new_app, new_rule, on_top, with_rule}
-use Rattle.wire.specs.Fields.{◌>>=◌}
+use Rattle.basis.specs.Options.{◌>>=◌}
 use Rattle.commands.specs.Words.{ReplayNames}
 
 -- a name that has to be there

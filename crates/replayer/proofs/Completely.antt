@@ -3,7 +3,7 @@ use Rattle.std.proofs.Common.{◌≡◌, ℕ, ◌<◌, true, false, cond, List, 
 use Rattle.std.specs.Str.{bytes_eq}
 use Rattle.std.proofs.lemmas.Bool.{eq-eqb}
 use Rattle.std.proofs.lemmas.Slice.Eq.{bytes_eq-Decides}
-use Rattle.script_tree.specs.Lists.{nth}
+use Rattle.basis.specs.Lists.{nth}
 use Rattle.script_tree.specs.Objects.{Objects}
 use Rattle.script_tree.specs.Requests.{Request}
 use Rattle.script_tree.specs.Traces.{request_of, response_of, IsBalanced, Precedes}
@@ -18,7 +18,7 @@ use Rattle.script_meaning.specs.Replay.{Scene, opening, IsAllowed, IsAsTraced, a
 use Rattle.replayer.specs.Differences.{has_arrived, is_too_early, is_same_response, arrival_fault, act_fault, departure_fault, moment_fault, fault_of, difference_from, difference_of}
 use Rattle.replayer.specs.declared.reason.ReplayReason.TheVariants.{AtMoment}
 use Rattle.replayer.specs.declared.reason.Reason.TheVariants.{UnknownRequest, SecondArrival, TooEarly, BadChoice, OtherResponse}
-use Rattle.replayer.proofs.Places.{nth_left, nth_next, nth_within, nth_before}
+use Rattle.basis.proofs.Places.{nth_left, nth_next, nth_within, nth_before}
 use Rattle.replayer.proofs.DifferenceTests.{not_arrived, has_departed-at, asked_at, request_of-at, not_too_early, none_left}
 
 same_itself : (x : Response) → is_same_response x (Some x) ≡ true

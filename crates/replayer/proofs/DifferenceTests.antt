@@ -4,7 +4,7 @@ use Rattle.std.proofs.lemmas.Bool.{cases_Bool, eqb-true, eq-eqb, not-false, or_p
 use Rattle.std.proofs.Math.Bool.{or-false}
 use Rattle.std.proofs.lemmas.List.Folds.{list_any-append}
 use Rattle.std.specs.List.{list_any}
-use Rattle.script_tree.specs.Lists.{nth}
+use Rattle.basis.specs.Lists.{nth}
 use Rattle.script_tree.specs.Requests.{Request}
 use Rattle.script_tree.specs.Traces.{request_in, request_of}
 use Rattle.script_tree.specs.declared.request.Response.{Response}
@@ -15,7 +15,8 @@ use Rattle.script_tree.specs.declared.trace.TraceEvent.TheVariants.{Asked, Answe
 use Rattle.replayer.specs.Differences.{is_arrival, is_departure, has_arrived, has_departed, is_too_early, first_not_departed}
 use Rattle.replayer.specs.declared.reason.ReplayReason.{ReplayReason}
 use Rattle.replayer.specs.declared.reason.ReplayReason.TheVariants.{Open as LeftOpen}
-use Rattle.replayer.proofs.Places.{some_is, none_is_not, In, any_true, true_any, false_any, first_some, some_first}
+use Rattle.basis.proofs.Options.{some_is, none_is_not}
+use Rattle.basis.proofs.Places.{In, any_true, true_any, false_any, first_some, some_first}
 
 -- ---- arrivals and departures
 

@@ -1,5 +1,4 @@
 mod Completely
-mod Places
 pub mod Reached
 pub mod Wanted
 mod Soundly

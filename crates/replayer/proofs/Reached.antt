@@ -26,7 +26,7 @@ use Rattle.script_meaning.specs.Evaluate.{Setting, Later, Flow, on, back, print_
 use Rattle.script_meaning.specs.Operators.{printed}
 use Rattle.script_meaning.specs.Run.{Progress, Stop, wants, fault, answer_fault, Outcome, goes, stops, Run, ◌>>=◌, give, fails, after, charge, answered, issue}
 use Rattle.script_meaning.specs.Variables.{Variables}
-use Rattle.replayer.proofs.Places.{some_is, none_is_not}
+use Rattle.basis.proofs.Options.{some_is, none_is_not}
 
 -- ---- parts of a run that use answers up
 

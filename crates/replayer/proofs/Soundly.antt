@@ -4,7 +4,7 @@ use Rattle.std.specs.Str.{bytes_eq}
 use Rattle.std.proofs.lemmas.Bool.{cases_eq, cases_order, cond-true, cond-false, eqb-true, eq-eqb, ne_eqb, or_parts, or_from, or_left, or_right}
 use Rattle.std.proofs.lemmas.Slice.Eq.{bytes_eq-Decides}
 use Rattle.script_tree.specs.Datum.{Datum}
-use Rattle.script_tree.specs.Lists.{nth}
+use Rattle.basis.specs.Lists.{nth}
 use Rattle.script_tree.specs.Objects.{Objects, plausible}
 use Rattle.script_tree.specs.Requests.{Request}
 use Rattle.script_tree.specs.Traces.{request_of, response_of, IsBalanced, Precedes}
@@ -24,7 +24,8 @@ use Rattle.replayer.specs.declared.reason.Reason.{Reason}
 use Rattle.replayer.specs.declared.reason.Reason.TheVariants.{UnknownRequest, SecondArrival, TooEarly, BadChoice, OtherResponse}
 use Rattle.replayer.specs.declared.reason.ReplayReason.{ReplayReason}
 use Rattle.replayer.specs.declared.reason.ReplayReason.TheVariants.{AtMoment}
-use Rattle.replayer.proofs.Places.{some_is, none_is_not, nth_take, take_nth}
+use Rattle.basis.proofs.Options.{some_is, none_is_not}
+use Rattle.basis.proofs.Places.{nth_take, take_nth}
 use Rattle.replayer.proofs.DifferenceTests.{arrived_more, departed_more, arrived_at, has_arrived-at, departed_at, has_departed-at, asked_at, departed_before, all_departed}
 
 -- ---- a moment that doesn't fail

@@ -28,7 +28,7 @@ use Rattle.script_meaning.specs.Replay.{Scene, ending_of, ending_with, next_of}
 use Rattle.script_meaning.specs.Run.{Progress, Stop, wants, fault, answer_fault, Outcome, goes, stops, Run, ◌>>=◌, give, fails, after, charge, answered, issue}
 use Rattle.script_meaning.specs.Variables.{Variables}
 use Rattle.replayer.specs.OnRegisters.{IsOnRegister}
-use Rattle.replayer.proofs.Places.{some_is, none_is_not}
+use Rattle.basis.proofs.Options.{some_is, none_is_not}
 
 -- ---- parts of a run that want operations on registers alone
 

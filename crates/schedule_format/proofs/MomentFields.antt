@@ -4,7 +4,8 @@ use Rattle.std.specs.Int.{w32, to_be_bytes}
 use Rattle.std.proofs.lemmas.Bool.{eqb-true}
 use Rattle.script_tree.specs.declared.schedule.Moment.{Moment}
 use Rattle.script_tree.specs.declared.schedule.Moment.TheVariants.{Arrive, Act, Depart}
-use Rattle.wire.specs.Fields.{◌>>=◌, byte_at, number_at, choice_at, whole_of, record_at}
+use Rattle.basis.specs.Options.{◌>>=◌}
+use Rattle.wire.specs.Fields.{byte_at, number_at, choice_at, whole_of, record_at}
 use Rattle.wire.specs.Readers.{IsBytes, IsReader}
 use Rattle.wire.specs.Spellings.{IsSpelled, IsFieldAt, number_field, framed, choice_spelling}
 use Rattle.wire.specs.Files.{IsExact}

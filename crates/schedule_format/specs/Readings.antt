@@ -1,7 +1,8 @@
 -- What the reader finds in a payload, step by step. The laws of `encoding` say that it is what is spelled there.
 use Rattle.std.specs.Prelude.{ℕ, ◌==◌, List, Option, Some, None, if◌then◌else◌}
 use Rattle.std.specs.Int.{w32}
-use Rattle.wire.specs.Fields.{◌>>=◌, byte_at, number_at, choice_at}
+use Rattle.basis.specs.Options.{◌>>=◌}
+use Rattle.wire.specs.Fields.{byte_at, number_at, choice_at}
 use Rattle.script_tree.specs.declared.schedule.Moment.{Moment}
 use Rattle.script_tree.specs.declared.schedule.Moment.TheVariants.{Arrive, Act, Depart}
 

@@ -2,7 +2,7 @@
 use Rattle.std.proofs.Common.{◌≡◌, ℕ, zero, suc, ◌+◌, ◌*◌, ◌<◌, lit<, subst, nat_eq, false, List, [], ◌∷◌, Option, Some, None, codes, refl, ap, arith}
 use Rattle.std.specs.Fmt.{digits}
 use Rattle.std.proofs.lemmas.Bool.Decides.{nat_tests}
-use Rattle.script_tree.specs.Lists.{nth, first_answer, or_else}
+use Rattle.basis.specs.Lists.{nth, first_answer, or_else}
 use Rattle.script_tree.specs.Objects.{acted, plausible, nothing_stored}
 use Rattle.script_tree.specs.Requests.{Request}
 use Rattle.script_tree.specs.Traces.{request_of, response_of, Precedes}

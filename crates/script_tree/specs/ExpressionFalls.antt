@@ -6,18 +6,30 @@ use Rattle.script_tree.specs.Syntax as s
 use Rattle.script_tree.specs.ExpressionWeight.{expression_weight, query_weight, expression_list_weight, query_list_weight, condition_list_weight, assignment_list_weight}
 use Rattle.script_tree.specs.ExpressionView.{expression_of, query_of, condition_of, assignment_of}
 use Rattle.script_tree.specs.declared.syntax.expression.Expression.TheInside.{Inside as InExpression}
-use Rattle.script_tree.specs.declared.syntax.expression.Expressions.TheInside.{Inside as InExpressions}
 use Rattle.script_tree.specs.declared.syntax.expression.Query.TheInside.{Inside as InQuery}
-use Rattle.script_tree.specs.declared.syntax.expression.Queries.TheInside.{Inside as InQueries}
-use Rattle.script_tree.specs.declared.syntax.expression.Conditions.TheInside.{Inside as InConditions}
-use Rattle.script_tree.specs.declared.syntax.expression.Assignments.TheInside.{Inside as InAssignments}
 use Rattle.script_tree.specs.declared.syntax.expression.Condition.{Condition}
 use Rattle.script_tree.specs.declared.syntax.expression.Assignment.{Assignment}
 use Rattle.script_tree.specs.declared.syntax.expression.ExpressionNode.{ExpressionNode}
 use Rattle.script_tree.specs.declared.syntax.expression.ExpressionNode.TheVariants.{Number, Text, Bool, Null, Bracket, Variable, Call, List as Listed, Transact, Unary, Binary, And, Or, Index}
 use Rattle.script_tree.specs.declared.syntax.expression.QueryNode.{QueryNode}
 use Rattle.script_tree.specs.declared.syntax.expression.QueryNode.TheVariants.{Insert, Select, Update, Delete, Expect}
-use Rattle.script_tree.specs.declared.syntax.expression.Assignments.TheDeep.{deep-Expression, deep-Expressions, deep-ExpressionNode, deep-Query, deep-QueryNode, deep-Queries, deep-Condition, deep-Conditions, deep-Assignment, deep-Assignments}
+use Rattle.script_tree.specs.declared.syntax.expression.Expression.TheDeep.{deep-Expression, deep-ExpressionNode, deep-Query, deep-QueryNode, deep-Condition, deep-Assignment}
+
+each_expression : (es : List s.Expression) → most (λ e. expression_weight e + 1) es ≤ expression_list_weight es
+each_expression [] = omega arith
+each_expression (e ∷ es) = omega (arith, each_expression es)
+
+each_query : (ts : List s.Query) → most (λ t. query_weight t + 1) ts ≤ query_list_weight ts
+each_query [] = omega arith
+each_query (t ∷ ts) = omega (arith, each_query ts)
+
+each_condition : (ts : List Condition) → most deep-Condition ts ≤ condition_list_weight (map condition_of ts)
+each_condition [] = omega arith
+each_condition (t ∷ ts) = omega (arith, each_condition ts)
+
+each_assignment : (ts : List Assignment) → most deep-Assignment ts ≤ assignment_list_weight (map assignment_of ts)
+each_assignment [] = omega arith
+each_assignment (t ∷ ts) = omega (arith, each_assignment ts)
 
 node_falls : (at : ℕ) (n : ExpressionNode) → deep-ExpressionNode n ≤ expression_weight (expression_of at n)
 node_falls at (Number n) = omega arith
@@ -26,9 +38,9 @@ node_falls at (Bool b) = omega arith
 node_falls at Null = omega arith
 node_falls at (Bracket e) = omega arith
 node_falls at (Variable x) = omega arith
-node_falls at (Call f es) = omega arith
-node_falls at (Listed es) = omega arith
-node_falls at (Transact qs) = omega arith
+node_falls at (Call f es) = omega (arith, each_expression es)
+node_falls at (Listed es) = omega (arith, each_expression es)
+node_falls at (Transact qs) = omega (arith, each_query qs)
 node_falls at (Unary op e) = omega arith
 node_falls at (Binary op a b) = omega arith
 node_falls at (And a b) = omega arith
@@ -39,39 +51,11 @@ pub expression_falls : (a : InExpression) → deep-Expression a ≤ expression_w
 expression_falls a = omega (arith, node_falls a.at a.node)
 
 query_node_falls : (at : ℕ) (n : QueryNode) → deep-QueryNode n ≤ query_weight (query_of at n)
-query_node_falls at (Insert table es) = omega arith
-query_node_falls at (Select columns table cs) = omega arith
-query_node_falls at (Update table as' cs) = omega arith
-query_node_falls at (Delete table cs) = omega arith
-query_node_falls at (Expect e table cs) = omega arith
+query_node_falls at (Insert table es) = omega (arith, each_expression es)
+query_node_falls at (Select columns table cs) = omega (arith, each_condition cs)
+query_node_falls at (Update table as' cs) = omega (arith, each_assignment as', each_condition cs)
+query_node_falls at (Delete table cs) = omega (arith, each_condition cs)
+query_node_falls at (Expect e table cs) = omega (arith, each_condition cs)
 
 pub query_falls : (a : InQuery) → deep-Query a ≤ query_weight (query_of a.at a.node)
 query_falls a = omega (arith, query_node_falls a.at a.node)
-
-each_expression : (es : List s.Expression) → most (λ e. expression_weight e + 1) es ≤ expression_list_weight es
-each_expression [] = omega arith
-each_expression (e ∷ es) = omega (arith, each_expression es)
-
-pub expressions_fall : (a : InExpressions) → deep-Expressions a ≤ expression_list_weight a.items.items
-expressions_fall a = omega (arith, each_expression a.items.items)
-
-each_query : (ts : List s.Query) → most (λ t. query_weight t + 1) ts ≤ query_list_weight ts
-each_query [] = omega arith
-each_query (t ∷ ts) = omega (arith, each_query ts)
-
-pub queries_fall : (a : InQueries) → deep-Queries a ≤ query_list_weight a.items.items
-queries_fall a = omega (arith, each_query a.items.items)
-
-each_condition : (ts : List Condition) → most deep-Condition ts ≤ condition_list_weight (map condition_of ts)
-each_condition [] = omega arith
-each_condition (t ∷ ts) = omega (arith, each_condition ts)
-
-pub conditions_fall : (a : InConditions) → deep-Conditions a ≤ condition_list_weight (map condition_of a.items.items)
-conditions_fall a = omega (arith, each_condition a.items.items)
-
-each_assignment : (ts : List Assignment) → most deep-Assignment ts ≤ assignment_list_weight (map assignment_of ts)
-each_assignment [] = omega arith
-each_assignment (t ∷ ts) = omega (arith, each_assignment ts)
-
-pub assignments_fall : (a : InAssignments) → deep-Assignments a ≤ assignment_list_weight (map assignment_of a.items.items)
-assignments_fall a = omega (arith, each_assignment a.items.items)

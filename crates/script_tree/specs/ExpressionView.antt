@@ -1,5 +1,5 @@
 -- The tree that a node of the code stands for.
-use Rattle.std.specs.Prelude.{ℕ}
+use Rattle.std.specs.Prelude.{ℕ, map}
 use Rattle.script_tree.specs.Syntax as s
 use Rattle.script_tree.specs.SyntaxLists.{expressions_of, queries_of, conditions_of, assignments_of}
 use Rattle.script_tree.specs.declared.syntax.expression.ExpressionNode.{ExpressionNode}
@@ -8,6 +8,12 @@ use Rattle.script_tree.specs.declared.syntax.expression.QueryNode.{QueryNode}
 use Rattle.script_tree.specs.declared.syntax.expression.QueryNode.TheVariants.{Insert, Select, Update, Delete, Expect}
 use Rattle.script_tree.specs.declared.syntax.expression.Condition.{Condition}
 use Rattle.script_tree.specs.declared.syntax.expression.Assignment.{Assignment}
+
+abbrev pub condition_of : Condition → s.Condition
+condition_of c = record { column = c.column; comparison = c.comparison; value = c.value }
+
+abbrev pub assignment_of : Assignment → s.Assignment
+assignment_of a = record { column = a.column; value = a.value }
 
 abbrev pub expression_of : ℕ → ExpressionNode → s.Expression
 expression_of at (Number n) = s.number at n
@@ -27,13 +33,7 @@ expression_of at (Index a b) = s.index at a.value b.value
 
 abbrev pub query_of : ℕ → QueryNode → s.Query
 query_of at (Insert table es) = s.insert at table (expressions_of es)
-query_of at (Select columns table cs) = s.select at columns table (conditions_of cs)
-query_of at (Update table as' cs) = s.update at table (assignments_of as') (conditions_of cs)
-query_of at (Delete table cs) = s.delete at table (conditions_of cs)
-query_of at (Expect count table cs) = s.expect at count.value table (conditions_of cs)
-
-abbrev pub condition_of : Condition → s.Condition
-condition_of c = record { column = c.column; comparison = c.comparison; value = c.value }
-
-abbrev pub assignment_of : Assignment → s.Assignment
-assignment_of a = record { column = a.column; value = a.value }
+query_of at (Select columns table cs) = s.select at columns table (conditions_of (map condition_of cs))
+query_of at (Update table as' cs) = s.update at table (assignments_of (map assignment_of as')) (conditions_of (map condition_of cs))
+query_of at (Delete table cs) = s.delete at table (conditions_of (map condition_of cs))
+query_of at (Expect count table cs) = s.expect at count.value table (conditions_of (map condition_of cs))

@@ -1,6 +1,8 @@
 -- Requests, and their limits.
-use Rattle.std.specs.Prelude.{◌≡◌, ℕ, nat_le, Bool, true, ◌&&◌, List, length}
+use Rattle.std.specs.Prelude.{◌≡◌, ℕ, nat_le, Bool, true, ◌&&◌, List, length, Option}
 use Rattle.std.specs.List.{list_all}
+use Rattle.std.specs.Option.{SomeIff}
+use Rattle.script_tree.specs.declared.limits.TheConstants.{MOST_REQUEST_TEXT_BYTES, MOST_PARAMETERS}
 use Rattle.script_tree.specs.declared.request.Parameter.{Parameter}
 
 pub record Request : Type 0 where
@@ -9,18 +11,26 @@ pub record Request : Type 0 where
   pub parameters : List Parameter
   pub body : List ℕ
 
--- A text of a request has at most 65,535 bytes, and there are at most 1,024 parameters.
+abbrev pub request_with : (method path : List ℕ) → List Parameter → (body : List ℕ) → Request
+request_with method path parameters body = record { method = method; path = path; parameters = parameters; body = body }
+
+-- ---- limits
+
 abbrev pub text_fits : List ℕ → Bool
-text_fits bytes = nat_le (length bytes) 65535
+text_fits bytes = nat_le (length bytes) MOST_REQUEST_TEXT_BYTES
 
 abbrev pub parameter_fits : Parameter → Bool
 parameter_fits p = text_fits p.name && text_fits p.value
 
 abbrev pub parameters_fit : List Parameter → Bool
-parameters_fit ps = nat_le (length ps) 1024 && list_all parameter_fits ps
+parameters_fit ps = nat_le (length ps) MOST_PARAMETERS && list_all parameter_fits ps
 
 abbrev pub is_request_within_limits : Request → Bool
 is_request_within_limits q = text_fits q.method && (text_fits q.path && (text_fits q.body && parameters_fit q.parameters))
 
 abbrev pub IsRequestWithinLimits : Request → Type 0
 IsRequestWithinLimits q = is_request_within_limits q ≡ true
+
+-- There is a request of these parts exactly where they are within the limits.
+abbrev pub IsRequestOf : Request → Option Request → Type 0
+IsRequestOf parts request = SomeIff request (IsRequestWithinLimits parts) parts

@@ -1,6 +1,6 @@
 -- What a trace says of requests, responses and time, by places in the trace.
 use Rattle.std.specs.Prelude.{◌≡◌, ℕ, ◌<◌, List, Option, Some, None, nat_eq, if◌then◌else◌}
-use Rattle.script_tree.specs.Lists.{nth, first_answer}
+use Rattle.basis.specs.Lists.{nth, first_answer}
 use Rattle.script_tree.specs.Requests.{Request}
 use Rattle.script_tree.specs.declared.request.Response.{Response}
 use Rattle.script_tree.specs.declared.trace.TraceEvent.{TraceEvent}

@@ -4,7 +4,7 @@ use Rattle.std.specs.Option.{option_map, option_map_or}
 use Rattle.std.specs.Ordering.{int_eq, is_eq, is_lt}
 use Rattle.script_tree.specs.Datum.{Datum, null, number, list, data_of}
 use Rattle.script_tree.specs.Order.{compare, compares}
-use Rattle.script_tree.specs.Lists.{nth_or, with_nth}
+use Rattle.basis.specs.Lists.{nth_or, with_nth}
 use Rattle.script_tree.specs.declared.transaction.Test.{Test}
 use Rattle.script_tree.specs.declared.transaction.Change.{Change}
 use Rattle.script_tree.specs.declared.transaction.Statement.{Statement}

@@ -4,25 +4,25 @@ use Rattle.std.proofs.Common.{arith}
 use Rattle.script_tree.specs.Datum.{Datum, weight, size}
 use Rattle.script_tree.specs.ValueView.{datum_of}
 use Rattle.script_tree.specs.declared.value.Value.TheInside.{Inside as InValue}
-use Rattle.script_tree.specs.declared.value.Values.TheInside.{Inside as InValues}
+use Rattle.script_tree.specs.declared.value.Members.TheInside.{Inside as InMembers}
 use Rattle.script_tree.specs.declared.value.Node.{Node}
-use Rattle.script_tree.specs.declared.value.Value.TheDeep.{deep-Node, deep-Value, deep-Values}
+use Rattle.script_tree.specs.declared.value.Members.TheDeep.{deep-Node, deep-Value, deep-Members}
 use Rattle.script_tree.specs.declared.value.Node.TheVariants.{Null, Bool, Number, Text, List as Listed}
 use denote.Param.Weighed.{most}
 
-pub node_falls : (v : Node) → deep-Node v ≤ 2 * size (datum_of v)
+pub node_falls : (v : Node) → deep-Node v ≤ 3 * size (datum_of v)
 node_falls Null = omega arith
 node_falls (Bool b) = omega arith
 node_falls (Number n) = omega arith
 node_falls (Text bs) = omega arith
 node_falls (Listed ds) = omega arith
 
-pub value_falls : (a : InValue) → deep-Value a ≤ 2 * size (datum_of a.node)
+pub value_falls : (a : InValue) → deep-Value a ≤ 3 * size (datum_of a.node)
 value_falls a = omega (arith, node_falls a.node)
 
-pub values_fall : (ds : List Datum) → most (λ d. 2 * size d + 1) ds ≤ 2 * weight ds + 1
+pub values_fall : (ds : List Datum) → most (λ d. 3 * size d + 1) ds ≤ 3 * weight ds + 1
 values_fall [] = omega arith
 values_fall (d ∷ ds) = omega (arith, values_fall ds)
 
-pub weight_falls : (a : InValues) → deep-Values a ≤ 2 * weight a.items.items + 1
+pub weight_falls : (a : InMembers) → deep-Members a ≤ 3 * weight a.items.items + 1
 weight_falls a = omega (arith, values_fall a.items.items)

@@ -7,5 +7,5 @@ abbrev pub datum_of : Node → Datum
 datum_of Null = null
 datum_of (Bool b) = bool b
 datum_of (Number n) = number n
-datum_of (Text bytes) = text bytes
+datum_of (Text shared) = text shared.value
 datum_of (Listed ds) = list (data_of ds)

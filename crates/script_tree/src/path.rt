@@ -1,7 +1,7 @@
 ghost use Rattle.std.specs.Prelude.{◌≡◌};
 
 use crate::fault::ScriptFault;
-use std::marker::Model;
+use basis::Items;
 
 /// How a run ends.
 #[derive(Clone, Copy, Debug, PartialEq, Eq)]
@@ -14,40 +14,7 @@ pub enum End {
 }
 
 /// The decisions of a run, in order.
-#[derive(Debug, Drop)]
-pub struct Decisions {
-    items: Vec<bool>,
-}
-
-impl Model for Decisions {
-    ghost use Rattle.std.specs.Prelude.{List, Bool};
-
-    ghost Value = { List Bool };
-
-    ghost view = { λ a. a.items.items };
-}
-
-impl Decisions {
-    pub fn from_vec(items: Vec<bool>) -> Decisions
-        ensures { result ≡ items.items }
-    {
-        Decisions { items }
-    }
-
-    /// Gives the decisions back.
-    pub fn into_vec(self) -> Vec<bool>
-        ensures { result.items ≡ self }
-    {
-        let Decisions { items } = self;
-        items
-    }
-
-    pub fn as_slice(&self) -> &[bool]
-        ensures { result.now ≡ self.now }
-    {
-        self.items.as_slice()
-    }
-}
+pub type Decisions = Items<bool>;
 
 /// The whole path of a run through its program: which page, each decision, the steps that were
 /// spent, and how it ended. A recorder groups requests by their paths.

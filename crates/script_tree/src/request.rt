@@ -1,16 +1,12 @@
 ghost use Rattle.std.specs.Prelude.{◌≡◌};
 ghost use Rattle.std.specs.List.{list_all};
-ghost use Rattle.std.specs.Option.{SomeIff};
-ghost use Rattle.script_tree.specs.Requests.{Request as Meant, IsRequestWithinLimits, text_fits, parameter_fits, parameters_fit};
+ghost use Rattle.script_tree.specs.Requests.{request_with, IsRequestOf};
+ghost use Rattle.script_tree.specs.Requests.{text_fits, parameter_fits, parameters_fit};
 
+use crate::limits::{MOST_PARAMETERS, MOST_REQUEST_TEXT_BYTES};
 use crate::text::Text;
+use basis::Items;
 use std::marker::Model;
-
-/// The most bytes that a text of a request may have.
-pub const MOST_BYTES: usize = 65_535;
-
-/// The most parameters that a request may have.
-pub const MOST_PARAMETERS: usize = 1_024;
 
 /// A parameter of a request.
 #[derive(Debug, Drop)]
@@ -20,23 +16,7 @@ pub struct Parameter {
 }
 
 /// The parameters of a request, in order. A name may stand twice.
-#[derive(Debug, Drop)]
-pub struct Parameters {
-    items: Vec<Parameter>,
-}
-
-impl Model for Parameters {
-    ghost use Rattle.std.specs.Prelude.{List};
-    ghost use Rattle.std.specs.Coded.{coded_list};
-    ghost use Rattle.script_tree.specs.declared.request.Parameter.{Parameter};
-    ghost use Rattle.script_tree.specs.contracts.request.Parameter as item;
-
-    ghost Value = { List Parameter };
-
-    ghost coded = { coded_list item.the_row.coded };
-
-    ghost view = { λ a. a.items.items };
-}
+pub type Parameters = Items<Parameter>;
 
 /// A request that a client sends. Each request is within the limits of a request.
 #[derive(Debug, Drop)]
@@ -48,13 +28,15 @@ pub struct Request {
 }
 
 impl Model for Request {
-    ghost use Rattle.script_tree.specs.Requests.{Request, IsRequestWithinLimits};
+    ghost use Rattle.script_tree.specs.Requests.{Request};
 
     ghost Value = { Request };
 
-    ghost view = { λ q. record { method = q.method; path = q.path; parameters = q.parameters; body = q.body } };
+    ghost use Rattle.script_tree.specs.RequestView.{request_of, IsWithinLimits};
 
-    ghost invariant = { λ q. IsRequestWithinLimits (record { method = q.method; path = q.path; parameters = q.parameters; body = q.body }) };
+    ghost view = { request_of };
+
+    ghost invariant = { IsWithinLimits };
 }
 
 /// What a page answers.
@@ -64,33 +46,11 @@ pub struct Response {
     pub body: Text,
 }
 
-impl Parameters {
-    pub fn from_vec(items: Vec<Parameter>) -> Parameters
-        ensures { result ≡ items.items }
-    {
-        Parameters { items }
-    }
-
-    /// Gives the parameters back.
-    pub fn into_vec(self) -> Vec<Parameter>
-        ensures { result.items ≡ self }
-    {
-        let Parameters { items } = self;
-        items
-    }
-
-    pub fn as_slice(&self) -> &[Parameter]
-        ensures { result.now ≡ self.now }
-    {
-        self.items.as_slice()
-    }
-
-    /// Whether a request may have them.
-    pub fn fit(&self) -> bool
-        ensures { result ≡ parameters_fit self.now }
-    {
-        self.items.len() <= MOST_PARAMETERS && all_fit(self.items.as_slice())
-    }
+/// Whether a request may have these parameters.
+pub fn parameters_fit(parameters: &Parameters) -> bool
+    ensures { result ≡ parameters_fit parameters.now }
+{
+    parameters.len() <= MOST_PARAMETERS && all_fit(parameters.as_slice())
 }
 
 impl Parameter {
@@ -112,15 +72,19 @@ fn all_fit(parameters: &[Parameter]) -> bool
 pub fn text_fits(text: &Text) -> bool
     ensures { result ≡ text_fits text.now }
 {
-    text.len() <= MOST_BYTES
+    text.len() <= MOST_REQUEST_TEXT_BYTES
 }
 
 impl Request {
     /// The request of these parts, or `None` where a part is beyond its limit.
     pub fn new(method: Text, path: Text, parameters: Parameters, body: Text) -> Option<Request>
-        ensures { let q : Meant = record { method = method; path = path; parameters = parameters; body = body } in SomeIff result (IsRequestWithinLimits q) q }
+        ensures { IsRequestOf (request_with method path parameters body) result }
     {
-        if text_fits(&method) && text_fits(&path) && text_fits(&body) && parameters.fit() {
+        if text_fits(&method)
+            && text_fits(&path)
+            && text_fits(&body)
+            && parameters_fit(&parameters)
+        {
             Some(Request {
                 method,
                 path,

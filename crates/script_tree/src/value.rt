@@ -2,12 +2,15 @@ ghost use Rattle.std.specs.Prelude.{◌≡◌, min, length, IfOk};
 ghost use Rattle.script_tree.specs.Datum.{size, nesting, members_size, members_nesting, data_of, is_within_limits, number, null, bool, text as texted, list as listed};
 ghost use Rattle.script_tree.specs.Order.{compare, compare_members, rank};
 
+use crate::limits::{MOST_VALUE_NESTING, MOST_VALUE_SIZE};
 use crate::text::Text;
-use std::alloc::AllocError;
+use std::alloc::{AllocError, Global};
 use std::cmp::Ordering;
 use std::marker::Model;
+use std::sync::Arc;
 
 /// A value of the script language. Contracts see it as a `Datum`, without where it lies in memory.
+/// A copy has the same text or members as its source, and takes no memory.
 #[cycle(value)]
 #[derive(Drop)]
 pub struct Value {
@@ -21,7 +24,7 @@ pub enum Node {
     Null,
     Bool(bool),
     Number(i64),
-    Text(Text),
+    Text(Arc<Text>),
     List(Values),
 }
 
@@ -38,18 +41,18 @@ impl Model for Value {
 
     ghost view = { λ a. datum_of a.node };
 
-    ghost size = { λ d. 2 * in_all d };
+    ghost size = { λ d. 3 * in_all d };
 
     ghost use Rattle.script_tree.specs.ValueFalls.{value_falls};
 
     ghost size_decreases = { λ a h. value_falls a };
 }
 
-/// A list of values.
+/// A list of values, shared by all of its copies.
 #[cycle(value)]
 #[derive(Drop)]
 pub struct Values {
-    items: Vec<Value>,
+    members: Arc<Members>,
 }
 
 impl Model for Values {
@@ -61,9 +64,41 @@ impl Model for Values {
 
     ghost coded = { coded_data };
 
+    ghost view = { λ a. a.members.value };
+
+    ghost size = { λ ds. 3 * weight ds + 2 };
+
+    ghost use Rattle.std.proofs.Common.{arith};
+
+    ghost size_decreases = { λ a h. Prim.omega arith };
+}
+
+/// The members of a list, with their sizes added up and the greatest of their nestings, each as far
+/// as its type goes.
+#[cycle(value)]
+#[derive(Drop)]
+struct Members {
+    items: Vec<Value>,
+    size: u64,
+    nesting: u64,
+}
+
+impl Model for Members {
+    ghost use Rattle.std.specs.Prelude.{List, ◌+◌, ◌*◌};
+    ghost use Rattle.script_tree.specs.Datum.{Datum, weight};
+    ghost use Rattle.script_tree.specs.DatumCode.{coded_data};
+
+    ghost Value = { List Datum };
+
+    ghost coded = { coded_data };
+
+    ghost use Rattle.script_tree.specs.Measured.{IsMeasured};
+
     ghost view = { λ a. a.items.items };
 
-    ghost size = { λ ds. 2 * weight ds + 1 };
+    ghost invariant = { IsMeasured };
+
+    ghost size = { λ ds. 3 * weight ds + 1 };
 
     ghost use Rattle.script_tree.specs.ValueFalls.{weight_falls};
 
@@ -93,12 +128,12 @@ impl Value {
         }
     }
 
-    pub fn text(text: Text) -> Value
-        ensures { result ≡ texted text }
+    pub fn text(alloc: Global, text: Text) -> Result<Value, AllocError>
+        ensures { IfOk result (λ value. value ≡ texted text) }
     {
-        Value {
-            node: Node::Text(text),
-        }
+        Ok(Value {
+            node: Node::Text(Arc::new(alloc, text)?),
+        })
     }
 
     pub fn list(values: Values) -> Value
@@ -111,7 +146,6 @@ impl Value {
 
     /// How large it is: texts count their bytes, and everything counts 1 more. A size that doesn't
     /// fit its type is given as the type's greatest number.
-    #[cycle(value_size)]
     pub fn size(&self) -> u64
         ensures { result ≡ min (size self.now) u64.MAX }
     {
@@ -124,21 +158,20 @@ impl Value {
 
     /// How deep its lists nest. A nesting that doesn't fit its type is given as the type's greatest
     /// number.
-    #[cycle(value_nesting)]
     pub fn nesting(&self) -> u64
         ensures { result ≡ min (nesting self.now) u64.MAX }
     {
         match &self.node {
+            Node::Null | Node::Bool(_) | Node::Number(_) | Node::Text(_) => 0,
             Node::List(values) => values.nesting().saturating_add(1),
-            _ => 0,
         }
     }
 
-    /// Whether a script may hold it: its size is 65,536 at most, and its nesting 16.
+    /// Whether a script may hold it.
     pub fn is_within_limits(&self) -> bool
         ensures { result ≡ is_within_limits self.now }
     {
-        self.size() <= 65_536 && self.nesting() <= 16
+        self.size() <= MOST_VALUE_SIZE && self.nesting() <= MOST_VALUE_NESTING
     }
 
     /// The order of values: null, false, true, numbers, texts by bytes, lists member by member.
@@ -172,7 +205,6 @@ impl Value {
 impl Clone for Value {
     ghost is_clone = { λ value copy. copy ≡ value };
 
-    #[cycle(value_clone)]
     fn clone(&self) -> Result<Value, AllocError> {
         let node = match &self.node {
             Node::Null => Node::Null,
@@ -244,50 +276,88 @@ impl Eq for Value {
 }
 
 impl Values {
-    pub fn from_vec(items: Vec<Value>) -> Values
-        ensures { result ≡ items.items }
+    /// The list of these values; it takes memory for the count of its owners.
+    pub fn from_vec(items: Vec<Value>) -> Result<Values, AllocError>
+        ensures { IfOk result (λ values. values ≡ items.items) }
     {
-        Values { items }
+        let alloc = *items.allocator();
+        let size = size_of_all(items.as_slice());
+        let nesting = nesting_of_all(items.as_slice());
+        let members = Members {
+            items,
+            size,
+            nesting,
+        };
+        Ok(Values {
+            members: Arc::new(alloc, members)?,
+        })
     }
 
-    /// Gives the values back.
-    pub fn into_vec(self) -> Vec<Value>
-        ensures { result.items ≡ self }
+    /// Gives the values back: these very ones where nobody else has the list, else copies.
+    pub fn into_vec(self) -> Result<Vec<Value>, AllocError>
+        ensures { IfOk result (λ values. values.items ≡ self) }
     {
-        let Values { items } = self;
-        items
+        let Values { members } = self;
+        match Arc::try_unwrap(members) {
+            Ok(members) => Ok(members.into_items()),
+            Err(shared) => copied(shared.as_vec()),
+        }
     }
 
     pub fn as_slice(&self) -> &[Value]
         ensures { result.now ≡ self.now }
     {
-        self.items.as_slice()
+        self.members.as_vec().as_slice()
     }
 
-    #[cycle(value_size)]
     fn size(&self) -> u64
         ensures { result ≡ min (members_size (data_of self.now)) u64.MAX }
     {
-        let mut total = 0u64;
-        for value in self.items.iter() {
-            total = total.saturating_add(value.size());
-        }
-        total
+        self.members.size()
     }
 
-    #[cycle(value_nesting)]
     fn nesting(&self) -> u64
         ensures { result ≡ min (members_nesting (data_of self.now)) u64.MAX }
     {
-        let mut most = 0u64;
-        for value in self.items.iter() {
-            most = most.max(value.nesting());
-        }
-        most
+        self.members.nesting()
     }
 
     #[cycle(value_compare)]
     fn compare(&self, other: &Values) -> Ordering
+        ensures { result ≡ compare_members (data_of self.now) (data_of other.now) }
+    {
+        self.members.compare(&other.members)
+    }
+}
+
+impl Members {
+    fn into_items(self) -> Vec<Value>
+        ensures { result.items ≡ self }
+    {
+        let Members { items, .. } = self;
+        items
+    }
+
+    fn as_vec(&self) -> &Vec<Value>
+        ensures { result.now.items ≡ self.now }
+    {
+        &self.items
+    }
+
+    fn size(&self) -> u64
+        ensures { result ≡ min (members_size (data_of self.now)) u64.MAX }
+    {
+        self.size
+    }
+
+    fn nesting(&self) -> u64
+        ensures { result ≡ min (members_nesting (data_of self.now)) u64.MAX }
+    {
+        self.nesting
+    }
+
+    #[cycle(value_compare)]
+    fn compare(&self, other: &Members) -> Ordering
         ensures { result ≡ compare_members (data_of self.now) (data_of other.now) }
     {
         let shorter = self.items.len().min(other.items.len());
@@ -304,12 +374,40 @@ impl Values {
 impl Clone for Values {
     ghost is_clone = { λ values copy. copy ≡ values };
 
-    #[cycle(value_clone)]
     fn clone(&self) -> Result<Values, AllocError> {
-        let mut items = Vec::new(*self.items.allocator());
-        for value in self.items.iter() {
-            items.push(value.clone()?)?;
-        }
-        Ok(Values { items })
+        Ok(Values {
+            members: self.members.clone()?,
+        })
     }
+}
+
+/// A list of the same values.
+fn copied(values: &Vec<Value>) -> Result<Vec<Value>, AllocError>
+    ensures { IfOk result (λ copies. copies.items ≡ values.now.items) }
+{
+    let mut copies = Vec::with_capacity(*values.allocator(), values.len())?;
+    for value in values {
+        copies.push(value.clone()?)?;
+    }
+    Ok(copies)
+}
+
+fn size_of_all(values: &[Value]) -> u64
+    ensures { result ≡ min (members_size (data_of values.now)) u64.MAX }
+{
+    let mut total = 0u64;
+    for value in values {
+        total = total.saturating_add(value.size());
+    }
+    total
+}
+
+fn nesting_of_all(values: &[Value]) -> u64
+    ensures { result ≡ min (members_nesting (data_of values.now)) u64.MAX }
+{
+    let mut most = 0u64;
+    for value in values {
+        most = most.max(value.nesting());
+    }
+    most
 }

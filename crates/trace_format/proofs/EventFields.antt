@@ -6,7 +6,8 @@ use Rattle.script_tree.specs.Requests.{Request}
 use Rattle.script_tree.specs.declared.request.Response.{Response}
 use Rattle.script_tree.specs.declared.trace.TraceEvent.{TraceEvent}
 use Rattle.script_tree.specs.declared.trace.TraceEvent.TheVariants.{Asked, Answered}
-use Rattle.wire.specs.Fields.{◌>>=◌, byte_at, number_at, whole_of, record_at}
+use Rattle.basis.specs.Options.{◌>>=◌}
+use Rattle.wire.specs.Fields.{byte_at, number_at, whole_of, record_at}
 use Rattle.wire.specs.Readers.{IsBytes, IsReader}
 use Rattle.wire.specs.Spellings.{IsSpelled, IsFieldAt, number_field, framed}
 use Rattle.wire.specs.Files.{IsExact, record_field}

@@ -2,7 +2,8 @@
 use Rattle.std.proofs.Common.{◌≡◌, ℕ, zero, suc, ◌<◌, List, [], ◌∷◌, length, Option, Some, None, Bool, true, false, nat_le, ◌&&◌, ap, sym, ◌∙◌, refl, arith}
 use Rattle.std.proofs.lemmas.Bool.{lt-leb}
 use Rattle.std.specs.Int.{w32}
-use Rattle.wire.specs.Fields.{◌>>=◌, bytes_at, number_at}
+use Rattle.basis.specs.Options.{◌>>=◌}
+use Rattle.wire.specs.Fields.{bytes_at, number_at}
 use Rattle.script_tree.specs.Requests.{Request, text_fits, parameters_fit}
 use Rattle.script_tree.specs.declared.request.Parameter.{Parameter}
 use Rattle.trace_format.specs.Readings.{parameter_at, parameters_at, request_at, within_limits}

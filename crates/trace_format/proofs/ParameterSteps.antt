@@ -1,7 +1,7 @@
 -- Parameters that were read, and those that are left to read.
 use Rattle.std.proofs.Common.{◌≡◌, ℕ, suc, List, [], ◌∷◌, ◌++◌, Option, Some, None, ap, sym, ◌∙◌, refl, append_assoc}
 use Rattle.script_tree.specs.declared.request.Parameter.{Parameter}
-use Rattle.wire.specs.Fields.{◌>>=◌}
+use Rattle.basis.specs.Options.{◌>>=◌}
 use Rattle.trace_format.specs.Readings.{parameter_at, parameters_at}
 
 -- these, and then those that are found

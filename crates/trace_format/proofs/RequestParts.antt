@@ -7,7 +7,8 @@ use Rattle.std.proofs.lemmas.Option.{cond_some}
 use Rattle.script_tree.specs.Requests.{Request, IsRequestWithinLimits, is_request_within_limits, text_fits, parameter_fits, parameters_fit}
 use Rattle.script_tree.specs.declared.request.Parameter.{Parameter}
 use Rattle.script_tree.specs.declared.request.Response.{Response}
-use Rattle.wire.specs.Fields.{◌>>=◌, number_at, bytes_at}
+use Rattle.basis.specs.Options.{◌>>=◌}
+use Rattle.wire.specs.Fields.{number_at, bytes_at}
 use Rattle.wire.specs.Readers.{IsBytes}
 use Rattle.wire.specs.Spellings.{IsSpelled, bytes_spelling}
 use Rattle.wire.proofs.Spelled.{joined, first_part, second_part}

@@ -1,7 +1,7 @@
 -- What is known of the ids up to a place, and one event more.
 use Rattle.std.proofs.Common.{◌≡◌, ◌≢◌, ℕ, ◌+◌, ◌<◌, ◌≤◌, List, Option, Some, None, true, false, ◌⊎◌, inl, inr, ap, sym, ◌∙◌, refl, subst, arith}
 use Rattle.std.proofs.lemmas.Bool.{cases_eq}
-use Rattle.script_tree.specs.Lists.{nth}
+use Rattle.basis.specs.Lists.{nth}
 use Rattle.script_tree.specs.Requests.{Request}
 use Rattle.script_tree.specs.declared.request.Response.{Response}
 use Rattle.script_tree.specs.declared.trace.TraceEvent.{TraceEvent}

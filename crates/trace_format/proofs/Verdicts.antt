@@ -1,7 +1,7 @@
 -- From what is known of the whole trace to whether it is balanced.
 use Rattle.std.proofs.Common.{get_or, ◌≡◌, ◌≢◌, ℕ, zero, suc, ◌<◌, List, [], ◌∷◌, length, Option, Some, None, ◌⊎◌, inl, inr, refl, arith}
 use Rattle.std.proofs.lemmas.Bool.{cases_lt, cases_order}
-use Rattle.script_tree.specs.Lists.{nth}
+use Rattle.basis.specs.Lists.{nth}
 use Rattle.script_tree.specs.Requests.{Request}
 use Rattle.script_tree.specs.Traces.{IsBalanced}
 use Rattle.script_tree.specs.declared.request.Response.{Response}

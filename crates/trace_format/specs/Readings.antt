@@ -1,7 +1,8 @@
 -- What the reader finds in a payload, step by step: what is spelled at a place and the place behind it, or nothing. Proofs say that it is what is spelled there.
 use Rattle.std.specs.Prelude.{ℕ, zero, suc, ◌==◌, nat_lt, List, [], ◌∷◌, Option, Some, None, if◌then◌else◌}
 use Rattle.std.specs.Int.{w16, w32}
-use Rattle.wire.specs.Fields.{◌>>=◌, byte_at, number_at, bytes_at}
+use Rattle.basis.specs.Options.{◌>>=◌}
+use Rattle.wire.specs.Fields.{byte_at, number_at, bytes_at}
 use Rattle.script_tree.specs.Requests.{Request, is_request_within_limits}
 use Rattle.script_tree.specs.declared.request.Parameter.{Parameter}
 use Rattle.script_tree.specs.declared.request.Response.{Response}

@@ -4,7 +4,8 @@ use Rattle.std.specs.Prelude.{slice_get}
 use Rattle.std.proofs.lemmas.Bool.{eqb-true}
 use Rattle.script_tree.specs.declared.operation.Choice.{Choice}
 use Rattle.script_tree.specs.declared.operation.Choice.TheVariants.{Nothing, Number}
-use Rattle.wire.specs.Fields.{◌>>=◌, byte_at, integer_at, choice_at}
+use Rattle.basis.specs.Options.{◌>>=◌}
+use Rattle.wire.specs.Fields.{byte_at, integer_at, choice_at}
 use Rattle.wire.specs.Readers.{IsBytes, IsReader}
 use Rattle.wire.specs.Spellings.{byte_field, IsSpelled, IsFieldAt, choice_field, integer_spelling}
 use Rattle.wire.proofs.Spelled.{joined, second_part}

@@ -3,7 +3,8 @@ use Rattle.std.proofs.Common.{◌≡◌, ℕ, ◌+◌, ◌-◌, ◌<◌, ◌≤�
 use Rattle.std.proofs.lemmas.Bool.{eqb-true, eq-eqb}
 use Rattle.std.proofs.lemmas.List.{append-nil, drop_all, take_more, drop_more, take-append-drop}
 use Rattle.std.proofs.lemmas.Option.{cond_some}
-use Rattle.wire.specs.Fields.{◌>>=◌, bytes_at, whole_of, record_at, TakesRecord}
+use Rattle.basis.specs.Options.{◌>>=◌}
+use Rattle.wire.specs.Fields.{bytes_at, whole_of, record_at, TakesRecord}
 use Rattle.wire.specs.Readers.{IsBytes, IsReader}
 use Rattle.wire.specs.Spellings.{Field, IsSpelled, IsFieldAt, HasOneSpelling, framed, bytes_spelling}
 use Rattle.wire.specs.Files.{Format, record_spelling, records_spelling, file_spelling, payload_field, record_field, MayFollow, IsBadRecord, IsFault, Decodes, IsBeyond}

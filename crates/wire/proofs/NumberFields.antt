@@ -9,7 +9,8 @@ use Rattle.std.proofs.lemmas.List.{take_at, drop-drop, length-append, length-dro
 use Rattle.std.proofs.lemmas.Nat.{be_bytes_2, be_bytes_4, be_bytes_8, from_be_bytes-to_be_bytes_2, from_be_bytes-to_be_bytes_4, from_be_bytes-to_be_bytes_8}
 use mir.ValLaws as laws
 use borrow.Author.Differences.{fits_in, read_fits}
-use Rattle.wire.specs.Fields.{◌>>=◌, number_at, integer_at, bytes_at}
+use Rattle.basis.specs.Options.{◌>>=◌}
+use Rattle.wire.specs.Fields.{number_at, integer_at, bytes_at}
 use Rattle.wire.specs.Readers.{IsBytes, IsReader}
 use Rattle.wire.specs.Spellings.{IsSpelled, IsFieldAt, number_field, integer_field, integer_spelling, bytes_field, bytes_spelling}
 use Rattle.wire.proofs.Spelled.{IsBytes-drop, IsBytes-take, joined, first_part, second_part, ends_inside}

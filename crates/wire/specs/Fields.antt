@@ -1,16 +1,12 @@
 -- What the readers find, step by step: each field at a place, what stands there and the place behind it, or nothing. It is what is spelled there (`Spellings`).
 use Rattle.std.specs.Prelude.{◌≡◌, ℕ, ◌+◌, ◌<◌, ◌≤◌, ◌==◌, ℤ, List, length, take, drop, slice_get, Option, Some, None, Result, Ok, Err, nat_le, if◌then◌else◌}
 use Rattle.std.specs.Int.{Width, w32, w64, byte_len, from_be_bytes, cast_signed}
+use Rattle.basis.specs.Options.{◌>>=◌}
 use Rattle.script_tree.specs.declared.operation.Choice.{Choice}
 use Rattle.script_tree.specs.declared.operation.Choice.TheVariants.{Nothing, Number}
 use Rattle.wire.specs.declared.fault.FileFault.{FileFault}
 use Rattle.wire.specs.declared.fault.FileFault.TheVariants.{Memory, Unreadable}
 use Rattle.wire.specs.declared.fault.WireFault.{WireFault}
-
-infixl 10 ◌>>=◌
-abbrev pub ◌>>=◌ : {A B : Type 0} → Option A → (A → Option B) → Option B
-None >>= f = None
-(Some x) >>= f = f x
 
 -- What is read, seen by `view`, is what is spelled; a fault means that nothing is spelled at the place that it names.
 abbrev pub Reads : {X Y : Type 0} → (X → Y) → ℕ → Result X WireFault → Option Y → Type 0

@@ -1,10 +1,8 @@
-ghost use Rattle.std.specs.Prelude.{◌≡◌, map};
-ghost use Rattle.script_tree.specs.ExpressionView.{condition_of, assignment_of};
-
 use crate::comparison::Comparison;
 use crate::syntax::name::{Name, Names};
 use crate::syntax::operator::{BinaryOperator, UnaryOperator};
 use crate::text::Text;
+use basis::Items;
 use std::marker::Model;
 
 /// An expression.
@@ -39,11 +37,7 @@ pub enum ExpressionNode {
 }
 
 /// Expressions, in order.
-#[cycle(expression)]
-#[derive(Drop)]
-pub struct Expressions {
-    items: Vec<Expression>,
-}
+pub type Expressions = Items<Expression>;
 
 /// A statement of a transaction.
 #[cycle(expression)]
@@ -70,11 +64,7 @@ pub enum QueryNode {
 }
 
 /// The statements of a transaction, in order.
-#[cycle(expression)]
-#[derive(Drop)]
-pub struct Queries {
-    items: Vec<Query>,
-}
+pub type Queries = Items<Query>;
 
 /// A test of a `where`.
 #[cycle(expression)]
@@ -86,11 +76,7 @@ pub struct Condition {
 }
 
 /// The tests of a `where`, in order.
-#[cycle(expression)]
-#[derive(Drop)]
-pub struct Conditions {
-    items: Vec<Condition>,
-}
+pub type Conditions = Items<Condition>;
 
 /// An assignment of an `update`.
 #[cycle(expression)]
@@ -101,11 +87,7 @@ pub struct Assignment {
 }
 
 /// The assignments of an `update`, in order.
-#[cycle(expression)]
-#[derive(Drop)]
-pub struct Assignments {
-    items: Vec<Assignment>,
-}
+pub type Assignments = Items<Assignment>;
 
 impl Model for Expression {
     ghost use Rattle.script_tree.specs.Syntax.{Expression as Meant};
@@ -127,26 +109,6 @@ impl Model for Expression {
     ghost size_decreases = { λ a h. expression_falls a };
 }
 
-impl Model for Expressions {
-    ghost use Rattle.std.specs.Prelude.{List};
-    ghost use Rattle.script_tree.specs.Syntax.{Expression as Meant};
-    ghost use Rattle.script_tree.specs.SyntaxLists.{coded_expression_list};
-
-    ghost Value = { List Meant };
-
-    ghost coded = { coded_expression_list };
-
-    ghost use Rattle.script_tree.specs.ExpressionWeight.{expression_list_weight};
-
-    ghost view = { λ a. a.items.items };
-
-    ghost size = { expression_list_weight };
-
-    ghost use Rattle.script_tree.specs.ExpressionFalls.{expressions_fall};
-
-    ghost size_decreases = { λ a h. expressions_fall a };
-}
-
 impl Model for Query {
     ghost use Rattle.script_tree.specs.Syntax.{Query as Meant};
     ghost use Rattle.script_tree.specs.SyntaxCodes.{coded_query};
@@ -165,154 +127,4 @@ impl Model for Query {
     ghost use Rattle.script_tree.specs.ExpressionFalls.{query_falls};
 
     ghost size_decreases = { λ a h. query_falls a };
-}
-
-impl Model for Queries {
-    ghost use Rattle.std.specs.Prelude.{List};
-    ghost use Rattle.script_tree.specs.Syntax.{Query as Meant};
-    ghost use Rattle.script_tree.specs.SyntaxLists.{coded_query_list};
-
-    ghost Value = { List Meant };
-
-    ghost coded = { coded_query_list };
-
-    ghost use Rattle.script_tree.specs.ExpressionWeight.{query_list_weight};
-
-    ghost view = { λ a. a.items.items };
-
-    ghost size = { query_list_weight };
-
-    ghost use Rattle.script_tree.specs.ExpressionFalls.{queries_fall};
-
-    ghost size_decreases = { λ a h. queries_fall a };
-}
-
-impl Model for Conditions {
-    ghost use Rattle.std.specs.Prelude.{List, map};
-    ghost use Rattle.script_tree.specs.Syntax.{Condition as Meant};
-    ghost use Rattle.script_tree.specs.SyntaxLists.{coded_condition_list};
-
-    ghost Value = { List Meant };
-
-    ghost coded = { coded_condition_list };
-
-    ghost use Rattle.script_tree.specs.ExpressionView.{condition_of};
-    ghost use Rattle.script_tree.specs.ExpressionWeight.{condition_list_weight};
-
-    ghost view = { λ a. map condition_of a.items.items };
-
-    ghost size = { condition_list_weight };
-
-    ghost use Rattle.script_tree.specs.ExpressionFalls.{conditions_fall};
-
-    ghost size_decreases = { λ a h. conditions_fall a };
-}
-
-impl Model for Assignments {
-    ghost use Rattle.std.specs.Prelude.{List, map};
-    ghost use Rattle.script_tree.specs.Syntax.{Assignment as Meant};
-    ghost use Rattle.script_tree.specs.SyntaxLists.{coded_assignment_list};
-
-    ghost Value = { List Meant };
-
-    ghost coded = { coded_assignment_list };
-
-    ghost use Rattle.script_tree.specs.ExpressionView.{assignment_of};
-    ghost use Rattle.script_tree.specs.ExpressionWeight.{assignment_list_weight};
-
-    ghost view = { λ a. map assignment_of a.items.items };
-
-    ghost size = { assignment_list_weight };
-
-    ghost use Rattle.script_tree.specs.ExpressionFalls.{assignments_fall};
-
-    ghost size_decreases = { λ a h. assignments_fall a };
-}
-
-impl Expressions {
-    pub fn from_vec(items: Vec<Expression>) -> Expressions
-        ensures { result ≡ items.items }
-    {
-        Expressions { items }
-    }
-
-    /// Gives the expressions back.
-    pub fn into_vec(self) -> Vec<Expression>
-        ensures { result.items ≡ self }
-    {
-        let Expressions { items } = self;
-        items
-    }
-
-    pub fn as_slice(&self) -> &[Expression]
-        ensures { result.now ≡ self.now }
-    {
-        self.items.as_slice()
-    }
-}
-
-impl Queries {
-    pub fn from_vec(items: Vec<Query>) -> Queries
-        ensures { result ≡ items.items }
-    {
-        Queries { items }
-    }
-
-    /// Gives the statements back.
-    pub fn into_vec(self) -> Vec<Query>
-        ensures { result.items ≡ self }
-    {
-        let Queries { items } = self;
-        items
-    }
-
-    pub fn as_slice(&self) -> &[Query]
-        ensures { result.now ≡ self.now }
-    {
-        self.items.as_slice()
-    }
-}
-
-impl Conditions {
-    pub fn from_vec(items: Vec<Condition>) -> Conditions
-        ensures { result ≡ map condition_of items.items }
-    {
-        Conditions { items }
-    }
-
-    /// Gives the tests back.
-    pub fn into_vec(self) -> Vec<Condition>
-        ensures { map condition_of result.items ≡ self }
-    {
-        let Conditions { items } = self;
-        items
-    }
-
-    pub fn as_slice(&self) -> &[Condition]
-        ensures { map condition_of result.now ≡ self.now }
-    {
-        self.items.as_slice()
-    }
-}
-
-impl Assignments {
-    pub fn from_vec(items: Vec<Assignment>) -> Assignments
-        ensures { result ≡ map assignment_of items.items }
-    {
-        Assignments { items }
-    }
-
-    /// Gives the assignments back.
-    pub fn into_vec(self) -> Vec<Assignment>
-        ensures { map assignment_of result.items ≡ self }
-    {
-        let Assignments { items } = self;
-        items
-    }
-
-    pub fn as_slice(&self) -> &[Assignment]
-        ensures { map assignment_of result.now ≡ self.now }
-    {
-        self.items.as_slice()
-    }
 }

@@ -1,36 +1,48 @@
 ghost use Rattle.std.specs.Prelude.{◌≡◌};
+ghost use Rattle.script_tree.specs.Programs.{IsBuilt, IsProgramOf};
+ghost use Rattle.script_tree.specs.StraightLine.{IsStraightLine};
 
+use crate::limits::TOO_MANY_DECLARATIONS;
 use crate::syntax::declaration::{Declaration, Tree};
 use std::marker::Model;
 
-/// A program. Contracts see its declarations, in order.
+/// A program that can be run today. Contracts see its declarations, in order.
 #[derive(Drop)]
 pub struct Program {
     tree: Tree,
 }
 
 impl Model for Program {
-    ghost use Rattle.std.specs.Prelude.{List};
-    ghost use Rattle.std.specs.Coded.{coded_list};
-    ghost use Rattle.script_tree.specs.declared.syntax.declaration.Declaration.{Declaration};
-    ghost use Rattle.script_tree.specs.contracts.syntax.declaration.Declaration as item;
+    ghost use Rattle.script_tree.specs.Programs.{Program as Meant};
+    ghost use Rattle.script_tree.specs.ProgramCode.{coded_program};
 
-    ghost Value = { List Declaration };
+    ghost Value = { Meant };
 
-    ghost coded = { coded_list item.the_row.coded };
+    ghost coded = { coded_program };
 
-    ghost view = { λ program. program.tree };
+    ghost use Rattle.script_tree.specs.ProgramView.{program_in, IsBuiltIn};
+
+    ghost view = { program_in };
+
+    ghost invariant = { IsBuiltIn };
 }
 
 impl Program {
-    pub fn from_tree(tree: Tree) -> Program
-        ensures { result ≡ tree }
+    /// The program of these pages without branches, or `None` where there are too many.
+    pub fn from_tree(tree: Tree) -> Option<Program>
+        requires { IsStraightLine tree }
+        ensures { IsProgramOf tree result }
     {
-        Program { tree }
+        if tree.len() < TOO_MANY_DECLARATIONS {
+            Some(Program { tree })
+        } else {
+            None
+        }
     }
 
-    pub fn as_slice(&self) -> &[Declaration]
-        ensures { result.now ≡ self.now }
+    pub fn declarations(&self) -> &[Declaration]
+        ensures declarations { result.now ≡ self.now.declarations }
+        ensures built { IsBuilt self.now }
     {
         self.tree.as_slice()
     }

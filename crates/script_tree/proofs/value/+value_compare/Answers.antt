@@ -3,8 +3,8 @@ use Rattle.std.specs.Ordering.{nat_cmp}
 use Rattle.script_tree.proofs.Ends.{lengths_decide}
 use Rattle.script_tree.proofs.value.+value_compare.Goals as goal
 
-pub Values::compare-returns : goal.Values::compare-returns
-Values::compare-returns t c =
+pub Members::compare-returns : goal.Members::compare-returns
+Members::compare-returns t c =
     let xs = c.self.inside.items in
     let ys = c.other.inside.items in
     let low : c.loop-i.i ≤ min (length xs.items) (length ys.items) = omega (arith, xs.ok.0, ys.ok.0) in

@@ -2,7 +2,7 @@ use Rattle.std.proofs.Common.{get_or, ap, ◌≡◌, ◌≢◌, ℕ, ◌<◌, le
 use Rattle.std.proofs.lemmas.Bool.Decides.{nat_tests}
 use Rattle.std.specs.Ordering.{nat_cmp}
 use Rattle.std.specs.BTreeMap.{get, is_at}
-use Rattle.script_tree.specs.Lists.{nth}
+use Rattle.basis.specs.Lists.{nth}
 use Rattle.script_tree.specs.declared.trace.TraceEvent.{TraceEvent}
 use Rattle.trace_format.specs.Balance.{IsFirstFault}
 use Rattle.trace_format.specs.Stages.{id_of, fits}

@@ -1,14 +1,10 @@
 -- Facts on places in lists.
-use Rattle.std.proofs.Common.{◌≡◌, ℕ, zero, suc, ◌<◌, Bool, true, false, List, [], ◌∷◌, ◌++◌, length, take, Some, None, Option, inl, inr, refl, sym, ap, ◌∙◌, arith, unwrap_or, true≢false}
-use Rattle.std.specs.List.{list_any}
+use Rattle.std.proofs.Common.{◌≡◌, ℕ, zero, suc, ◌<◌, Bool, true, false, List, [], ◌∷◌, ◌++◌, length, take, get_or, Some, None, Option, inl, inr, refl, sym, ap, ◌∙◌, arith, true≢false}
+use Rattle.std.specs.List.{list_all, list_any}
 use Rattle.std.proofs.lemmas.Bool.{or_cases, or_parts, false_from_ne_true, true_from_ne_false}
-use Rattle.script_tree.specs.Lists.{nth, first_answer, or_else}
-
-pub some_is : {A : Type 0} {x y : A} → Some x ≡ Some y → x ≡ y
-some_is {A} {x} {y} e = ap (λ o. unwrap_or o x) e
-
-pub none_is_not : {A : Type 0} {x : A} → ◌≡◌ {A = Option A} None (Some x) → ⊥
-none_is_not e = grind arith
+use Rattle.basis.specs.Lists.{nth, first_answer, or_else}
+use Rattle.basis.proofs.Booleans.{both-left, both-right}
+use Rattle.basis.proofs.Options.{some_is, none_is_not}
 
 abbrev pub In : {A : Type 0} → List A → A → Type 0
 In xs x = (i : ℕ) × (nth xs i ≡ Some x)
@@ -45,6 +41,11 @@ take_nth (y ∷ xs) zero i x e = absurd (none_is_not e)
 take_nth (y ∷ xs) (suc n) zero x e = (omega arith, e)
 take_nth (y ∷ xs) (suc n) (suc i) x e = let more = take_nth xs n i x e in (omega (arith, more.0), more.1)
 
+pub nth-get_or : {A : Type 0} (d : A) (xs : List A) (i : ℕ) → i < length xs → nth xs i ≡ Some (get_or xs i d)
+nth-get_or d [] i h = absurd (omega arith)
+nth-get_or d (x ∷ xs) zero h = refl
+nth-get_or d (x ∷ xs) (suc i) h = nth-get_or d xs i (omega arith)
+
 -- ---- tests of members
 
 pub any_true : {A : Type 0} (p : A → Bool) (xs : List A) → list_any p xs ≡ true → (x : A) × (In xs x) × (p x ≡ true)
@@ -64,6 +65,12 @@ true_any p xs i x h t = true_from_ne_false (list_any p xs) (λ e. true≢false (
 
 pub false_any : {A : Type 0} (p : A → Bool) (xs : List A) → ((i : ℕ) (x : A) → nth xs i ≡ Some x → p x ≡ true → ⊥) → list_any p xs ≡ false
 false_any p xs n = false_from_ne_true (list_any p xs) (λ e. let x = any_true p xs e in n x.1.0 x.0 x.1.1 x.2)
+
+-- what holds of all holds of each
+pub all_at : {A : Type 0} (f : A → Bool) (xs : List A) (i : ℕ) (x : A) → list_all f xs ≡ true → i < length xs → x ≡ get_or xs i x → f x ≡ true
+all_at f [] i x a h p = absurd (omega arith)
+all_at f (y ∷ ys) zero x a h p = rw p (both-left (f y) _ a)
+all_at f (y ∷ ys) (suc i) x a h p = all_at f ys i x (both-right (f y) _ a) (omega arith) p
 
 -- ---- first answers
 

@@ -1,0 +1,46 @@
+//! The limits of the language: docs/language.md. Code, contracts and definitions cite them by name.
+
+/// How large a value may be.
+pub const MOST_VALUE_SIZE: u64 = 65_536;
+
+/// How deep the lists of a value may nest.
+pub const MOST_VALUE_NESTING: u64 = 16;
+
+/// How many bytes a text of a request may have.
+pub const MOST_REQUEST_TEXT_BYTES: usize = 65_535;
+
+/// How many parameters a request may have.
+pub const MOST_PARAMETERS: usize = 1_024;
+
+/// How many requests a trace may have.
+pub const MOST_REQUESTS: usize = 65_536;
+
+/// How many bytes the name of a register, the key of a store and the key of a row may have.
+pub const MOST_KEY_BYTES: usize = 1_024;
+
+/// How many steps a run may spend.
+pub const MOST_STEPS: u32 = 100_000;
+
+/// How many operations a run may issue.
+pub const MOST_OPERATIONS: u32 = 1_000;
+
+/// How deep calls of a program's functions may nest.
+pub const MOST_CALL_DEPTH: u32 = 64;
+
+/// How many bytes the body of a response may have.
+pub const MOST_BODY_BYTES: usize = 262_144;
+
+/// The least status that a page may give.
+pub const LEAST_STATUS: u16 = 200;
+
+/// The greatest status that a page may give.
+pub const MOST_STATUS: u16 = 599;
+
+/// How many bytes a name in a program may have.
+pub const MOST_IDENTIFIER_BYTES: usize = 64;
+
+/// How many bytes the content of a text in a program may have.
+pub const MOST_LITERAL_BYTES: usize = 65_535;
+
+/// How many declarations a program has fewer than, so that 32 bits number them.
+pub const TOO_MANY_DECLARATIONS: usize = 4_294_967_296;

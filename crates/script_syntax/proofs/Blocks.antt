@@ -9,18 +9,13 @@ use Rattle.script_syntax.specs.declared.token.Kind.TheVariants.{Word as Fixed, T
 use Rattle.script_syntax.specs.declared.word.Word.{Word}
 use Rattle.script_syntax.specs.declared.word.Word.TheVariants as w
 use Rattle.script_syntax.specs.Grammar.{token, word, IsStatement, Many, IsBlock, IsPage}
-use Rattle.script_syntax.specs.Reader.{is, stands, rest_of, take_word, take_text, statement, with_place, page_head, Reads, Takes, Finds, FindsAll}
-use Rattle.script_syntax.specs.declared.refusal.Refusal.{Refusal}
-use Rattle.script_syntax.specs.declared.refusal.Refusal.TheVariants.{Memory, Syntax}
+use Rattle.script_syntax.specs.Reader.{Refusal, is, stands, rest_of, take_word, take_text, statement, with_place, page_head, Reads, Takes, Finds, FindsAll}
+use Rattle.basis.proofs.Booleans.{true_false}
+use Rattle.basis.proofs.Options.{none_some}
+use Rattle.basis.specs.declared.or_memory.OrMemory.TheVariants.{Memory, Other}
 use Rattle.script_syntax.proofs.Exact.{both, is_word, is_same, word_sound, text_sound, statement_complete, statement_shorter}
 use Rattle.script_syntax.proofs.WordTests.{some_one}
 use Rattle.script_syntax.proofs.Rows.{Left, left_step, left_stuck, left_done}
-
-none_some : {A : Type 0} (o : Option A) (x : A) → o ≡ None → o ≡ Some x → ⊥
-none_some o x p q = cc
-
-true_false : (b : Bool) → b ≡ true → b ≡ false → ⊥
-true_false b p q = cc
 
 pub statement_one : (now next : List Token) (s : Statement) → statement now ≡ Some (s, next) → (y : Statement) (mid : List Token) → IsStatement y now mid → (y ≡ s) × (mid ≡ next)
 statement_one now next s h y mid m = both y s mid next (sym (statement_complete y now mid m) ∙ h)
@@ -152,21 +147,21 @@ block_ok result read ts start now new o m left h r n = (
 
 -- what a refusal of a part says of the whole
 pub takes_refused : {B : Type 0} (A : Type 0) (o : Option (List Token)) (e : Refusal) (new : List Token) (R : B → List Token → List Token → Type 0) (old now : List Token) → (o ≡ None → (b : B) (rest : List Token) → R b old rest → ⊥) → Takes {A = A} o (Err e) new → Finds R (Err e) old now
-takes_refused A o Syntax new R old now to h = to h
+takes_refused A o (Other refused) new R old now to h = to h
 takes_refused A o Memory new R old now to h = tt
 
 pub reads_refused : {A B : Type 0} (o : Option (A × List Token)) (e : Refusal) (new : List Token) (R : B → List Token → List Token → Type 0) (old now : List Token) → (o ≡ None → (b : B) (rest : List Token) → R b old rest → ⊥) → Reads {A = A} o (Err e) new → Finds R (Err e) old now
-reads_refused o Syntax new R old now to h = to h
+reads_refused o (Other refused) new R old now to h = to h
 reads_refused o Memory new R old now to h = tt
 
 pub finds_refused : {A B : Type 0} (S : A → List Token → List Token → Type 0) (e : Refusal) (mid new : List Token) (R : B → List Token → List Token → Type 0) (old now : List Token)
     → (((a : A) (rest : List Token) → S a mid rest → ⊥) → (b : B) (rest : List Token) → R b old rest → ⊥) → Finds {A = A} S (Err e) mid new → Finds R (Err e) old now
-finds_refused S Syntax mid new R old now to h = to h
+finds_refused S (Other refused) mid new R old now to h = to h
 finds_refused S Memory mid new R old now to h = tt
 
 pub all_refused : {A B : Type 0} (S : A → List Token → List Token → Type 0) (e : Refusal) (mid new : List Token) (R : B → List Token → List Token → Type 0) (old : List Token)
     → (((a : A) (rest : List Token) → S a mid rest → ⊥) → (b : B) → R b old [] → ⊥) → Finds {A = A} S (Err e) mid new → FindsAll R (Err e) old
-all_refused S Syntax mid new R old to h = to h
+all_refused S (Other refused) mid new R old to h = to h
 all_refused S Memory mid new R old to h = tt
 
 pub not_false : {P : Type 0} (b : Bool) → (IsTrue b ↔ P) → b ≡ false → P → ⊥

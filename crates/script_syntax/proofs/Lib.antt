@@ -2,6 +2,7 @@ pub mod Apart
 pub mod Blocks
 pub mod Bytes
 pub mod Exact
+pub mod ProgramsRead
 pub mod Rows
 pub mod Scans
 pub mod Straight

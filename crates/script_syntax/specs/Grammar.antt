@@ -3,8 +3,10 @@
 --   program = { "page" TEXT "{" { ( "echo" | "do" ) item ";" } "}" }
 --   item    = atom | "write" "(" TEXT "," atom ")"
 --   atom    = NUMBER | TEXT | "read" "(" TEXT ")"
-use Rattle.std.specs.Prelude.{◌≡◌, ◌≢◌, ◌⊎◌, ℕ, List, [], ◌∷◌, Some, AllPairs, codes}
+use Rattle.std.specs.Prelude.{◌≡◌, ◌≢◌, ◌⊎◌, ℕ, ◌<◌, List, [], ◌∷◌, length, Option, Some, None, AllPairs, codes}
+use Rattle.script_tree.specs.Programs.{Program}
 use Rattle.script_tree.specs.Syntax.{Expression, number, text, call, Expressions, no_expression, expression, Statement, echo, do_}
+use Rattle.script_tree.specs.declared.limits.TheConstants.{TOO_MANY_DECLARATIONS}
 use Rattle.script_tree.specs.declared.syntax.declaration.Declaration.{Declaration}
 use Rattle.script_tree.specs.declared.syntax.declaration.Declaration.TheVariants.{Page as PageOf}
 use Rattle.script_syntax.specs.declared.token.Token.{Token}
@@ -48,7 +50,7 @@ IsStatement (echo at e) ts rest = (inner : List Token) × (p : ℕ) × (ts ≡ w
 IsStatement (do_ at e) ts rest = (inner : List Token) × (p : ℕ) × (ts ≡ word at Do ∷ inner) × IsItem e inner (word p Semicolon ∷ rest)
 IsStatement s ts rest = ⊥
 
--- none or more of these, one behind another
+-- none or more of these, one after another
 abbrev pub Many : {A : Type 0} → (A → List Token → List Token → Type 0) → List A → List Token → List Token → Type 0
 Many R [] ts rest = ts ≡ rest
 Many R (x ∷ xs) ts rest = (more : List Token) × R x ts more × Many R xs more rest
@@ -67,9 +69,24 @@ page_texts [] = []
 page_texts (PageOf at path body ∷ ds) = path.text ∷ page_texts ds
 page_texts (d ∷ ds) = page_texts ds
 
--- the bytes spell the program, and no two of its pages have one text
-pub record Spells (bytes : List ℕ) (program : List Declaration) : Type 0 where
+-- The bytes spell the tree, and no two of its pages have one text.
+pub record Spells (bytes : List ℕ) (tree : List Declaration) : Type 0 where
   pub tokens : List Token
   pub scanned : tokens_of bytes ≡ Some tokens
-  pub grammar : Many IsPage program tokens []
-  pub apart : AllPairs (λ x y. x ≢ y) (page_texts program)
+  pub grammar : Many IsPage tree tokens []
+  pub apart : AllPairs (λ x y. x ≢ y) (page_texts tree)
+
+-- the one tree that the bytes spell, or none where they spell none
+abbrev pub IsParsed : List ℕ → Option (List Declaration) → Type 0
+IsParsed bytes (Some tree) = Spells bytes tree × ((other : List Declaration) → Spells bytes other → other ≡ tree)
+IsParsed bytes None = (tree : List Declaration) → Spells bytes tree → ⊥
+
+-- The bytes spell the program, and 32 bits number its declarations.
+pub record SpellsProgram (bytes : List ℕ) (program : Program) : Type 0 where
+  pub tree : Spells bytes program.declarations
+  pub few : length program.declarations < TOO_MANY_DECLARATIONS
+
+-- the one program that the bytes spell, or none where they spell none
+abbrev pub IsProgramRead : List ℕ → Option Program → Type 0
+IsProgramRead bytes (Some program) = SpellsProgram bytes program × ((other : Program) → SpellsProgram bytes other → other ≡ program)
+IsProgramRead bytes None = (program : Program) → SpellsProgram bytes program → ⊥

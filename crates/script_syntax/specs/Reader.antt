@@ -1,6 +1,8 @@
 -- How the reader goes over the tokens: what it reads from the front on, and what is left.
 use Rattle.std.specs.Prelude.{◌≡◌, ℕ, List, [], ◌∷◌, Option, Some, None, option_and_then, Bool, false, if◌then◌else◌, Result, Ok, Err, codes}
 use Rattle.std.specs.Str.{bytes_eq}
+use Rattle.basis.specs.declared.or_memory.OrMemory.{OrMemory}
+use Rattle.basis.specs.declared.or_memory.OrMemory.TheVariants.{Memory, Other}
 use Rattle.script_tree.specs.Syntax.{Expression, number, text, call, no_expression, expression, Statement, echo, do_}
 use Rattle.script_tree.specs.declared.syntax.name.Name.{Name}
 use Rattle.script_syntax.specs.declared.token.Token.{Token}
@@ -8,8 +10,7 @@ use Rattle.script_syntax.specs.declared.token.Kind.{Kind}
 use Rattle.script_syntax.specs.declared.token.Kind.TheVariants.{Word as Fixed, Name as Named, Number, Text}
 use Rattle.script_syntax.specs.declared.word.Word.{Word}
 use Rattle.script_syntax.specs.declared.word.Word.TheVariants.{Page, Echo, Do, Open, Close, Comma, Semicolon}
-use Rattle.script_syntax.specs.declared.refusal.Refusal.{Refusal}
-use Rattle.script_syntax.specs.declared.refusal.Refusal.TheVariants.{Memory, Syntax}
+use Rattle.script_syntax.specs.declared.refusal.NotSpelled.{NotSpelled}
 use Rattle.script_syntax.specs.Words.{spelling_of}
 
 infixl 10 ◌>>=◌
@@ -106,25 +107,30 @@ abbrev pub page_head : List Token → Option ((ℕ × Name) × List Token)
 page_head [] = None
 page_head (t ∷ ts) = if is Page t.kind then with_place t.at (take_text ts) else None
 
--- what a function returned is what the reader reads
+-- ---- what a function returns
+
+abbrev pub Refusal : Type 0
+Refusal = OrMemory NotSpelled
+
+-- what was returned is what the reader reads
 abbrev pub Reads : {A : Type 0} → Option (A × List Token) → Result A Refusal → List Token → Type 0
 Reads o (Ok a) new = o ≡ Some (a, new)
-Reads o (Err Syntax) new = o ≡ None
+Reads o (Err (Other refused)) new = o ≡ None
 Reads o (Err Memory) new = Unit {0}
 
 abbrev pub Takes : {A : Type 0} → Option (List Token) → Result A Refusal → List Token → Type 0
 Takes o (Ok a) new = o ≡ Some new
-Takes o (Err Syntax) new = o ≡ None
+Takes o (Err (Other refused)) new = o ≡ None
 Takes o (Err Memory) new = Unit {0}
 
 -- what a function returned is the one thing with which the tokens begin; or they begin with none
 abbrev pub Finds : {A : Type 0} → (A → List Token → List Token → Type 0) → Result A Refusal → List Token → List Token → Type 0
 Finds {A} R (Ok a) old new = R a old new × ((b : A) (rest : List Token) → R b old rest → (b ≡ a) × (rest ≡ new))
-Finds {A} R (Err Syntax) old new = (b : A) (rest : List Token) → R b old rest → ⊥
+Finds {A} R (Err (Other refused)) old new = (b : A) (rest : List Token) → R b old rest → ⊥
 Finds {A} R (Err Memory) old new = Unit {0}
 
 -- the same of all the tokens
 abbrev pub FindsAll : {A : Type 0} → (A → List Token → List Token → Type 0) → Result A Refusal → List Token → Type 0
 FindsAll {A} R (Ok a) ts = R a ts [] × ((b : A) → R b ts [] → b ≡ a)
-FindsAll {A} R (Err Syntax) ts = (b : A) → R b ts [] → ⊥
+FindsAll {A} R (Err (Other refused)) ts = (b : A) → R b ts [] → ⊥
 FindsAll {A} R (Err Memory) ts = Unit {0}

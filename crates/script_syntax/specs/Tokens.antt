@@ -1,5 +1,6 @@
 -- The tokens of a text.
 use Rattle.std.specs.Prelude.{ℕ, zero, suc, ◌+◌, ◌-◌, ◌*◌, ◌<◌, ◌≤◌, pos, List, [], ◌∷◌, length, take, Option, Some, None, Bool, true, false, if◌then◌else◌, nat_le, ◌==◌, ◌||◌}
+use Rattle.script_tree.specs.declared.limits.TheConstants.{MOST_IDENTIFIER_BYTES, MOST_LITERAL_BYTES, MOST_NUMBER}
 use Rattle.script_syntax.specs.Texts.{between, text_from}
 use Rattle.script_syntax.specs.Words.{word_of}
 use Rattle.script_syntax.specs.declared.word.Word.{Word}
@@ -37,10 +38,10 @@ span c (b ∷ bs) = if in_class c b then suc (span c bs) else 0
 abbrev pub run : Class → List ℕ → List ℕ
 run c bs = take (span c bs) bs
 
--- a keyword, or a name of at most 64 bytes
+-- a keyword, or a name that isn't too long
 abbrev pub named : List ℕ → Option Word → Lexeme
 named x (Some w) = Whole (Fixed w) (length x)
-named x None = if nat_le (length x) 64 then Whole (Named x) (length x) else Wrong
+named x None = if nat_le (length x) MOST_IDENTIFIER_BYTES then Whole (Named x) (length x) else Wrong
 
 -- the value of digits behind others of value n
 abbrev pub value_from : ℕ → List ℕ → ℕ
@@ -48,7 +49,7 @@ value_from n [] = n
 value_from n (d ∷ ds) = value_from (n * 10 + (d - 48)) ds
 
 abbrev pub within_limit : ℕ → Option ℕ
-within_limit n = if nat_le n 9223372036854775807 then Some n else None
+within_limit n = if nat_le n MOST_NUMBER then Some n else None
 
 abbrev pub number : ℕ → Option ℕ → Lexeme
 number len None = Wrong
@@ -57,7 +58,7 @@ number len (Some n) = Whole (Number (pos n)) len
 -- a text of at most 65,535 bytes of content; its first quote counts to its length
 abbrev pub text : Option (List ℕ × ℕ) → Lexeme
 text None = Wrong
-text (Some t) = if nat_le (length t.0) 65535 then Whole (Text t.0) (1 + t.1) else Wrong
+text (Some t) = if nat_le (length t.0) MOST_LITERAL_BYTES then Whole (Text t.0) (1 + t.1) else Wrong
 
 abbrev pub word_lexeme : List ℕ → Option Word → Lexeme → Lexeme
 word_lexeme bs None other = other

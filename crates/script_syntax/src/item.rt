@@ -1,9 +1,10 @@
 ghost use Rattle.std.specs.Prelude.{◌≡◌};
 ghost use Rattle.script_syntax.specs.Reader.{of_name, read_from, literal, atom, write_from, item_from, ended_item, statement_from, statement, Reads};
 
-use crate::refusal::Refusal;
+use crate::refusal::{NotSpelled, Refusal};
 use crate::token::{Kind, Token, Tokens};
 use crate::word::Word;
+use basis::OrMemory;
 use script_tree::syntax::expression::{Expression, ExpressionNode, Expressions};
 use script_tree::syntax::name::Name;
 use script_tree::syntax::statement::{Statement, StatementNode};
@@ -52,10 +53,10 @@ fn literal(alloc: Global, tokens: &mut Tokens, token: Token) -> Result<Expressio
             if name.as_bytes() == b"read".as_slice() {
                 read(alloc, tokens, at, name)
             } else {
-                Err(Refusal::Syntax)
+                Err(OrMemory::Other(NotSpelled))
             }
         }
-        Kind::Word(_) => Err(Refusal::Syntax),
+        Kind::Word(_) => Err(OrMemory::Other(NotSpelled)),
     }
 }
 
@@ -63,7 +64,7 @@ fn atom(alloc: Global, tokens: &mut Tokens) -> Result<Expression, Refusal>
     ensures { Reads (atom tokens.old) result tokens.new }
 {
     match tokens.next() {
-        None => Err(Refusal::Syntax),
+        None => Err(OrMemory::Other(NotSpelled)),
         Some(token) => literal(alloc, tokens, token),
     }
 }
@@ -108,7 +109,7 @@ fn ended_item(alloc: Global, tokens: &mut Tokens) -> Result<Expression, Refusal>
     ensures { Reads (ended_item tokens.old) result tokens.new }
 {
     match tokens.next() {
-        None => Err(Refusal::Syntax),
+        None => Err(OrMemory::Other(NotSpelled)),
         Some(token) => {
             let item = item(alloc, tokens, token)?;
             tokens.word(Word::Semicolon)?;
@@ -134,7 +135,7 @@ fn statement_from(alloc: Global, tokens: &mut Tokens, token: Token) -> Result<St
             node: StatementNode::Do(item),
         })
     } else {
-        Err(Refusal::Syntax)
+        Err(OrMemory::Other(NotSpelled))
     }
 }
 
@@ -142,7 +143,7 @@ pub fn statement(alloc: Global, tokens: &mut Tokens) -> Result<Statement, Refusa
     ensures { Reads (statement tokens.old) result tokens.new }
 {
     match tokens.next() {
-        None => Err(Refusal::Syntax),
+        None => Err(OrMemory::Other(NotSpelled)),
         Some(token) => statement_from(alloc, tokens, token),
     }
 }

@@ -7,6 +7,7 @@ ghost use Rattle.script_syntax.specs.declared.text.Mode.TheVariants.{Plain};
 use crate::text::text;
 use crate::token::Kind;
 use crate::word::Word;
+use script_tree::limits::{MOST_IDENTIFIER_BYTES, MOST_LITERAL_BYTES, MOST_NUMBER};
 use script_tree::text::Text;
 use std::alloc::{AllocError, Global};
 
@@ -77,7 +78,7 @@ fn named(alloc: Global, name: &[u8]) -> Result<Lexeme, AllocError>
 {
     match Word::spelled(name) {
         Some(word) => Ok(Lexeme::Token(Kind::Word(word), name.len())),
-        None if name.len() <= 64 => {
+        None if name.len() <= MOST_IDENTIFIER_BYTES => {
             let text = Text::from_vec(name.to_vec(alloc)?);
             Ok(Lexeme::Token(Kind::Name(text), name.len()))
         }
@@ -93,7 +94,7 @@ fn value_of(digits: &[u8]) -> Option<u64>
     let mut value = 0u64;
     for digit in digits {
         let digit = (*digit - b'0') as u64;
-        if value > (9_223_372_036_854_775_807 - digit) / 10 {
+        if value > (MOST_NUMBER - digit) / 10 {
             return None;
         }
         value = value * 10 + digit;
@@ -121,7 +122,7 @@ fn text_lexeme(alloc: Global, rest: &[u8]) -> Result<Lexeme, AllocError>
     match text(alloc, rest)? {
         None => Ok(Lexeme::Wrong),
         Some((content, len)) => {
-            if content.len() <= 65_535 {
+            if content.len() <= MOST_LITERAL_BYTES {
                 Ok(Lexeme::Token(Kind::Text(content), 1 + len))
             } else {
                 Ok(Lexeme::Wrong)

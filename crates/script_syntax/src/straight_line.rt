@@ -1,16 +1,17 @@
-ghost use Rattle.std.specs.Prelude.{◌≡◌, ◌≢◌, ◌↔◌, ◌<◌, length, IfOk, IfSome, IfNone, OnOk, IsTrue, AllPairs, List};
-ghost use Rattle.script_tree.specs.declared.syntax.declaration.Declaration.{Declaration};
+ghost use Rattle.std.specs.Prelude.{◌≡◌, ◌≢◌, ◌↔◌, ◌<◌, length, IfOk, IfSome, OnOk, IsTrue, AllPairs};
 ghost use Rattle.script_tree.specs.StraightLine.{IsStraightLine};
-ghost use Rattle.script_syntax.specs.Grammar.{IsBlock, IsPage, Many, page_texts, Spells};
+ghost use Rattle.script_syntax.specs.Grammar.{IsBlock, IsPage, Many, page_texts, IsParsed, IsProgramRead};
 ghost use Rattle.script_syntax.specs.Reader.{page_head, Reads, Finds, FindsAll};
 
 use crate::item::statement;
-use crate::refusal::Refusal;
+use crate::refusal::{NotSpelled, Refusal};
 use crate::scan::tokens_of;
 use crate::token::{Token, Tokens};
 use crate::word::Word;
+use basis::OrMemory;
 use script_tree::syntax::declaration::{Declaration, Tree};
 use script_tree::syntax::name::Name;
+use script_tree::syntax::program::Program;
 use script_tree::syntax::statement::Block;
 use script_tree::text::Text;
 use std::alloc::{AllocError, Global};
@@ -34,13 +35,13 @@ fn page_head(tokens: &mut Tokens) -> Result<(usize, Name), Refusal>
     ensures { Reads (page_head tokens.old) result tokens.new }
 {
     match tokens.next() {
-        None => Err(Refusal::Syntax),
+        None => Err(OrMemory::Other(NotSpelled)),
         Some(token) => {
             if token.kind.is(Word::Page) {
                 let path = tokens.text()?;
                 Ok((token.at, path))
             } else {
-                Err(Refusal::Syntax)
+                Err(OrMemory::Other(NotSpelled))
             }
         }
     }
@@ -80,20 +81,18 @@ fn texts_differ(alloc: Global, pages: &[Declaration]) -> Result<bool, AllocError
     Ok(true)
 }
 
-/// The tree of a program without branches; none where the bytes spell no such program, or two of its
+/// The tree that the bytes spell; none where they spell no pages without branches, or two of their
 /// pages have one text.
-pub fn parse_straight_line(alloc: Global, bytes: &[u8]) -> Result<Option<Tree>, AllocError>
-    ensures spelled { IfOk result (λ o. IfSome o (λ t. Spells bytes.now t)) }
+fn parse_straight_line(alloc: Global, bytes: &[u8]) -> Result<Option<Tree>, AllocError>
+    ensures parsed { IfOk result (IsParsed bytes.now) }
     ensures straight { IfOk result (λ o. IfSome o IsStraightLine) }
-    ensures only { IfOk result (λ o. IfSome o (λ t. (u : List Declaration) → Spells bytes.now u → u ≡ t)) }
-    ensures none { IfOk result (λ o. IfNone o ((u : List Declaration) → Spells bytes.now u → ⊥)) }
 {
     let Some(mut tokens) = tokens_of(alloc, bytes)? else {
         return Ok(None);
     };
     match pages(alloc, &mut tokens) {
-        Err(Refusal::Memory) => Err(AllocError),
-        Err(Refusal::Syntax) => Ok(None),
+        Err(OrMemory::Memory) => Err(AllocError),
+        Err(OrMemory::Other(NotSpelled)) => Ok(None),
         Ok(tree) => {
             if texts_differ(alloc, tree.as_slice())? {
                 Ok(Some(tree))
@@ -101,5 +100,15 @@ pub fn parse_straight_line(alloc: Global, bytes: &[u8]) -> Result<Option<Tree>, 
                 Ok(None)
             }
         }
+    }
+}
+
+/// The program that the bytes spell; none where they spell none of those that can be run today.
+pub fn read_program(alloc: Global, bytes: &[u8]) -> Result<Option<Program>, AllocError>
+    ensures { IfOk result (IsProgramRead bytes.now) }
+{
+    match parse_straight_line(alloc, bytes)? {
+        None => Ok(None),
+        Some(tree) => Ok(Program::from_tree(tree)),
     }
 }

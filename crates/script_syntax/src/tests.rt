@@ -1,6 +1,6 @@
 use crate::scan::tokens_of;
-use crate::straight_line::parse_straight_line;
-use script_tree::syntax::declaration::{Declaration, Tree};
+use crate::straight_line::read_program;
+use script_tree::syntax::declaration::Declaration;
 use script_tree::syntax::expression::{Expression, ExpressionNode};
 use script_tree::syntax::statement::StatementNode;
 use script_tree::text::Text;
@@ -53,9 +53,9 @@ fn put_item(alloc: Global, outline: &mut String, item: &Expression) -> Result<()
 }
 
 /// Each node of the tree and its place, in the order of the text.
-fn outline_of(alloc: Global, tree: &Tree) -> Result<String, AllocError> {
+fn outline_of(alloc: Global, declarations: &[Declaration]) -> Result<String, AllocError> {
     let mut outline = String::new(alloc);
-    for declaration in tree.as_slice() {
+    for declaration in declarations {
         if let Declaration::Page { at, path, body } = declaration {
             put(alloc, &mut outline, "page", *at)?;
             put_text(alloc, &mut outline, &path.text, path.at)?;
@@ -79,9 +79,9 @@ fn outline_of(alloc: Global, tree: &Tree) -> Result<String, AllocError> {
 
 /// The outline of the program; none where there is none.
 fn read(alloc: Global, bytes: &[u8]) -> Result<Option<String>, AllocError> {
-    match parse_straight_line(alloc, bytes)? {
+    match read_program(alloc, bytes)? {
         None => Ok(None),
-        Some(tree) => Ok(Some(outline_of(alloc, &tree)?)),
+        Some(program) => Ok(Some(outline_of(alloc, program.declarations())?)),
     }
 }
 

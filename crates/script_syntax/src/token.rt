@@ -1,8 +1,9 @@
 ghost use Rattle.std.specs.Prelude.{◌≡◌, ◌∷◌, [], ◌↔◌, IsTrue, MatchOption};
 ghost use Rattle.script_syntax.specs.Reader.{is, stands, rest_of, take_word, take_text, Reads, Takes};
 
-use crate::refusal::Refusal;
+use crate::refusal::{NotSpelled, Refusal};
 use crate::word::Word;
+use basis::OrMemory;
 use script_tree::syntax::name::Name;
 use script_tree::text::Text;
 use std::collections::VecDeque;
@@ -96,7 +97,7 @@ impl Tokens {
             self.skip();
             Ok(())
         } else {
-            Err(Refusal::Syntax)
+            Err(OrMemory::Other(NotSpelled))
         }
     }
 
@@ -105,12 +106,12 @@ impl Tokens {
         ensures { Reads (take_text self.old) result self.new }
     {
         match self.next() {
-            None => Err(Refusal::Syntax),
+            None => Err(OrMemory::Other(NotSpelled)),
             Some(token) => {
                 let Token { at, kind } = token;
                 match kind {
                     Kind::Text(text) => Ok(Name { at, text }),
-                    _ => Err(Refusal::Syntax),
+                    _ => Err(OrMemory::Other(NotSpelled)),
                 }
             }
         }

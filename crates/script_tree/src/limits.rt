@@ -39,6 +39,9 @@ pub const MOST_STATUS: u16 = 599;
 /// How many bytes a name in a program may have.
 pub const MOST_IDENTIFIER_BYTES: usize = 64;
 
+/// The greatest number in a program's text.
+pub const MOST_NUMBER: u64 = 9_223_372_036_854_775_807;
+
 /// How many bytes the content of a text in a program may have.
 pub const MOST_LITERAL_BYTES: usize = 65_535;
 

@@ -2,6 +2,7 @@
 use Rattle.std.proofs.Common.{◌≡◌, ℕ, zero, suc, Bool, true, false, List, [], ◌∷◌, Some, None, codes, refl}
 use Rattle.std.specs.Fmt.{digits}
 use Rattle.script_tree.specs.Datum.{Datum, null, list, none, more}
+use Rattle.script_tree.specs.Programs.{program_of}
 use Rattle.script_tree.specs.Syntax.{truth, call, list as listing, binary, and_, or_, no_expression, expression, Statement, let_, set_, if_, while_, for_, echo, status, return, Statements, no_else, no_statement, statement}
 use Rattle.script_tree.specs.declared.fault.ScriptFault.{ScriptFault}
 use Rattle.script_tree.specs.declared.fault.ScriptFault.TheVariants.{WrongKind, ZeroDivisor, OutOfRange, TooDeep, BadBound}
@@ -14,7 +15,7 @@ use Rattle.script_meaning.proofs.Programs as p
 
 -- what the one page of a program, without operations, ends with
 abbrev run_of : List Declaration → Ending
-run_of program = (conduct program (p.get (codes "/p")) []).ending
+run_of program = (conduct (program_of program) (p.get (codes "/p")) []).ending
 
 abbrev on_page : List Statement → List Declaration
 on_page body = p.page (codes "/p") body ∷ []

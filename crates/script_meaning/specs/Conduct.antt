@@ -1,8 +1,9 @@
 -- What a program does with a request, where these are the answers to its operations.
-use Rattle.std.specs.Prelude.{ℕ, Bool, List, [], ◌∷◌, ◌++◌, Option, Some, None, codes}
+use Rattle.std.specs.Prelude.{ℕ, ◌+◌, Bool, List, [], ◌∷◌, ◌++◌, Option, Some, None, codes}
 use Rattle.std.specs.Fmt.{decimal}
 use Rattle.script_tree.specs.Datum.{Datum}
 use Rattle.script_tree.specs.Faults.{fault_number}
+use Rattle.script_tree.specs.Programs.{Program}
 use Rattle.script_tree.specs.Requests.{Request}
 use Rattle.script_tree.specs.SyntaxLists.{statements_of}
 use Rattle.script_tree.specs.declared.fault.ScriptFault.{ScriptFault}
@@ -11,7 +12,7 @@ use Rattle.script_tree.specs.declared.request.Response.{Response}
 use Rattle.script_tree.specs.declared.path.End.{End}
 use Rattle.script_tree.specs.declared.path.End.TheVariants.{Normal, Fault, AnswerFault}
 use Rattle.script_tree.specs.declared.path.Path.{Path}
-use Rattle.script_tree.specs.declared.syntax.declaration.Declaration.{Declaration}
+use Rattle.script_tree.specs.declared.limits.TheConstants.{MOST_STEPS}
 use Rattle.script_meaning.specs.Operations.{Op}
 use Rattle.script_meaning.specs.Declarations.{NumberedPage, page_in}
 use Rattle.script_meaning.specs.Run.{Mark, decided, issued, Progress, wants, fault, answer_fault, Outcome, goes, stops}
@@ -56,7 +57,7 @@ ended page (stops (fault f) p) = record { trail = p.trail; ending = over page p 
 ended page (stops answer_fault p) = record { trail = p.trail; ending = over page p (fault_response TooLarge) AnswerFault }
 
 abbrev pub start : List Datum → Progress
-start answers = record { steps = 0; operations = 0; trail = []; answers = answers; status = 200; body = [] }
+start answers = record { steps = 0; operations = 0; costs = None; trail = []; answers = answers; status = 200; body = [] }
 
 abbrev pub no_page : List Datum → Conduct
 no_page answers = record {
@@ -66,10 +67,10 @@ no_page answers = record {
       (record { page = None; decisions = []; steps = 0; end = Normal }));
 }
 
-abbrev pub on_page : List Declaration → Request → List Datum → Option NumberedPage → Conduct
+abbrev pub on_page : Program → Request → List Datum → Option NumberedPage → Conduct
 on_page program request answers None = no_page answers
 on_page program request answers (Some page) =
-    ended page.number (run (record { program = program; request = request }) 100001 0 (statements_of page.body) [] (start answers))
+    ended page.number (run (record { program = program; request = request }) (MOST_STEPS + 1) 0 (statements_of page.body) [] (start answers))
 
-abbrev pub conduct : List Declaration → Request → List Datum → Conduct
+abbrev pub conduct : Program → Request → List Datum → Conduct
 conduct program request answers = on_page program request answers (page_in program request.path)

@@ -1,25 +1,28 @@
 -- What expressions and statements do, where these variables are seen. Expressions leave variables as they are.
-use Rattle.std.specs.Prelude.{ℕ, zero, suc, ◌+◌, ◌==◌, nat_lt, nat_le, Bool, true, false, ◌&&◌, ◌||◌, not, if◌then◌else◌, pos, negsuc, List, [], ◌∷◌, ◌++◌, length, map, take, Option, Some, None, Result, Ok, Err}
-use Rattle.script_tree.specs.Builtins.{builtin_of, takes_store}
+use Rattle.std.specs.Prelude.{ℕ, zero, suc, ◌+◌, ◌==◌, nat_lt, Bool, true, false, if◌then◌else◌, List, [], ◌∷◌, ◌++◌, length, map, take, Some, Result, Ok, Err}
+use Rattle.script_tree.specs.Builtins.{takes_store}
 use Rattle.script_tree.specs.Datum as v
-use Rattle.script_tree.specs.Datum.{Datum, members}
+use Rattle.script_tree.specs.Datum.{Datum}
+use Rattle.script_tree.specs.Programs.{Program}
 use Rattle.script_tree.specs.Requests.{Request}
 use Rattle.script_tree.specs.Syntax.{Expression, number, text, truth, null, bracket, variable, call, list, transact, unary, binary, and_, or_, index, Expressions, no_expression, expression, Query, insert, select, update, delete, expect, Queries, no_query, query, Conditions, no_condition, condition, Assignments, no_assignment, assignment, Statement, let_, set_, if_, while_, for_, echo, status, return, do_, Else, no_else, else_, Statements, no_statement, statement}
 use Rattle.script_tree.specs.SyntaxLists.{statements_of}
 use Rattle.script_tree.specs.declared.fault.ScriptFault.{ScriptFault}
-use Rattle.script_tree.specs.declared.fault.ScriptFault.TheVariants.{WrongKind, OutOfRange, TooLarge, OutOfSteps, TooDeep}
-use Rattle.script_tree.specs.declared.syntax.builtin.Builtin.{Builtin}
-use Rattle.script_tree.specs.declared.syntax.declaration.Declaration.{Declaration}
+use Rattle.script_tree.specs.declared.fault.ScriptFault.TheVariants.{WrongKind, TooLarge, OutOfSteps, TooDeep}
+use Rattle.script_tree.specs.declared.limits.TheConstants.{MOST_CALL_DEPTH, MOST_BODY_BYTES}
 use Rattle.script_meaning.specs.Operations as o
-use Rattle.script_meaning.specs.Run.{Run, ◌>>=◌, ◌>>◌, give, fails, charge, issue, decide, goes, stops, fault}
+use Rattle.script_meaning.specs.Run.{Cost, taking, taking_request, Run, ◌>>=◌, ◌>>◌, give, fails, unless_fault, charge, charge_for, issue, decide, decide_by, goes, stops, fault}
+use Rattle.script_meaning.specs.Kinds.{list_in}
 use Rattle.script_meaning.specs.Operators.{Answer, printed, listed, indexed, unary_answer, binary_answer}
-use Rattle.script_meaning.specs.BuiltinCalls.{result, built_in}
-use Rattle.script_meaning.specs.Declarations.{DeclaredFunction, NumberedTable, function_in, table_in, column_in}
+use Rattle.script_meaning.specs.Operands as u
+use Rattle.script_meaning.specs.Operands.{OpAnswer, Unchecked, values_of_all, transact_op, status_in}
+use Rattle.script_meaning.specs.BuiltinCalls.{Call, plain, of_request, operation, built_in}
+use Rattle.script_meaning.specs.Declarations.{DeclaredFunction, NumberedTable, Callee, own, built, unknown, callee_in, table_in, column_in}
 use Rattle.script_meaning.specs.Variables.{Variables, value_in, declared, assigned, bound}
 
 -- what stays the same in a run
 pub record Setting : Type 0 where
-  pub program : List Declaration
+  pub program : Program
   pub request : Request
 
 -- Statements go on with these variables, or give a function's value back, which ends a page.
@@ -31,9 +34,17 @@ pub data Flow : Type 0 where
 abbrev pub Later : Type 0
 Later = ℕ → Statements → Variables → Run Flow
 
--- a node takes its step, and then has its value or fault
-abbrev pub node : Answer → Run Datum
-node a = charge >> result a
+-- a node that takes these values spends its step, and then has its value or fault
+abbrev pub node : List Datum → Answer → Run Datum
+node ds a = charge (taking ds) >> unless_fault a
+
+-- a variable takes its value
+abbrev pub seen : Datum → Run Datum
+seen d = node (d ∷ []) (Ok d)
+
+-- the operation is issued, unless its values are at fault
+abbrev pub issue_unless_fault : OpAnswer → Run Datum
+issue_unless_fault op = unless_fault op >>= issue
 
 -- ---- calls
 
@@ -41,87 +52,73 @@ abbrev pub value_of : Flow → Datum
 value_of (on vs) = v.null
 value_of (back d) = d
 
--- a call of a function of the program, which stands at a call depth of 63 at most; the body is one deeper
-abbrev pub entered : Later → ℕ → Option DeclaredFunction → List Datum → Run Datum
-entered later depth None ds = fails WrongKind
-entered later depth (Some f) ds =
-    if depth == 64 then fails TooDeep
+-- The body of a function of the program is one deeper than its call, which may not stand too deep.
+abbrev pub entered : Later → ℕ → DeclaredFunction → List Datum → Run Datum
+entered later depth f ds =
+    if depth == MOST_CALL_DEPTH then fails TooDeep
     else (later (depth + 1) (statements_of f.body) (bound f.parameters ds) >>= λ flow. give (value_of flow))
 
-abbrev pub called : Setting → Later → ℕ → List ℕ → Option Builtin → (store : List ℕ) → List Datum → Run Datum
-called w later depth f (Some b) store ds = charge >> built_in w.request store b ds
-called w later depth f None store ds = charge >> entered later depth (function_in w.program f) ds
+-- what the step of a built-in function's call is spent on
+abbrev pub call_cost : Request → List Datum → Call → Cost
+call_cost q ds (plain a) = taking ds
+call_cost q ds (of_request a) = taking_request q ds
+call_cost q ds (operation op) = taking ds
+
+abbrev pub call_made : Call → Run Datum
+call_made (plain a) = unless_fault a
+call_made (of_request a) = unless_fault a
+call_made (operation op) = issue_unless_fault op
+
+abbrev pub call_node : Request → List Datum → Call → Run Datum
+call_node q ds c = charge (call_cost q ds c) >> call_made c
+
+abbrev pub called : Setting → Later → ℕ → Callee → (store : List ℕ) → List Datum → Run Datum
+called w later depth (own f) store ds = charge (taking ds) >> entered later depth f ds
+called w later depth (built b) store ds = call_node w.request ds (built_in w.request store b ds)
+called w later depth unknown store ds = charge (taking ds) >> fails WrongKind
+
+-- whether the first argument of a call is the bare name of a store
+abbrev pub names_store : Callee → Bool
+names_store (own f) = false
+names_store (built b) = takes_store (Some b)
+names_store unknown = false
 
 -- the bare name of a store
 abbrev pub store_name : Expressions → List ℕ
 store_name (expression (variable at x) es) = x
 store_name es = []
 
--- ---- transactions
-
--- a statement whose operands are evaluated: a row or a count that is still to be checked, or one that needs no check
-pub data Unchecked : Type 0 where
-  row : (table : ℕ) → List Datum → Unchecked
-  count : Datum → (table : ℕ) → List o.Test → Unchecked
-  ready : o.Statement → Unchecked
-
--- a row's key is a text of at most 1,024 bytes
-abbrev pub key_check : List Datum → Run (Unit {0})
-key_check (v.text x ∷ ds) = if nat_lt 1024 (length x) then fails TooLarge else give tt
-key_check ds = fails WrongKind
-
-abbrev pub counted : ℕ → List o.Test → Datum → Run o.Statement
-counted t tests (v.number n) = give (o.expect n t tests)
-counted t tests d = fails WrongKind
-
-abbrev pub checked_one : Unchecked → Run o.Statement
-checked_one (row t ds) = key_check ds >> give (o.insert t ds)
-checked_one (count d t tests) = counted t tests d
-checked_one (ready s) = give s
-
-abbrev pub checked : List Unchecked → Run (List o.Statement)
-checked [] = give []
-checked (d ∷ ds) = do
-  s ← checked_one d
-  ss ← checked ds
-  give (s ∷ ss)
-
 -- ---- the response
 
--- bytes join the body, which has at most 262,144
+-- bytes join the body, which may not be too long
 abbrev pub print : List ℕ → Run (Unit {0})
-print bytes p = if nat_lt 262144 (length (p.body ++ bytes)) then stops (fault TooLarge) p else goes tt (record p { body = p.body ++ bytes })
+print bytes p =
+    if nat_lt MOST_BODY_BYTES (length (p.body ++ bytes)) then stops (fault TooLarge) p
+    else goes tt (record p { body = p.body ++ bytes })
 
-abbrev pub print_value : Result (List ℕ) ScriptFault → Run (Unit {0})
-print_value (Ok bytes) = print bytes
-print_value (Err f) = fails f
+abbrev pub print_value : Datum → Run (Unit {0})
+print_value d = unless_fault (printed d) >>= print
 
--- from 200 to 599, but none that forbids a body
-abbrev pub is_status : ℕ → Bool
-is_status n = (nat_le 200 n && nat_le n 599) && not ((n == 204) || ((n == 205) || (n == 304)))
-
-abbrev pub set_status : Datum → Run (Unit {0})
-set_status (v.number (pos n)) p = if is_status n then goes tt (record p { status = n }) else stops (fault OutOfRange) p
-set_status (v.number (negsuc n)) p = stops (fault OutOfRange) p
-set_status d p = stops (fault WrongKind) p
+abbrev pub set_status : ℕ → Run (Unit {0})
+set_status n p = goes tt (record p { status = n })
 
 -- ---- expressions
 
 abbrev mutual
   pub eval : Setting → Later → ℕ → Variables → Expression → Run Datum
-  eval w later depth vs (number at n) = node (Ok (v.number n))
-  eval w later depth vs (text at bytes) = node (Ok (v.text bytes))
-  eval w later depth vs (truth at b) = node (Ok (v.bool b))
-  eval w later depth vs (null at) = node (Ok v.null)
+  eval w later depth vs (number at n) = node [] (Ok (v.number n))
+  eval w later depth vs (text at bytes) = node [] (Ok (v.text bytes))
+  eval w later depth vs (truth at b) = node [] (Ok (v.bool b))
+  eval w later depth vs (null at) = node [] (Ok v.null)
   eval w later depth vs (bracket at e) = eval w later depth vs e
-  eval w later depth vs (variable at x) = node (Ok (value_in vs x))
+  eval w later depth vs (variable at x) = seen (value_in vs x)
   eval w later depth vs (unary at op e) = do
     a ← eval w later depth vs e
-    node (unary_answer op a)
+    node (a ∷ []) (unary_answer op a)
   eval w later depth vs (binary at op a b) = do
     x ← eval w later depth vs a
     y ← eval w later depth vs b
-    node (binary_answer op x y)
+    node (x ∷ y ∷ []) (binary_answer op x y)
   eval w later depth vs (and_ at a b) = do
     x ← eval w later depth vs a
     holds ← decide x
@@ -133,18 +130,17 @@ abbrev mutual
   eval w later depth vs (index at a b) = do
     x ← eval w later depth vs a
     y ← eval w later depth vs b
-    node (indexed x y)
+    node (x ∷ y ∷ []) (indexed x y)
   eval w later depth vs (list at es) = do
     ds ← eval_all w later depth vs es
-    node (listed ds)
+    node ds (listed ds)
   eval w later depth vs (call at f es) = do
-    ds ← (if takes_store (builtin_of f) then eval_others w later depth vs es else eval_all w later depth vs es)
-    called w later depth f (builtin_of f) (store_name es) ds
+    ds ← (if names_store (callee_in w.program f) then eval_others w later depth vs es else eval_all w later depth vs es)
+    called w later depth (callee_in w.program f) (store_name es) ds
   eval w later depth vs (transact at qs) = do
-    ds ← operands_of_all w later depth vs qs
-    charge
-    ss ← checked ds
-    issue (record { object = o.tables; act = o.transact ss })
+    us ← operands_of_all w later depth vs qs
+    charge (taking (values_of_all us))
+    issue_unless_fault (transact_op us)
 
   -- the values of these, in order
   pub eval_all : Setting → Later → ℕ → Variables → Expressions → Run (List Datum)
@@ -163,21 +159,21 @@ abbrev mutual
   pub operands_of : Setting → Later → ℕ → Variables → Query → Run Unchecked
   operands_of w later depth vs (insert at t es) = do
     ds ← eval_all w later depth vs es
-    give (row (table_in w.program t).number ds)
+    give (u.insert (table_in w.program t).number ds)
   operands_of w later depth vs (select at columns t cs) = do
     tests ← tests_of w later depth vs (table_in w.program t) cs
-    give (ready (o.select (table_in w.program t).number (map (column_in (table_in w.program t)) columns) tests))
+    give (u.select (table_in w.program t).number (map (column_in (table_in w.program t)) columns) tests)
   operands_of w later depth vs (update at t as' cs) = do
     changes ← changes_of w later depth vs (table_in w.program t) as'
     tests ← tests_of w later depth vs (table_in w.program t) cs
-    give (ready (o.update (table_in w.program t).number changes tests))
+    give (u.update (table_in w.program t).number changes tests)
   operands_of w later depth vs (delete at t cs) = do
     tests ← tests_of w later depth vs (table_in w.program t) cs
-    give (ready (o.delete (table_in w.program t).number tests))
+    give (u.delete (table_in w.program t).number tests)
   operands_of w later depth vs (expect at e t cs) = do
     n ← eval w later depth vs e
     tests ← tests_of w later depth vs (table_in w.program t) cs
-    give (count n (table_in w.program t).number tests)
+    give (u.expect n (table_in w.program t).number tests)
 
   pub operands_of_all : Setting → Later → ℕ → Variables → Queries → Run (List Unchecked)
   operands_of_all w later depth vs no_query = give []
@@ -215,27 +211,27 @@ left_as vs (back d) = back d
 abbrev pub scoped : Variables → Run Flow → Run Flow
 scoped vs block = block >>= λ flow. give (left_as vs flow)
 
--- a turn of a for with each value in its variable
-abbrev pub turns : List ℕ → (Variables → Run Flow) → Variables → List Datum → Run Flow
-turns x body vs [] = decide (v.bool false) >> give (on vs)
-turns x body vs (d ∷ ds) = do
-  _ ← decide (v.bool true)
+-- a turn of a for with each value in its variable; each decision is spent on the whole list
+abbrev pub turns : (whole : Datum) → List ℕ → (Variables → Run Flow) → Variables → List Datum → Run Flow
+turns whole x body vs [] = decide_by whole (v.bool false) >> give (on vs)
+turns whole x body vs (d ∷ ds) = do
+  _ ← decide_by whole (v.bool true)
   flow ← scoped vs (body (declared vs x d))
-  then_on flow (λ us. turns x body us ds)
+  then_on flow (λ us. turns whole x body us ds)
 
-abbrev pub turns_over : List ℕ → (Variables → Run Flow) → Variables → Datum → Run Flow
-turns_over x body vs (v.list ds) = turns x body vs (members ds)
-turns_over x body vs d = charge >> fails WrongKind
+abbrev pub turns_of : (whole : Datum) → List ℕ → (Variables → Run Flow) → Variables → Result (List Datum) ScriptFault → Run Flow
+turns_of whole x body vs (Ok ds) = turns whole x body vs ds
+turns_of whole x body vs (Err f) = charge_for whole >> fails f
 
 abbrev mutual
   pub exec : Setting → Later → ℕ → Statement → Variables → Run Flow
   exec w later depth (let_ at x e) vs = do
     d ← eval w later depth vs e
-    charge
+    charge_for d
     give (on (declared vs x.text d))
   exec w later depth (set_ at x e) vs = do
     d ← eval w later depth vs e
-    charge
+    charge_for d
     give (on (assigned vs x.text d))
   exec w later depth (if_ at e body other) vs = do
     d ← eval w later depth vs e
@@ -249,24 +245,25 @@ abbrev mutual
         else give (on vs)
   exec w later depth (for_ at x e body) vs = do
     d ← eval w later depth vs e
-    turns_over x.text (block w later depth body) vs d
+    turns_of d x.text (block w later depth body) vs (list_in d)
   exec w later depth (echo at e) vs = do
     d ← eval w later depth vs e
-    charge
-    print_value (printed d)
+    charge_for d
+    print_value d
     give (on vs)
   exec w later depth (status at e) vs = do
     d ← eval w later depth vs e
-    charge
-    set_status d
+    charge_for d
+    n ← unless_fault (status_in d)
+    set_status n
     give (on vs)
   exec w later depth (return at e) vs = do
     d ← eval w later depth vs e
-    charge
+    charge_for d
     give (back d)
   exec w later depth (do_ at e) vs = do
     d ← eval w later depth vs e
-    charge
+    charge_for d
     give (on vs)
 
   pub otherwise : Setting → Later → ℕ → Else → Variables → Run Flow
@@ -278,7 +275,7 @@ abbrev mutual
   block w later depth (statement s ss) vs = exec w later depth s vs >>= λ flow. then_on flow (block w later depth ss)
 
 -- Statements in which fewer than n turns of a while and calls lie within one another. Each of them spends a step, so that
--- 100,001 never run out.
+-- one more than the steps that there are never run out.
 abbrev pub run : Setting → ℕ → Later
 run w zero depth ss vs = fails OutOfSteps
 run w (suc n) depth ss vs = block w (run w n) depth ss vs

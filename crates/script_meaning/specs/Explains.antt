@@ -2,12 +2,12 @@
 use Rattle.std.specs.Prelude.{◌≡◌, ℕ, ◌<◌, List, Some}
 use Rattle.basis.specs.Lists.{nth}
 use Rattle.script_tree.specs.Objects.{Objects}
+use Rattle.script_tree.specs.Programs.{Program}
 use Rattle.script_tree.specs.Requests.{Request}
 use Rattle.script_tree.specs.Traces.{request_of, Precedes}
 use Rattle.script_tree.specs.declared.operation.Choice.{Choice}
 use Rattle.script_tree.specs.declared.schedule.Moment.{Moment}
 use Rattle.script_tree.specs.declared.schedule.Moment.TheVariants.{Arrive, Act, Depart}
-use Rattle.script_tree.specs.declared.syntax.declaration.Declaration.{Declaration}
 use Rattle.script_tree.specs.declared.trace.TraceEvent.{TraceEvent}
 use Rattle.script_meaning.specs.Replay.{opening, Plays}
 
@@ -31,7 +31,7 @@ pub record IsWhole (schedule : List Moment) (r : ℕ) : Type 0 where
 -- Each request of the trace is whole in the schedule, and no other request is in it. Where one request precedes another in
 -- time, it departs before the other arrives. Played from the start, every moment is allowed, and each departure gives the
 -- trace's response.
-pub record Explains (program : List Declaration) (start : Objects) (trace : List TraceEvent) (schedule : List Moment) : Type 0 where
+pub record Explains (program : Program) (start : Objects) (trace : List TraceEvent) (schedule : List Moment) : Type 0 where
   pub whole : (r : ℕ) (q : Request) → request_of trace r ≡ Some q → IsWhole schedule r
   pub of_trace : (i : ℕ) (m : Moment) → nth schedule i ≡ Some m → (q : Request) × (request_of trace (rid_of m) ≡ Some q)
   pub in_time : (a b i j : ℕ) → Precedes trace a b → nth schedule i ≡ Some (Depart a) → nth schedule j ≡ Some (Arrive b) → i < j

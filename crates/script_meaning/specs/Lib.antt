@@ -3,12 +3,11 @@ pub mod Conduct
 pub mod Declarations
 pub mod Evaluate
 pub mod Explains
-pub mod Gives
+pub mod Kinds
+pub mod Operands
 pub mod Operations
 pub mod Operators
 pub mod Replay
+pub mod Results
 pub mod Run
-pub mod SettingCode
-pub mod Straight
 pub mod Variables
-pub mod WalkerSteps

@@ -2,6 +2,7 @@
 use Rattle.std.specs.Prelude.{◌≡◌, ℕ, true, List, [], ◌∷◌, ◌++◌, Option, Some, None, nat_eq, if◌then◌else◌}
 use Rattle.script_tree.specs.Datum.{Datum}
 use Rattle.script_tree.specs.Objects.{Objects, acted, plausible, holding}
+use Rattle.script_tree.specs.Programs.{Program}
 use Rattle.script_tree.specs.Requests.{Request}
 use Rattle.script_tree.specs.Traces.{request_of, response_of}
 use Rattle.script_tree.specs.declared.operation.Op.{Op}
@@ -10,11 +11,10 @@ use Rattle.script_tree.specs.declared.path.Path.{Path}
 use Rattle.script_tree.specs.declared.request.Response.{Response}
 use Rattle.script_tree.specs.declared.schedule.Moment.{Moment}
 use Rattle.script_tree.specs.declared.schedule.Moment.TheVariants.{Arrive, Act, Depart}
-use Rattle.script_tree.specs.declared.syntax.declaration.Declaration.{Declaration}
 use Rattle.script_tree.specs.declared.trace.TraceEvent.{TraceEvent}
 use Rattle.script_meaning.specs.Conduct.{conduct, Ending, Wants, Ends, Undefined}
 
-unfoldable pub ending_of : List Declaration → Request → List Datum → Ending
+unfoldable pub ending_of : Program → Request → List Datum → Ending
 ending_of program request answers = (conduct program request answers).ending
 
 -- what the objects hold, and of each open request the answers so far
@@ -30,28 +30,29 @@ opening objects = record { objects = objects; answers = λ r. None }
 abbrev pub with_request : ℕ → Option (List Datum) → (ℕ → Option (List Datum)) → ℕ → Option (List Datum)
 with_request r a answers x = if nat_eq r x then a else answers x
 
-abbrev pub ending_with : List Declaration → Option Request → Option (List Datum) → Option Ending
+abbrev pub ending_with : Program → Option Request → Option (List Datum) → Option Ending
 ending_with program (Some q) (Some answers) = Some (ending_of program q answers)
 ending_with program (Some q) None = None
 ending_with program None answers = None
 
 -- what an open request of the trace does next
-abbrev pub next_of : List Declaration → List TraceEvent → Scene → ℕ → Option Ending
+abbrev pub next_of : Program → List TraceEvent → Scene → ℕ → Option Ending
 next_of program trace scene r = ending_with program (request_of trace r) (scene.answers r)
 
 -- A request arrives where it isn't open. It acts where it wants an operation whose object takes the choice. It departs where it
 -- ends.
-abbrev pub IsAllowed : List Declaration → List TraceEvent → Scene → Moment → Type 0
+abbrev pub IsAllowed : Program → List TraceEvent → Scene → Moment → Type 0
 IsAllowed program trace scene (Arrive r) = scene.answers r ≡ None
 IsAllowed program trace scene (Act r choice) =
     (op : Op) × (next_of program trace scene r ≡ Some (Wants op)) × (plausible op.act choice (scene.objects op.object) ≡ true)
 IsAllowed program trace scene (Depart r) = (response : Response) × (path : Path) × (next_of program trace scene r ≡ Some (Ends response path))
 
 -- A departure gives the trace's response.
-abbrev pub IsAsTraced : List Declaration → List TraceEvent → Scene → Moment → Type 0
+abbrev pub IsAsTraced : Program → List TraceEvent → Scene → Moment → Type 0
+IsAsTraced program trace scene (Arrive r) = Unit {0}
+IsAsTraced program trace scene (Act r choice) = Unit {0}
 IsAsTraced program trace scene (Depart r) =
     (response : Response) (path : Path) → next_of program trace scene r ≡ Some (Ends response path) → response_of trace r ≡ Some response
-IsAsTraced program trace scene m = Unit {0}
 
 abbrev pub and_answer : Option (List Datum) → Datum → Option (List Datum)
 and_answer None d = None
@@ -67,13 +68,13 @@ after_act r choice (Some (Ends response path)) scene = scene
 after_act r choice (Some Undefined) scene = scene
 after_act r choice None scene = scene
 
-abbrev pub after : List Declaration → List TraceEvent → Scene → Moment → Scene
+abbrev pub after : Program → List TraceEvent → Scene → Moment → Scene
 after program trace scene (Arrive r) = record scene { answers = with_request r (Some []) scene.answers }
 after program trace scene (Act r choice) = after_act r choice (next_of program trace scene r) scene
 after program trace scene (Depart r) = record scene { answers = with_request r None scene.answers }
 
 -- Every moment is allowed, one after the other, and every departure is as traced.
-abbrev pub Plays : List Declaration → List TraceEvent → Scene → List Moment → Type 0
+abbrev pub Plays : Program → List TraceEvent → Scene → List Moment → Type 0
 Plays program trace scene [] = Unit {0}
 Plays program trace scene (m ∷ ms) =
     IsAllowed program trace scene m × IsAsTraced program trace scene m × Plays program trace (after program trace scene m) ms

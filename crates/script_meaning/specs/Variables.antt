@@ -24,4 +24,5 @@ assigned (v ∷ vs) x d = if bytes_eq x v.name then record v { value = d } ∷ v
 -- the parameters of a function with the values of a call
 abbrev pub bound : List Name → List Datum → Variables
 bound (x ∷ xs) (d ∷ ds) = record { name = x.text; value = d } ∷ bound xs ds
-bound xs ds = []
+bound (x ∷ xs) [] = []
+bound [] ds = []

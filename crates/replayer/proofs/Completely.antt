@@ -10,7 +10,7 @@ use Rattle.script_tree.specs.Traces.{request_of, response_of, IsBalanced, Preced
 use Rattle.script_tree.specs.declared.request.Response.{Response}
 use Rattle.script_tree.specs.declared.schedule.Moment.{Moment}
 use Rattle.script_tree.specs.declared.schedule.Moment.TheVariants.{Arrive, Act, Depart}
-use Rattle.script_tree.specs.declared.syntax.declaration.Declaration.{Declaration}
+use Rattle.script_tree.specs.Programs.{Program}
 use Rattle.script_tree.specs.declared.trace.TraceEvent.{TraceEvent}
 use Rattle.script_meaning.specs.Conduct.{Ends}
 use Rattle.script_meaning.specs.Explains.{rid_of, Explains}
@@ -24,7 +24,7 @@ use Rattle.replayer.proofs.DifferenceTests.{not_arrived, has_departed-at, asked_
 same_itself : (x : Response) → is_same_response x (Some x) ≡ true
 same_itself x = ap (λ b. cond b (bytes_eq x.body x.body) false) (eq-eqb x.status x.status refl) ∙ (bytes_eq-Decides x.body x.body).1 refl
 
-module _ (program : List Declaration) (start : Objects) (trace : List TraceEvent) (schedule : List Moment) (balanced : IsBalanced trace) (explained : Explains program start trace schedule) where
+module _ (program : Program) (start : Objects) (trace : List TraceEvent) (schedule : List Moment) (balanced : IsBalanced trace) (explained : Explains program start trace schedule) where
   -- an arrival comes first, and after the departures of the requests that precede it
   arrives_well : (past : List Moment) (r : ℕ) (ms : List Moment) → past ++ Arrive r ∷ ms ≡ schedule → arrival_fault trace past r ≡ None
   arrives_well past r ms is =
@@ -87,5 +87,5 @@ module _ (program : List Declaration) (start : Objects) (trace : List TraceEvent
       ]) (no_fault_at_all past scene m ms is plays.0 plays.1)
       ∙ no_difference (past ++ m ∷ []) (after program trace scene m) ms (append_assoc past (m ∷ []) ms ∙ is) plays.2
 
-pub complete : (program : List Declaration) (start : Objects) (trace : List TraceEvent) (schedule : List Moment) → IsBalanced trace → Explains program start trace schedule → difference_of program start trace schedule ≡ None
+pub complete : (program : Program) (start : Objects) (trace : List TraceEvent) (schedule : List Moment) → IsBalanced trace → Explains program start trace schedule → difference_of program start trace schedule ≡ None
 complete program start trace schedule balanced explained = no_difference program start trace schedule balanced explained [] (opening start) schedule refl explained.plays

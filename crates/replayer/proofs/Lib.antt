@@ -1,8 +1,8 @@
 mod Completely
-pub mod Reached
-pub mod Wanted
 mod Soundly
 mod DifferenceTests
 pub mod PlaceFacts
 pub mod RegisterFacts
 pub mod StageFacts
+pub mod StraightLineRuns
+pub mod StandingFacts

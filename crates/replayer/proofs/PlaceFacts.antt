@@ -1,5 +1,5 @@
 -- Facts on places in a trace.
-use Rattle.std.proofs.Common.{◌≡◌, ◌∙◌, ℕ, zero, suc, ◌+◌, List, [], ◌∷◌, Option, Some, None, Bool, true, false, cond, length, Bor, option_copied, refl, ap, arith}
+use Rattle.std.proofs.Common.{◌≡◌, ◌∙◌, ◌<◌, ◌≤◌, sym, ℕ, zero, suc, ◌+◌, List, [], ◌∷◌, Option, Some, None, Bool, true, false, cond, length, Bor, option_copied, IfSome, refl, ap, arith}
 use Rattle.std.specs.List.{slice_get}
 use Rattle.std.specs.Option.{option_and_then}
 use Rattle.std.specs.Slice.{IsItemAt}
@@ -8,7 +8,10 @@ use Rattle.basis.specs.Lists.{first_answer, or_else}
 use Rattle.script_tree.specs.Traces.{request_in, response_in, request_of, response_of}
 use Rattle.script_tree.specs.declared.trace.TraceEvent.{TraceEvent}
 use Rattle.script_tree.specs.declared.trace.TraceEvent.TheVariants.{Asked, Answered}
-use Rattle.replayer.specs.Places.{is_request, is_response, first_place, the_request, the_response, request_at, response_at}
+use Rattle.replayer.specs.Places.{is_request, is_response, first_place, request_place, response_place, partner_place, the_request, the_response, request_at, response_at}
+use Rattle.basis.proofs.Options.{some_one}
+use Rattle.script_tree.specs.Requests.{Request}
+use Rattle.std.proofs.lemmas.Bool.{eqb-true}
 
 -- what a slice gives at a place
 pub got : (es : List TraceEvent) (i : ℕ) (r : Option (Bor TraceEvent)) → IsItemAt es i r → slice_get es i ≡ option_copied r
@@ -67,3 +70,70 @@ response_found r es p h = let f = found (is_response r) (response_in r) the_resp
 pub response_absent : (r : ℕ) (es : List TraceEvent) → first_place (is_response r) 0 es ≡ None → response_of es r ≡ None
 unfolding response_of
 response_absent r es h = absent (is_response r) (response_in r) the_response (response_fits r) 0 es h
+
+-- ---- one place for each id
+
+-- a first place lies in the list
+place_inside : (test : TraceEvent → Bool) (i : ℕ) (es : List TraceEvent) (p : ℕ) → first_place test i es ≡ Some p → (i ≤ p) × (p < i + length es)
+place_inside test i [] p h = absurd (cc)
+place_inside test i (e ∷ es) p h = go (test e) h (λ k. place_inside test (suc i) es p k)
+  where
+    go : (b : Bool) → cond b (Some i) (first_place test (suc i) es) ≡ Some p → (first_place test (suc i) es ≡ Some p → (suc i ≤ p) × (p < suc i + length es)) → (i ≤ p) × (p < i + suc (length es))
+    go true k rest = let e : i ≡ p = some_one i p k in (omega (arith, e), omega (arith, e))
+    go false k rest = let more = rest k in (omega (arith, more.0), omega (arith, more.1))
+
+pub request_place-within : (r : ℕ) (es : List TraceEvent) (p : ℕ) → request_place es r ≡ Some p → p < length es
+request_place-within r es p h = let inside = place_inside (is_request r) 0 es p h in omega (arith, inside.1)
+
+pub request_place-inside : (r : ℕ) (es : List TraceEvent) (o : Option ℕ) → o ≡ request_place es r → IfSome o (λ p. p < length es)
+request_place-inside r es None h = tt
+request_place-inside r es (Some p) h = request_place-within r es p (sym h)
+
+same_id : (x r : ℕ) (e : TraceEvent) → is_request x e ≡ true → is_request r e ≡ true → x ≡ r
+same_id x r (Asked id q) a b = eqb-true x id a ∙ sym (eqb-true r id b)
+same_id x r (Answered id y) a b = absurd (cc)
+
+one_id : (x r i : ℕ) (es : List TraceEvent) (p : ℕ) → first_place (is_request x) i es ≡ Some p → first_place (is_request r) i es ≡ Some p → x ≡ r
+one_id x r i [] p a b = absurd (cc)
+one_id x r i (e ∷ es) p a b = go (λ k l. one_id x r (suc i) es p k l) (is_request x e) (is_request r e) refl refl a b
+  where
+    later : first_place (is_request x) (suc i) es ≡ Some p → Some i ≡ Some p → x ≡ r
+    later k here = let inside = place_inside (is_request x) (suc i) es p k in absurd (let e : i ≡ p = some_one i p here in omega (arith, inside.0, e))
+
+    earlier : first_place (is_request r) (suc i) es ≡ Some p → Some i ≡ Some p → x ≡ r
+    earlier k here = let inside = place_inside (is_request r) (suc i) es p k in absurd (let e : i ≡ p = some_one i p here in omega (arith, inside.0, e))
+
+    go : (first_place (is_request x) (suc i) es ≡ Some p → first_place (is_request r) (suc i) es ≡ Some p → x ≡ r) → (m n : Bool) → is_request x e ≡ m → is_request r e ≡ n → cond m (Some i) (first_place (is_request x) (suc i) es) ≡ Some p → cond n (Some i) (first_place (is_request r) (suc i) es) ≡ Some p → x ≡ r
+    go more true true s t k l = same_id x r e s t
+    go more true false s t k l = earlier l k
+    go more false true s t k l = later k l
+    go more false false s t k l = more k l
+
+-- no two ids have their requests at one place
+pub request_place-once : (x r : ℕ) (es : List TraceEvent) (p : ℕ) → request_place es x ≡ Some p → request_place es r ≡ Some p → x ≡ r
+request_place-once x r es p a b = one_id x r 0 es p a b
+
+request_there : (r i : ℕ) (es : List TraceEvent) (p : ℕ) → first_place (is_request r) i es ≡ Some p → (k : ℕ) × (q : Request) × (p ≡ i + k) × (slice_get es k ≡ Some (Asked r q))
+request_there r i [] p h = absurd (cc)
+request_there r i (e ∷ es) p h = go (is_request r e) refl h (λ k. request_there r (suc i) es p k)
+  where
+    here : (e : TraceEvent) → is_request r e ≡ true → (q : Request) × (e ≡ Asked r q)
+    here (Asked id q) t = (q, ap (λ n. Asked n q) (sym (eqb-true r id t)))
+    here (Answered id y) t = absurd (cc)
+
+    go : (b : Bool) → is_request r e ≡ b → cond b (Some i) (first_place (is_request r) (suc i) es) ≡ Some p
+        → (first_place (is_request r) (suc i) es ≡ Some p → (k : ℕ) × (q : Request) × (p ≡ suc i + k) × (slice_get es k ≡ Some (Asked r q)))
+        → (k : ℕ) × (q : Request) × (p ≡ i + k) × (slice_get (e ∷ es) k ≡ Some (Asked r q))
+    go true t k rest = let e' : i ≡ p = some_one i p k in let found = here e t in (0, found.0, omega (arith, e'), ap Some found.1)
+    go false t k rest = let more = rest k in (suc more.0, more.1, omega (arith, more.2), more.3)
+
+-- the request of an id stands at its place
+pub request_here : (r : ℕ) (es : List TraceEvent) (p : ℕ) → request_place es r ≡ Some p → (q : Request) × (slice_get es p ≡ Some (Asked r q))
+request_here r es p h =
+    let there = request_there r 0 es p h in
+    let same : there.0 ≡ p = omega (arith, there.2) in
+    (there.1, ap (slice_get es) (sym same) ∙ there.3)
+
+-- and its partner is the response
+pub partner_of-request : (r : ℕ) (es : List TraceEvent) (p : ℕ) → request_place es r ≡ Some p → option_and_then (partner_place es) (slice_get es p) ≡ response_place es r
+partner_of-request r es p h = ap (option_and_then (partner_place es)) (request_here r es p h).1

@@ -14,7 +14,7 @@ use Rattle.script_tree.specs.declared.path.Path.{Path}
 use Rattle.script_tree.specs.declared.request.Response.{Response}
 use Rattle.script_tree.specs.declared.schedule.Moment.{Moment}
 use Rattle.script_tree.specs.declared.schedule.Moment.TheVariants.{Arrive, Act, Depart}
-use Rattle.script_tree.specs.declared.syntax.declaration.Declaration.{Declaration}
+use Rattle.script_tree.specs.Programs.{Program}
 use Rattle.script_tree.specs.declared.trace.TraceEvent.{TraceEvent}
 use Rattle.script_meaning.specs.Conduct.{Ending, Wants, Ends, Undefined}
 use Rattle.script_meaning.specs.Explains.{rid_of, IsWhole, Explains}
@@ -41,7 +41,7 @@ record Known (past : List Moment) (scene : Scene) : Type 0 where
   pub open_ones : (r : ℕ) (answers : List Datum) → scene.answers r ≡ Some answers → (has_arrived past r ≡ true) × (has_departed past r ≡ false)
   pub others : (r : ℕ) → has_arrived past r ≡ false → has_departed past r ≡ false
 
-record Passes (program : List Declaration) (trace : List TraceEvent) (past : List Moment) (scene : Scene) (m : Moment) : Type 0 where
+record Passes (program : Program) (trace : List TraceEvent) (past : List Moment) (scene : Scene) (m : Moment) : Type 0 where
   pub asked : (q : Request) × (request_of trace (rid_of m) ≡ Some q)
   pub fits : Fits trace past m
   pub is_allowed : IsAllowed program trace scene m
@@ -85,7 +85,7 @@ departure_none traced (Some (Ends response path)) e = (response, path, refl, sam
 departure_none traced (Some Undefined) e = absurd (none_is_not (sym e))
 
 -- what does something next is open
-is_open : (program : List Declaration) (asked : Option Request) (answers : Option (List Datum)) (next : Ending) → ending_with program asked answers ≡ Some next → (ds : List Datum) × (answers ≡ Some ds)
+is_open : (program : Program) (asked : Option Request) (answers : Option (List Datum)) (next : Ending) → ending_with program asked answers ≡ Some next → (ds : List Datum) × (answers ≡ Some ds)
 is_open program (Some q) (Some ds) next e = (ds, refl)
 is_open program (Some q) None next e = absurd (none_is_not e)
 is_open program None answers next e = absurd (none_is_not e)
@@ -97,7 +97,7 @@ more_open : (past : List Moment) (m : Moment) (r : ℕ) → (has_arrived past r 
     → (has_arrived (past ++ m ∷ []) r ≡ true) × (has_departed (past ++ m ∷ []) r ≡ false)
 more_open past m r h n = (arrived_more past m r ∙ or_left (has_arrived past r) (is_arrival r m) h.0, departed_more past m r ∙ or_from (has_departed past r) (is_departure r m) h.1 n)
 
-module _ (program : List Declaration) (trace : List TraceEvent) where
+module _ (program : Program) (trace : List TraceEvent) where
   passed : (past : List Moment) (scene : Scene) (m : Moment) → Known past scene → fault_of program trace past scene m ≡ None → Passes program trace past scene m
   unfolding fault_of
   passed past scene (Arrive r) known e =
@@ -283,7 +283,7 @@ nobody : (r : ℕ) → has_departed [] r ≡ false
 unfolding has_departed
 nobody r = refl
 
-pub sound : (program : List Declaration) (start : Objects) (trace : List TraceEvent) (schedule : List Moment) → IsBalanced trace → difference_of program start trace schedule ≡ None → Explains program start trace schedule
+pub sound : (program : Program) (start : Objects) (trace : List TraceEvent) (schedule : List Moment) → IsBalanced trace → difference_of program start trace schedule ≡ None → Explains program start trace schedule
 sound program start trace schedule balanced e =
     let all = sound_from program trace [] (opening start) schedule (record { open_ones = λ r answers h. absurd (none_is_not h); others = λ r h. nobody r }) e in
     record {

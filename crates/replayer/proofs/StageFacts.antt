@@ -1,8 +1,8 @@
 -- Facts on stages.
-use Rattle.std.proofs.Common.{◌≡◌, ◌∙◌, ℕ, suc, ◌+◌, List, [], ◌∷◌, ◌++◌, length, drop, Option, Some, None, is_some, is_none, Bool, true, false, ◌||◌, not, cond, nat_eq, nat_lt, unwrap_or, refl, ap, sym, subst, arith, inl, inr, Bor, option_copied, Result, Ok, Err, IfOk, ◌<◌, ◌≤◌}
-use Rattle.std.specs.BTreeMap.{is_at}
-use Rattle.std.specs.Map.{lookup}
-use Rattle.std.specs.Ordering.{nat_cmp}
+use Rattle.std.proofs.Common.{◌≡◌, ◌∙◌, ℕ, zero, suc, ◌+◌, List, [], ◌∷◌, ◌++◌, length, drop, Option, Some, None, is_some, is_none, Bool, true, false, ◌||◌, not, cond, nat_eq, nat_lt, unwrap_or, refl, ap, sym, subst, arith, inl, inr, Bor, option_copied, ◌<◌, ◌≤◌, ◌≢◌, get_or}
+use Rattle.std.proofs.Math.ListN.{set}
+use Rattle.std.proofs.lemmas.List.{get_or-set_same, get_or-set_other}
+use Rattle.basis.proofs.Booleans.{or-false}
 use Rattle.std.specs.List.{list_any}
 use Rattle.std.proofs.lemmas.List.Folds.{list_any-append}
 use Rattle.std.proofs.lemmas.Bool.{ltb-true, lt-ltb, cases_eq, eq-eqb, eqb-true}
@@ -17,25 +17,28 @@ use Rattle.script_tree.specs.declared.path.Path.{Path}
 use Rattle.script_tree.specs.declared.request.Response.{Response}
 use Rattle.script_tree.specs.declared.schedule.Moment.{Moment}
 use Rattle.script_tree.specs.declared.schedule.Moment.TheVariants.{Arrive, Act, Depart}
-use Rattle.script_tree.specs.declared.syntax.declaration.Declaration.{Declaration}
+use Rattle.script_tree.specs.Programs.{Program}
 use Rattle.script_tree.specs.declared.trace.TraceEvent.{TraceEvent}
 use Rattle.script_tree.specs.declared.trace.TraceEvent.TheVariants.{Asked, Answered}
-use Rattle.script_meaning.specs.Conduct.{Ending, Wants, Ends}
+use Rattle.script_tree.specs.Programs.{IsBuilt}
+use Rattle.script_meaning.specs.Conduct.{conduct, Ending, Wants, Ends, Undefined}
+use Rattle.replayer.proofs.StraightLineRuns.{defined_first, wanted_next}
 use Rattle.script_meaning.specs.Replay.{Scene, opening, with_request, after, after_act, and_answer, ending_of, ending_with, next_of}
 use Rattle.replayer.specs.Differences.{has_arrived, has_departed, is_arrival, is_departure, is_too_early, first_not_departed, act_fault, departure_fault, is_same_response, moment_fault, fault_of, difference_from}
 use Rattle.replayer.specs.declared.reason.ReplayReason.TheVariants.{AtMoment, Open as LeftOpen}
 use Rattle.replayer.specs.declared.reason.Reason.TheVariants.{BadChoice, OtherResponse, UnknownRequest}
 use Rattle.replayer.specs.OnRegisters.{objects_of}
-use Rattle.replayer.specs.Places.{first_place, is_request}
-use Rattle.replayer.specs.Runners.{IsReached}
-use Rattle.replayer.specs.StandingWords.{Standings, standing_in, answers_in, departed_in, is_departed, Puts, waits, first_waiting, AreReached}
-use Rattle.replayer.specs.Stages.{Shows, IsStep}
+use Rattle.replayer.specs.Changes.{Does}
+use Rattle.replayer.specs.Places.{first_place, is_request, request_place, the_request}
+use Rattle.replayer.proofs.PlaceFacts.{request_place-once, request_found, request_absent, request_here}
+use Rattle.replayer.specs.Standings.{standing_at, standing_in, answers_in, is_away, departed_in, is_departed, Puts, waits, first_waiting, AreDefined}
+use Rattle.replayer.specs.Stages.{Kept, ShowsIn, Shows, IsStep, Steps}
+use Rattle.replayer.specs.declared.stage.Stage.{Stage}
+use Rattle.std.specs.Option.{option_and_then}
 use Rattle.replayer.specs.declared.reason.Reason.{Reason}
 use Rattle.script_meaning.specs.Explains.{rid_of}
-use Rattle.std.specs.declared.alloc.AllocError.{AllocError}
-use Rattle.replayer.specs.declared.stage.Stage.{Stage}
 use Rattle.replayer.specs.declared.standing.Standing.{Standing}
-use Rattle.replayer.specs.declared.standing.Standing.TheVariants.{Open, Departed}
+use Rattle.replayer.specs.declared.standing.Standing.TheVariants.{Away, Open, Departed}
 
 -- ---- numbers told apart
 
@@ -51,12 +54,8 @@ tell_apart r x ne = not-true (nat_eq r x) (λ t. ne (sym (eqb-true r x t)))
 
 -- ---- one moment more
 
-or_false : (b : Bool) → (b || false) ≡ b
-or_false true = refl
-or_false false = refl
-
 any_more : (test : Moment → Bool) (past : List Moment) (m : Moment) → list_any test (past ++ m ∷ []) ≡ (list_any test past || test m)
-any_more test past m = list_any-append test past (m ∷ []) ∙ ap (λ b. list_any test past || b) (or_false (test m))
+any_more test past m = list_any-append test past (m ∷ []) ∙ ap (λ b. list_any test past || b) (or-false (test m))
 
 pub arrived_more : (past : List Moment) (m : Moment) (r : ℕ) → has_arrived (past ++ m ∷ []) r ≡ (has_arrived past r || is_arrival r m)
 unfolding has_arrived
@@ -86,7 +85,7 @@ later_waiting d e h (Answered id x ∷ es) = later_step (d id) (e id) (h id) (fi
 
 -- ---- too early
 
-not_below : (a b : ℕ) → b ≤ a → nat_lt a b ≡ false
+pub not_below : (a b : ℕ) → b ≤ a → nat_lt a b ≡ false
 not_below a b h = not-true (nat_lt a b) (λ t. let k : a < b = ltb-true a b t in omega arith)
 
 place_within : (test : TraceEvent → Bool) (i : ℕ) (es : List TraceEvent) → i ≤ unwrap_or (first_place test i es) (i + length es)
@@ -131,8 +130,30 @@ early_where past r d h es w u ew eu =
 
 -- ---- a request that stands otherwise
 
-put_here : {m n : Standings} {r : ℕ} {s : Standing} → Puts m n r s → (x : ℕ) → x ≡ r → standing_in n x ≡ Some s
-put_here {m} {n} p x e = ap (standing_in n) e ∙ p.here
+-- what is read at a place is what stands there
+pub stands_at : (ss : List Standing) (place : ℕ) (s : Standing) → place < length ss → s ≡ get_or ss place s → get_or ss place Away ≡ s
+stands_at [] place s inside is = absurd (omega arith)
+stands_at (t ∷ ss) zero s inside is = sym is
+stands_at (t ∷ ss) (suc place) s inside is = stands_at ss place s (omega arith) is
+
+pub stands_in : (trace : List TraceEvent) (ss : List Standing) (r place : ℕ) (s : Standing) → request_place trace r ≡ Some place → place < length ss → s ≡ get_or ss place s → standing_in trace ss r ≡ s
+stands_in trace ss r place s here inside is = ap (standing_at ss) here ∙ stands_at ss place s inside is
+
+-- what stands at the place of a request is how it stands
+pub puts_at : (trace : List TraceEvent) (ss : List Standing) (r place : ℕ) (s : Standing) → request_place trace r ≡ Some place → place < length ss → Puts trace ss (set ss place s) r s
+puts_at trace ss r place s there inside = record {
+  here = ap (standing_at (set ss place s)) there ∙ get_or-set_same ss place s Away inside;
+  others = λ x ne. other x ne (request_place trace x) refl;
+}
+  where
+    other : (x : ℕ) → x ≢ r → (o : Option ℕ) → request_place trace x ≡ o → standing_at (set ss place s) (request_place trace x) ≡ standing_at ss (request_place trace x)
+    other x ne None e = ap (standing_at (set ss place s)) e ∙ sym (ap (standing_at ss) e)
+    other x ne (Some p) e =
+        let apart : p ≢ place = λ same. ne (request_place-once x r trace place (e ∙ ap Some same) there) in
+        ap (standing_at (set ss place s)) e ∙ get_or-set_other ss place p s Away apart ∙ sym (ap (standing_at ss) e)
+
+put_here : {trace : List TraceEvent} {m n : List Standing} {r : ℕ} {s : Standing} → Puts trace m n r s → (x : ℕ) → x ≡ r → standing_in trace n x ≡ s
+put_here {trace} {m} {n} p x e = ap (standing_in trace n) e ∙ p.here
 
 with_here : (r : ℕ) (a : Option (List Datum)) (f : ℕ → Option (List Datum)) (x : ℕ) → x ≡ r → with_request r a f x ≡ a
 with_here r a f x e = ap (λ b. cond b a (f x)) (tell r x e)
@@ -140,27 +161,30 @@ with_here r a f x e = ap (λ b. cond b a (f x)) (tell r x e)
 with_apart : (r : ℕ) (a : Option (List Datum)) (f : ℕ → Option (List Datum)) (x : ℕ) → (x ≡ r → ⊥) → with_request r a f x ≡ f x
 with_apart r a f x ne = ap (λ b. cond b a (f x)) (tell_apart r x ne)
 
-pub shows_more : (trace : List TraceEvent) (past : List Moment) (scene : Scene) (stage : Stage) → Shows trace past scene stage → (m : Moment) (scene' : Scene) (stage' : Stage) (r : ℕ) (s : Standing) → Puts stage.standings.by_id stage'.standings.by_id r s → ((o : Object) → scene'.objects o ≡ objects_of stage'.registers.values o) → ((x : ℕ) → scene'.answers x ≡ with_request r (answers_in (Some s)) scene.answers x) → (has_arrived past r || is_arrival r m) ≡ true → ((x : ℕ) → (x ≡ r → ⊥) → is_arrival x m ≡ false) → (has_departed past r || is_departure r m) ≡ is_departed (Some s) → ((x : ℕ) → (x ≡ r → ⊥) → is_departure x m ≡ false) → stage'.waiting ≡ first_waiting (departed_in stage'.standings.by_id) trace → Shows trace (past ++ m ∷ []) scene' stage'
-shows_more trace past scene stage h m scene' stage' r s p objects answers arrives no_arrival departs no_departure waits = record {
+shows_more : (trace : List TraceEvent) (past : List Moment) (scene : Scene) (k : Kept) → ShowsIn trace past scene k → (m : Moment) (scene' : Scene) (k' : Kept) (r : ℕ) (s : Standing)
+    → Puts trace k.standings k'.standings r s → ((o : Object) → scene'.objects o ≡ objects_of k'.registers o) → ((x : ℕ) → scene'.answers x ≡ with_request r (answers_in s) scene.answers x)
+    → (has_arrived past r || is_arrival r m) ≡ not (is_away s) → ((x : ℕ) → (x ≡ r → ⊥) → is_arrival x m ≡ false) → (has_departed past r || is_departure r m) ≡ is_departed s → ((x : ℕ) → (x ≡ r → ⊥) → is_departure x m ≡ false)
+    → k'.waiting ≡ first_waiting (departed_in trace k'.standings) trace → ShowsIn trace (past ++ m ∷ []) scene' k'
+shows_more trace past scene k h m scene' k' r s p objects answers arrives no_arrival departs no_departure waits = record {
   objects = objects;
   answers = λ x. elim (cases_eq x r) [
-    | inl e ↦ answers x ∙ with_here r (answers_in (Some s)) scene.answers x e ∙ sym (ap answers_in (put_here p x e))
-    | inr ne ↦ answers x ∙ with_apart r (answers_in (Some s)) scene.answers x ne ∙ h.answers x ∙ sym (ap answers_in (p.others x ne))
+    | inl e ↦ answers x ∙ with_here r (answers_in s) scene.answers x e ∙ sym (ap answers_in (put_here p x e))
+    | inr ne ↦ answers x ∙ with_apart r (answers_in s) scene.answers x ne ∙ h.answers x ∙ sym (ap answers_in (p.others x ne))
   ];
   arrived = λ x. elim (cases_eq x r) [
-    | inl e ↦ arrived_more past m x ∙ ap (λ y. has_arrived past y || is_arrival y m) e ∙ arrives ∙ sym (ap is_some (put_here p x e))
-    | inr ne ↦ arrived_more past m x ∙ ap (λ b. has_arrived past x || b) (no_arrival x ne) ∙ or_false (has_arrived past x) ∙ h.arrived x ∙ sym (ap is_some (p.others x ne))
+    | inl e ↦ arrived_more past m x ∙ ap (λ y. has_arrived past y || is_arrival y m) e ∙ arrives ∙ sym (ap (λ y. not (is_away y)) (put_here p x e))
+    | inr ne ↦ arrived_more past m x ∙ ap (λ b. has_arrived past x || b) (no_arrival x ne) ∙ or-false (has_arrived past x) ∙ h.arrived x ∙ sym (ap (λ y. not (is_away y)) (p.others x ne))
   ];
   departed = λ x. elim (cases_eq x r) [
     | inl e ↦ departed_more past m x ∙ ap (λ y. has_departed past y || is_departure y m) e ∙ departs ∙ sym (ap is_departed (put_here p x e))
-    | inr ne ↦ departed_more past m x ∙ ap (λ b. has_departed past x || b) (no_departure x ne) ∙ or_false (has_departed past x) ∙ h.departed x ∙ sym (ap is_departed (p.others x ne))
+    | inr ne ↦ departed_more past m x ∙ ap (λ b. has_departed past x || b) (no_departure x ne) ∙ or-false (has_departed past x) ∙ h.departed x ∙ sym (ap is_departed (p.others x ne))
   ];
   waits = waits;
 }
 
-same_departed : (m n : Standings) (r : ℕ) (s : Standing) → Puts m n r s → is_departed (standing_in m r) ≡ is_departed (Some s) → (x : ℕ) → departed_in m x ≡ departed_in n x
-same_departed m n r s p h x = elim (cases_eq x r) [
-  | inl e ↦ ap (λ y. is_departed (standing_in m y)) e ∙ h ∙ sym (ap is_departed (put_here p x e))
+same_departed : (trace : List TraceEvent) (m n : List Standing) (r : ℕ) (s : Standing) → Puts trace m n r s → is_departed (standing_in trace m r) ≡ is_departed s → (x : ℕ) → departed_in trace m x ≡ departed_in trace n x
+same_departed trace m n r s p h x = elim (cases_eq x r) [
+  | inl e ↦ ap (λ y. is_departed (standing_in trace m y)) e ∙ h ∙ sym (ap is_departed (put_here p x e))
   | inr ne ↦ sym (ap is_departed (p.others x ne))
 ]
 
@@ -173,126 +197,161 @@ apart_arrival r x ne = not-true (nat_eq x r) (λ t. ne (eqb-true x r t))
 
 -- ---- after an arrival
 
-pub shows_arrival : (program : List Declaration) (trace : List TraceEvent) (past : List Moment) (scene : Scene) (stage : Stage) (r : ℕ) (stage' : Stage) → Shows trace past scene stage → is_some (standing_in stage.standings.by_id r) ≡ false → Puts stage.standings.by_id stage'.standings.by_id r (Open []) → stage'.registers ≡ stage.registers → stage'.waiting ≡ stage.waiting → Shows trace (past ++ Arrive r ∷ []) (after program trace scene (Arrive r)) stage'
-shows_arrival program trace past scene stage r stage' h new p registers waiting =
-    let same : is_departed (standing_in stage.standings.by_id r) ≡ false = not_there (standing_in stage.standings.by_id r) new in
-    shows_more trace past scene stage h (Arrive r) (after program trace scene (Arrive r)) stage' r (Open []) p
-    (λ o. h.objects o ∙ ap (λ g. objects_of g.values o) (sym registers))
+pub away_is : (s : Standing) → is_away s ≡ true → s ≡ Away
+away_is Away h = refl
+away_is (Open ds) h = cc
+away_is Departed h = cc
+
+pub shows_arrival : (program : Program) (trace : List TraceEvent) (past : List Moment) (scene : Scene) (k : Kept) (r : ℕ) (k' : Kept) → ShowsIn trace past scene k
+    → standing_in trace k.standings r ≡ Away → Puts trace k.standings k'.standings r (Open []) → k'.registers ≡ k.registers → k'.waiting ≡ k.waiting
+    → ShowsIn trace (past ++ Arrive r ∷ []) (after program trace scene (Arrive r)) k'
+shows_arrival program trace past scene k r k' h new p registers waiting =
+    let same : is_departed (standing_in trace k.standings r) ≡ false = ap is_departed new in
+    shows_more trace past scene k h (Arrive r) (after program trace scene (Arrive r)) k' r (Open []) p
+    (λ o. h.objects o ∙ ap (λ g. objects_of g o) (sym registers))
     (λ x. refl)
     (ap (λ b. has_arrived past r || b) (eq-eqb r r refl) ∙ or_true (has_arrived past r))
     (λ x ne. apart_arrival r x ne)
-    (or_false (has_departed past r) ∙ h.departed r ∙ same)
+    (or-false (has_departed past r) ∙ h.departed r ∙ same)
     (λ x ne. refl)
-    (waiting ∙ h.waits ∙ same_waiting (departed_in stage.standings.by_id) (departed_in stage'.standings.by_id) (same_departed stage.standings.by_id stage'.standings.by_id r (Open []) p same) trace)
-  where
-    not_there : (o : Option Standing) → is_some o ≡ false → is_departed o ≡ false
-    not_there None h = refl
-    not_there (Some s) h = cc
+    (waiting ∙ h.waits ∙ same_waiting (departed_in trace k.standings) (departed_in trace k'.standings) (same_departed trace k.standings k'.standings r (Open []) p same) trace)
 
 -- ---- after an operation
 
-pub open_is : (o : Option Standing) (ds : List Datum) → answers_in o ≡ Some ds → o ≡ Some (Open ds)
-open_is None ds h = cc
-open_is (Some (Open es)) ds h = let e : es ≡ ds = cc in ap (λ x. Some (Open x)) e
-open_is (Some Departed) ds h = cc
+pub open_is : (s : Standing) (ds : List Datum) → answers_in s ≡ Some ds → s ≡ Open ds
+open_is Away ds h = cc
+open_is (Open es) ds h = let e : es ≡ ds = cc in ap (λ x. Open x) e
+open_is Departed ds h = cc
 
-pub shows_act : (program : List Declaration) (trace : List TraceEvent) (past : List Moment) (scene : Scene) (stage : Stage) (r : ℕ) (choice : Choice) (op : Op) (ds : List Datum) (d : Datum) (stage' : Stage) → Shows trace past scene stage → next_of program trace scene r ≡ Some (Wants op) → answers_in (standing_in stage.standings.by_id r) ≡ Some ds → d ≡ (acted op.act choice (objects_of stage.registers.values op.object)).1 → ((o : Object) → objects_of stage'.registers.values o ≡ holding op.object (acted op.act choice (objects_of stage.registers.values op.object)).0 (objects_of stage.registers.values) o) → Puts stage.standings.by_id stage'.standings.by_id r (Open (ds ++ d ∷ [])) → stage'.waiting ≡ stage.waiting → Shows trace (past ++ Act r choice ∷ []) (after program trace scene (Act r choice)) stage'
-shows_act program trace past scene stage r choice op ds d stage' h next is_open answer done p waiting =
-    let at : standing_in stage.standings.by_id r ≡ Some (Open ds) = open_is (standing_in stage.standings.by_id r) ds is_open in
-    let same : is_departed (standing_in stage.standings.by_id r) ≡ false = ap is_departed at in
-    let S : Option Ending → Type 0 = λ e. Shows trace (past ++ Act r choice ∷ []) (after_act r choice e scene) stage' in
-    subst S (sym next) (shows_more trace past scene stage h (Act r choice) (after_act r choice (Some (Wants op)) scene) stage' r (Open (ds ++ d ∷ [])) p
+pub shows_act : (program : Program) (trace : List TraceEvent) (past : List Moment) (scene : Scene) (k : Kept) (r : ℕ) (choice : Choice) (op : Op) (ds : List Datum) (d : Datum) (k' : Kept) → ShowsIn trace past scene k
+    → next_of program trace scene r ≡ Some (Wants op) → answers_in (standing_in trace k.standings r) ≡ Some ds → Does op choice k.registers k'.registers d
+    → Puts trace k.standings k'.standings r (Open (ds ++ d ∷ [])) → k'.waiting ≡ k.waiting
+    → ShowsIn trace (past ++ Act r choice ∷ []) (after program trace scene (Act r choice)) k'
+shows_act program trace past scene k r choice op ds d k' h next is_open does p waiting =
+    let at : standing_in trace k.standings r ≡ Open ds = open_is (standing_in trace k.standings r) ds is_open in
+    let same : is_departed (standing_in trace k.standings r) ≡ false = ap is_departed at in
+    let S : Option Ending → Type 0 = λ e. ShowsIn trace (past ++ Act r choice ∷ []) (after_act r choice e scene) k' in
+    subst S (sym next) (shows_more trace past scene k h (Act r choice) (after_act r choice (Some (Wants op)) scene) k' r (Open (ds ++ d ∷ [])) p
     (λ o. ap (λ c. holding op.object (acted op.act choice c).0 scene.objects o) (h.objects op.object)
-    ∙ ap (λ c. cond (is_same op.object o) (acted op.act choice (objects_of stage.registers.values op.object)).0 c) (h.objects o)
-    ∙ sym (done o))
-    (λ x. ap (λ a. with_request r a scene.answers x) (ap (λ c. and_answer (scene.answers r) (acted op.act choice c).1) (h.objects op.object) ∙ ap (λ a. and_answer a (acted op.act choice (objects_of stage.registers.values op.object)).1) (h.answers r ∙ is_open) ∙ ap (λ y. Some (ds ++ y ∷ [])) (sym answer)))
-    (or_false (has_arrived past r) ∙ h.arrived r ∙ ap is_some at)
+    ∙ ap (λ c. cond (is_same op.object o) (acted op.act choice (objects_of k.registers op.object)).0 c) (h.objects o)
+    ∙ sym (does.left o))
+    (λ x. ap (λ a. with_request r a scene.answers x) (ap (λ c. and_answer (scene.answers r) (acted op.act choice c).1) (h.objects op.object) ∙ ap (λ a. and_answer a (acted op.act choice (objects_of k.registers op.object)).1) (h.answers r ∙ is_open) ∙ ap (λ y. Some (ds ++ y ∷ [])) (sym does.answered)))
+    (or-false (has_arrived past r) ∙ h.arrived r ∙ ap (λ s. not (is_away s)) at)
     (λ x ne. refl)
-    (or_false (has_departed past r) ∙ h.departed r ∙ same)
+    (or-false (has_departed past r) ∙ h.departed r ∙ same)
     (λ x ne. refl)
-    (waiting ∙ h.waits ∙ same_waiting (departed_in stage.standings.by_id) (departed_in stage'.standings.by_id) (same_departed stage.standings.by_id stage'.standings.by_id r (Open (ds ++ d ∷ [])) p same) trace))
+    (waiting ∙ h.waits ∙ same_waiting (departed_in trace k.standings) (departed_in trace k'.standings) (same_departed trace k.standings k'.standings r (Open (ds ++ d ∷ [])) p same) trace))
 
 -- ---- after a departure
 
-pub shows_departure : (program : List Declaration) (trace : List TraceEvent) (past : List Moment) (scene : Scene) (stage : Stage) (r : ℕ) (ds : List Datum) (stage' : Stage) → Shows trace past scene stage → answers_in (standing_in stage.standings.by_id r) ≡ Some ds → Puts stage.standings.by_id stage'.standings.by_id r Departed → stage'.registers ≡ stage.registers → stage'.waiting ≡ stage.waiting + first_waiting (departed_in stage'.standings.by_id) (drop stage.waiting trace) → Shows trace (past ++ Depart r ∷ []) (after program trace scene (Depart r)) stage'
-shows_departure program trace past scene stage r ds stage' h is_open p registers waiting =
-    let at : standing_in stage.standings.by_id r ≡ Some (Open ds) = open_is (standing_in stage.standings.by_id r) ds is_open in
-    shows_more trace past scene stage h (Depart r) (after program trace scene (Depart r)) stage' r Departed p
-    (λ o. h.objects o ∙ ap (λ g. objects_of g.values o) (sym registers))
+pub shows_departure : (program : Program) (trace : List TraceEvent) (past : List Moment) (scene : Scene) (k : Kept) (r : ℕ) (ds : List Datum) (k' : Kept) → ShowsIn trace past scene k
+    → answers_in (standing_in trace k.standings r) ≡ Some ds → Puts trace k.standings k'.standings r Departed → k'.registers ≡ k.registers
+    → k'.waiting ≡ k.waiting + first_waiting (departed_in trace k'.standings) (drop k.waiting trace)
+    → ShowsIn trace (past ++ Depart r ∷ []) (after program trace scene (Depart r)) k'
+shows_departure program trace past scene k r ds k' h is_open p registers waiting =
+    let at : standing_in trace k.standings r ≡ Open ds = open_is (standing_in trace k.standings r) ds is_open in
+    shows_more trace past scene k h (Depart r) (after program trace scene (Depart r)) k' r Departed p
+    (λ o. h.objects o ∙ ap (λ g. objects_of g o) (sym registers))
     (λ x. refl)
-    (or_false (has_arrived past r) ∙ h.arrived r ∙ ap is_some at)
+    (or-false (has_arrived past r) ∙ h.arrived r ∙ ap (λ s. not (is_away s)) at)
     (λ x ne. refl)
     (ap (λ b. has_departed past r || b) (eq-eqb r r refl) ∙ or_true (has_departed past r))
     (λ x ne. apart_arrival r x ne)
-    (waiting ∙ ap (λ w. w + first_waiting (departed_in stage'.standings.by_id) (drop w trace)) h.waits
-    ∙ sym (later_waiting (departed_in stage.standings.by_id) (departed_in stage'.standings.by_id) more trace))
+    (waiting ∙ ap (λ w. w + first_waiting (departed_in trace k'.standings) (drop w trace)) h.waits
+    ∙ sym (later_waiting (departed_in trace k.standings) (departed_in trace k'.standings) more trace))
   where
-    more : (x : ℕ) → departed_in stage.standings.by_id x ≡ true → departed_in stage'.standings.by_id x ≡ true
+    more : (x : ℕ) → departed_in trace k.standings x ≡ true → departed_in trace k'.standings x ≡ true
     more x t = elim (cases_eq x r) [
       | inl e ↦ ap is_departed (put_here p x e)
       | inr ne ↦ ap is_departed (p.others x ne) ∙ t
     ]
 
--- ---- answers that were wanted
+-- ---- runs that go on or end
 
-pub reached_more : (program : List Declaration) (trace : List TraceEvent) (m n : Standings) (r : ℕ) (s : Standing) → AreReached program trace m → Puts m n r s → ((q : Request) (ds : List Datum) → request_of trace r ≡ Some q → answers_in (Some s) ≡ Some ds → IsReached program q ds) → AreReached program trace n
-reached_more program trace m n r s h p here x q ds known open_ = elim (cases_eq x r) [
+pub defined_more : (program : Program) (trace : List TraceEvent) (m n : List Standing) (r : ℕ) (s : Standing) → AreDefined program trace m → Puts trace m n r s
+    → ((q : Request) (ds : List Datum) → request_of trace r ≡ Some q → answers_in s ≡ Some ds → ending_of program q ds ≢ Undefined) → AreDefined program trace n
+defined_more program trace m n r s h p here x q ds known open_ = elim (cases_eq x r) [
   | inl e ↦ here q ds (ap (request_of trace) (sym e) ∙ known) (ap answers_in (sym (put_here p x e)) ∙ open_)
   | inr ne ↦ h x q ds known (ap answers_in (sym (p.others x ne)) ∙ open_)
 ]
 
+-- a run without answers goes on or ends
+pub begun_defined : (program : Program) → IsBuilt program → (q : Request) (ds : List Datum) → answers_in (Open []) ≡ Some ds → ending_of program q ds ≢ Undefined
+unfolding ending_of
+begun_defined program built q ds is_open =
+    let none : [] ≡ ds = cc in
+    subst (λ (es : List Datum). (conduct program q es).ending ≢ Undefined) none (defined_first program q built.straight)
+
+-- so does one with an answer to the operation that it wanted
+pub answered_defined : (program : Program) → IsBuilt program → (q : Request) (ds : List Datum) (d : Datum) (op : Op) → ending_of program q ds ≡ Wants op → (es : List Datum) → answers_in (Open (ds ++ d ∷ [])) ≡ Some es → ending_of program q es ≢ Undefined
+unfolding ending_of
+answered_defined program built q ds d op wanted es is_open =
+    let all : ds ++ d ∷ [] ≡ es = cc in
+    subst (λ (xs : List Datum). (conduct program q xs).ending ≢ Undefined) all (wanted_next program q built.straight ds d op wanted).1
+
 -- ---- what a request does next
 
 -- a request that does something is one of the trace, and open
-pub opened : (program : List Declaration) (oq : Option Request) (oa : Option (List Datum)) (e : Ending) → ending_with program oq oa ≡ Some e → (q : Request) × (ds : List Datum) × (oq ≡ Some q) × (oa ≡ Some ds) × (ending_of program q ds ≡ e)
+pub opened : (program : Program) (oq : Option Request) (oa : Option (List Datum)) (e : Ending) → ending_with program oq oa ≡ Some e → (q : Request) × (ds : List Datum) × (oq ≡ Some q) × (oa ≡ Some ds) × (ending_of program q ds ≡ e)
 opened program (Some q) (Some ds) e h = (q, ds, refl, refl, (let k : ending_of program q ds ≡ e = cc in k))
 opened program (Some q) None e h = absurd (cc)
 opened program None oa e h = absurd (cc)
 
 -- an operation that is wanted on a register, with a choice that it takes
-pub act_told : (program : List Declaration) (trace : List TraceEvent) (scene : Scene) (r : ℕ) (choice : Choice) (op : Op) (b : Bool) → next_of program trace scene r ≡ Some (Wants op) → plausible op.act choice (scene.objects op.object) ≡ b → act_fault scene choice (next_of program trace scene r) ≡ cond b None (Some BadChoice)
+pub act_told : (program : Program) (trace : List TraceEvent) (scene : Scene) (r : ℕ) (choice : Choice) (op : Op) (b : Bool) → next_of program trace scene r ≡ Some (Wants op) → plausible op.act choice (scene.objects op.object) ≡ b → act_fault scene choice (next_of program trace scene r) ≡ cond b None (Some BadChoice)
 act_told program trace scene r choice op b next p = ap (act_fault scene choice) next ∙ ap (λ x. cond x None (Some BadChoice)) p
 
-pub departure_told : (program : List Declaration) (trace : List TraceEvent) (scene : Scene) (r : ℕ) (response : Response) (path : Path) (b : Bool) → next_of program trace scene r ≡ Some (Ends response path) → is_same_response response (response_of trace r) ≡ b → departure_fault (response_of trace r) (next_of program trace scene r) ≡ cond b None (Some OtherResponse)
+pub departure_told : (program : Program) (trace : List TraceEvent) (scene : Scene) (r : ℕ) (response : Response) (path : Path) (b : Bool) → next_of program trace scene r ≡ Some (Ends response path) → is_same_response response (response_of trace r) ≡ b → departure_fault (response_of trace r) (next_of program trace scene r) ≡ cond b None (Some OtherResponse)
 departure_told program trace scene r response path b next p = ap (departure_fault (response_of trace r)) next ∙ ap (λ x. cond x None (Some OtherResponse)) p
 
 -- ---- before the first moment
 
-pub shows_opening : (trace : List TraceEvent) (stage : Stage) → stage.standings.by_id.entries ≡ [] → stage.waiting ≡ first_waiting (departed_in stage.standings.by_id) trace → Shows trace [] (opening (objects_of stage.registers.values)) stage
+pub away_all : (trace : List TraceEvent) (ss : List Standing) → ((k : ℕ) → get_or ss k Away ≡ Away) → (r : ℕ) → standing_in trace ss r ≡ Away
+away_all trace ss away r = at (request_place trace r)
+  where
+    at : (o : Option ℕ) → standing_at ss o ≡ Away
+    at None = refl
+    at (Some p) = away p
+
+pub shows_opening : (trace : List TraceEvent) (k : Kept) → ((r : ℕ) → standing_in trace k.standings r ≡ Away) → k.waiting ≡ first_waiting (departed_in trace k.standings) trace → ShowsIn trace [] (opening (objects_of k.registers)) k
 unfolding has_arrived has_departed
-shows_opening trace stage none waits =
-    let nobody : (r : ℕ) → standing_in stage.standings.by_id r ≡ None = λ r. ap (lookup (is_at (nat_cmp r))) none in
-    record {
-      objects = λ o. refl;
-      answers = λ r. sym (ap answers_in (nobody r));
-      arrived = λ r. sym (ap is_some (nobody r));
-      departed = λ r. sym (ap is_departed (nobody r));
-      waits = waits;
-    }
+shows_opening trace k away waits = record {
+  objects = λ o. refl;
+  answers = λ r. sym (ap answers_in (away r));
+  arrived = λ r. sym (ap (λ s. not (is_away s)) (away r));
+  departed = λ r. sym (ap is_departed (away r));
+  waits = waits;
+}
+
+pub none_defined : (program : Program) (trace : List TraceEvent) (ss : List Standing) → ((r : ℕ) → standing_in trace ss r ≡ Away) → AreDefined program trace ss
+none_defined program trace ss away r q ds known is_open = absurd (let n : None ≡ Some ds = sym (ap answers_in (away r)) ∙ is_open in cc)
 
 -- ---- a moment of a request that is known, or not
 
-pub none_told : (o : Option (Bor Request)) (q : Option Request) (b : Bool) → is_some o ≡ not b → option_copied o ≡ q → is_none q ≡ b
-none_told None q true h e = ap is_none (sym e)
-none_told None q false h e = absurd (cc)
-none_told (Some x) q true h e = absurd (cc)
-none_told (Some x) q false h e = ap is_none (sym e)
-
-pub fault_where : (program : List Declaration) (trace : List TraceEvent) (past : List Moment) (scene : Scene) (m : Moment) (b : Bool) → is_none (request_of trace (rid_of m)) ≡ b → fault_of program trace past scene m ≡ cond b (Some UnknownRequest) (moment_fault program trace past scene m)
+pub fault_where : (program : Program) (trace : List TraceEvent) (past : List Moment) (scene : Scene) (m : Moment) (b : Bool) → is_none (request_of trace (rid_of m)) ≡ b → fault_of program trace past scene m ≡ cond b (Some UnknownRequest) (moment_fault program trace past scene m)
 unfolding fault_of
 fault_where program trace past scene m b e = ap (λ x. cond x (Some UnknownRequest) (moment_fault program trace past scene m)) e
 
-pub steps_known : (program : List Declaration) (trace : List TraceEvent) (old new : Stage) (m : Moment) (r : Result (Option Reason) AllocError) → is_none (request_of trace (rid_of m)) ≡ false → IfOk r (λ reason. (past : List Moment) (scene : Scene) → Shows trace past scene old → IsStep program trace past scene m (moment_fault program trace past scene m) reason new) → IfOk r (λ reason. (past : List Moment) (scene : Scene) → Shows trace past scene old → IsStep program trace past scene m (fault_of program trace past scene m) reason new)
-steps_known program trace old new m (Ok reason) e f = λ past scene h. record { told = fault_where program trace past scene m false e ∙ (f past scene h).told; shown = (f past scene h).shown }
-steps_known program trace old new m (Err e') e f = tt
+-- a moment of a request that the trace lacks
+pub unknown_fault : (program : Program) (trace : List TraceEvent) (past : List Moment) (scene : Scene) (m : Moment) → request_place trace (rid_of m) ≡ None → fault_of program trace past scene m ≡ Some UnknownRequest
+unknown_fault program trace past scene m h = fault_where program trace past scene m true (ap is_none (request_absent (rid_of m) trace h))
+
+-- and of one that stands at a place
+pub known_step : (old new : Stage) (m : Moment) (place : ℕ) (reason : Option Reason) → request_place old.trace (rid_of m) ≡ Some place
+    → ((past : List Moment) (scene : Scene) → Shows past scene old → IsStep past scene m (moment_fault old.program.now old.trace past scene m) reason old new) → Steps m reason old new
+known_step old new m place reason here step past scene h =
+    let there = request_here (rid_of m) old.trace place here in
+    let known : request_of old.trace (rid_of m) ≡ Some there.0 = sym (request_found (rid_of m) old.trace place here) ∙ ap (option_and_then the_request) there.1 in
+    let s = step past scene h in
+    record { told = fault_where old.program.now old.trace past scene m false (ap is_none known) ∙ s.told; shown = s.shown }
 
 -- ---- the first difference
 
-pub goes_on : (program : List Declaration) (trace : List TraceEvent) (past : List Moment) (scene : Scene) (m : Moment) (ms : List Moment) → fault_of program trace past scene m ≡ None → difference_from program trace past scene (m ∷ ms) ≡ difference_from program trace (past ++ m ∷ []) (after program trace scene m) ms
+pub goes_on : (program : Program) (trace : List TraceEvent) (past : List Moment) (scene : Scene) (m : Moment) (ms : List Moment) → fault_of program trace past scene m ≡ None → difference_from program trace past scene (m ∷ ms) ≡ difference_from program trace (past ++ m ∷ []) (after program trace scene m) ms
 unfolding difference_from
 goes_on program trace past scene m ms e = rw (e, difference_from) refl
 
-pub stops_here : (program : List Declaration) (trace : List TraceEvent) (past : List Moment) (scene : Scene) (m : Moment) (ms : List Moment) (reason : Reason) → fault_of program trace past scene m ≡ Some reason → difference_from program trace past scene (m ∷ ms) ≡ Some (AtMoment reason (length past) (rid_of m))
+pub stops_here : (program : Program) (trace : List TraceEvent) (past : List Moment) (scene : Scene) (m : Moment) (ms : List Moment) (reason : Reason) → fault_of program trace past scene m ≡ Some reason → difference_from program trace past scene (m ∷ ms) ≡ Some (AtMoment reason (length past) (rid_of m))
 unfolding difference_from
 stops_here program trace past scene m ms reason e = rw (e, difference_from) refl
 
@@ -301,6 +360,6 @@ left_over past d h [] = refl
 left_over past d h (Asked id q ∷ es) = ap (λ b. cond b (first_not_departed (has_departed past) es) (Some (LeftOpen id))) (h id) ∙ ap (λ o. cond (d id) o (Some (LeftOpen id))) (left_over past d h es)
 left_over past d h (Answered id x ∷ es) = left_over past d h es
 
-pub ends_here : (program : List Declaration) (trace : List TraceEvent) (past : List Moment) (scene : Scene) (d : ℕ → Bool) → ((x : ℕ) → has_departed past x ≡ d x) → difference_from program trace past scene [] ≡ first_not_departed d trace
+pub ends_here : (program : Program) (trace : List TraceEvent) (past : List Moment) (scene : Scene) (d : ℕ → Bool) → ((x : ℕ) → has_departed past x ≡ d x) → difference_from program trace past scene [] ≡ first_not_departed d trace
 unfolding difference_from
 ends_here program trace past scene d h = left_over past d h trace

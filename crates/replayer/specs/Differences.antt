@@ -8,10 +8,10 @@ use Rattle.script_tree.specs.declared.operation.Choice.{Choice}
 use Rattle.script_tree.specs.declared.request.Response.{Response}
 use Rattle.script_tree.specs.declared.schedule.Moment.{Moment}
 use Rattle.script_tree.specs.declared.schedule.Moment.TheVariants.{Arrive, Act, Depart}
-use Rattle.script_tree.specs.declared.syntax.declaration.Declaration.{Declaration}
+use Rattle.script_tree.specs.Programs.{Program}
 use Rattle.script_tree.specs.declared.trace.TraceEvent.{TraceEvent}
 use Rattle.script_tree.specs.declared.trace.TraceEvent.TheVariants.{Asked, Answered}
-use Rattle.script_meaning.specs.Conduct.{Ending, Wants, Ends}
+use Rattle.script_meaning.specs.Conduct.{Ending, Wants, Ends, Undefined}
 use Rattle.script_meaning.specs.Explains.{rid_of}
 use Rattle.script_meaning.specs.Replay.{Scene, opening, next_of, after}
 use Rattle.replayer.specs.declared.reason.Reason.{Reason}
@@ -40,11 +40,13 @@ replay_number (LeftOpen rid) = 10
 
 abbrev pub is_arrival : ℕ → Moment → Bool
 is_arrival r (Arrive id) = nat_eq r id
-is_arrival r m = false
+is_arrival r (Act id choice) = false
+is_arrival r (Depart id) = false
 
 abbrev pub is_departure : ℕ → Moment → Bool
+is_departure r (Arrive id) = false
+is_departure r (Act id choice) = false
 is_departure r (Depart id) = nat_eq r id
-is_departure r m = false
 
 unfoldable pub has_arrived : List Moment → ℕ → Bool
 has_arrived past r = list_any (is_arrival r) past
@@ -71,25 +73,32 @@ arrival_fault trace past r = if has_arrived past r then Some SecondArrival else 
 abbrev pub act_fault : Scene → Choice → Option Ending → Option Reason
 act_fault scene choice None = Some NotOpen
 act_fault scene choice (Some (Wants op)) = if plausible op.act choice (scene.objects op.object) then None else Some BadChoice
-act_fault scene choice (Some ending) = Some RunEnds
+act_fault scene choice (Some (Ends response path)) = Some RunEnds
+act_fault scene choice (Some Undefined) = Some RunEnds
 
 -- and whether it may depart
 abbrev pub departure_fault : Option Response → Option Ending → Option Reason
 departure_fault traced None = Some NotOpen
 departure_fault traced (Some (Ends response path)) = if is_same_response response traced then None else Some OtherResponse
-departure_fault traced (Some ending) = Some WantsOperation
+departure_fault traced (Some (Wants op)) = Some WantsOperation
+departure_fault traced (Some Undefined) = Some WantsOperation
 
-abbrev pub moment_fault : List Declaration → List TraceEvent → List Moment → Scene → Moment → Option Reason
+abbrev pub moment_fault : Program → List TraceEvent → List Moment → Scene → Moment → Option Reason
 moment_fault program trace past scene (Arrive r) = arrival_fault trace past r
 moment_fault program trace past scene (Act r choice) = act_fault scene choice (next_of program trace scene r)
 moment_fault program trace past scene (Depart r) = departure_fault (response_of trace r) (next_of program trace scene r)
 
 -- a moment of an unknown request fails before all else
-unfoldable pub fault_of : List Declaration → List TraceEvent → List Moment → Scene → Moment → Option Reason
+unfoldable pub fault_of : Program → List TraceEvent → List Moment → Scene → Moment → Option Reason
 fault_of program trace past scene m =
     if is_none (request_of trace (rid_of m)) then Some UnknownRequest else moment_fault program trace past scene m
 
 -- ---- the first that fails
+
+-- a request that hasn't departed
+abbrev pub left_open : (ℕ → Bool) → TraceEvent → Option ReplayReason
+left_open departed (Asked id q) = if departed id then None else Some (LeftOpen id)
+left_open departed (Answered id x) = None
 
 -- the first request of the trace that hasn't departed
 abbrev pub first_not_departed : (ℕ → Bool) → List TraceEvent → Option ReplayReason
@@ -98,7 +107,7 @@ first_not_departed departed (Asked id q ∷ events) = if departed id then first_
 first_not_departed departed (Answered id x ∷ events) = first_not_departed departed events
 
 -- the first of these moments that fails, where those so far led to this scene; after the last, a request that hasn't departed
-unfoldable pub difference_from : List Declaration → List TraceEvent → List Moment → Scene → List Moment → Option ReplayReason
+unfoldable pub difference_from : Program → List TraceEvent → List Moment → Scene → List Moment → Option ReplayReason
 difference_from program trace past scene [] = first_not_departed (has_departed past) trace
 difference_from program trace past scene (m ∷ ms) = elim (fault_of program trace past scene m) [
   | Some reason ↦ Some (AtMoment reason (length past) (rid_of m))
@@ -106,7 +115,7 @@ difference_from program trace past scene (m ∷ ms) = elim (fault_of program tra
 ]
 
 -- where a schedule first differs from a trace, if it does
-abbrev pub difference_of : List Declaration → Objects → List TraceEvent → List Moment → Option ReplayReason
+abbrev pub difference_of : Program → Objects → List TraceEvent → List Moment → Option ReplayReason
 difference_of program start trace schedule = difference_from program trace [] (opening start) schedule
 
 abbrev pub verdict : Option ReplayReason → Replayed
@@ -114,6 +123,6 @@ verdict None = Agrees
 verdict (Some reason) = Differs reason
 
 -- what a replay finds of a schedule, or of a file that is none from a byte on
-abbrev pub replayed : List Declaration → Objects → List TraceEvent → Result (List Moment) ℕ → Replayed
+abbrev pub replayed : Program → Objects → List TraceEvent → Result (List Moment) ℕ → Replayed
 replayed program start trace (Ok schedule) = verdict (difference_of program start trace schedule)
 replayed program start trace (Err at) = Differs (Unreadable at)

@@ -1,7 +1,9 @@
+pub mod Changes
 pub mod Differences
+pub mod IndexedTraces
 pub mod Laws
 pub mod OnRegisters
 pub mod Places
 pub mod Runners
 pub mod Stages
-pub mod StandingWords
+pub mod Standings

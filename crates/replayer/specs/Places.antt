@@ -1,5 +1,5 @@
 -- Where the requests and the responses of a trace stand.
-use Rattle.std.specs.Prelude.{◌≡◌, ℕ, suc, Bool, false, List, [], ◌∷◌, Option, Some, None, nat_eq, if◌then◌else◌}
+use Rattle.std.specs.Prelude.{◌≡◌, ℕ, suc, ◌<◌, Bool, false, List, [], ◌∷◌, length, Option, Some, None, nat_eq, if◌then◌else◌}
 use Rattle.std.specs.BTreeMap.{BTreeMap, get}
 use Rattle.std.specs.List.{slice_get}
 use Rattle.std.specs.Option.{option_and_then}
@@ -21,6 +21,24 @@ is_response r (Answered id x) = nat_eq r id
 abbrev pub first_place : (TraceEvent → Bool) → ℕ → List TraceEvent → Option ℕ
 first_place test i [] = None
 first_place test i (e ∷ es) = if test e then Some i else first_place test (suc i) es
+
+-- the place of the request, and of the response, of an id
+abbrev pub request_place : List TraceEvent → ℕ → Option ℕ
+request_place es r = first_place (is_request r) 0 es
+
+abbrev pub response_place : List TraceEvent → ℕ → Option ℕ
+response_place es r = first_place (is_response r) 0 es
+
+-- A request stands here, the first of its id.
+pub record IsRequestPlace (es : List TraceEvent) (place : ℕ) : Type 0 where
+  pub rid : ℕ
+  pub stands : request_place es rid ≡ Some place
+  pub within : place < length es
+
+-- the place of a request's response, and of a response's request
+abbrev pub partner_place : List TraceEvent → TraceEvent → Option ℕ
+partner_place es (Asked id q) = response_place es id
+partner_place es (Answered id x) = request_place es id
 
 -- The map has the place of each id's request, or response, among these events.
 abbrev pub TellsRequests : BTreeMap ℕ ℕ → ℕ → List TraceEvent → Type 0

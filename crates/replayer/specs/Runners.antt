@@ -1,20 +1,10 @@
 -- What a request does next, as it is told.
-use Rattle.std.specs.Prelude.{◌≡◌, List, [], ◌∷◌, ◌++◌, Option, Some, None}
-use Rattle.script_tree.specs.Datum.{Datum}
-use Rattle.script_tree.specs.Requests.{Request}
-use Rattle.script_tree.specs.declared.operation.Op.{Op}
+use Rattle.std.specs.Prelude.{◌≡◌, Option, Some, None}
 use Rattle.script_tree.specs.declared.path.Path.{Path}
-use Rattle.script_tree.specs.declared.syntax.declaration.Declaration.{Declaration}
 use Rattle.script_meaning.specs.Conduct.{Ending, Wants, Ends}
-use Rattle.script_meaning.specs.Replay.{ending_of}
 use Rattle.replayer.specs.OnRegisters.{IsOnRegister}
 use Rattle.replayer.specs.declared.runner.Next.{Next}
 use Rattle.replayer.specs.declared.runner.Next.TheVariants as told
-
--- There are no answers yet, or the last one was given to an operation that the request wanted.
-pub data IsReached (program : List Declaration) (request : Request) : List Datum → Type 0 where
-  begun : IsReached program request []
-  answered : (ds : List Datum) (d : Datum) (op : Op) → ending_of program request ds ≡ Wants op → IsReached program request (ds ++ d ∷ [])
 
 -- An ending as it is told. An operation that is wanted is one on a register.
 abbrev pub IsNext : Next → Ending → Type 0

@@ -1,76 +1,135 @@
-ghost use Rattle.std.specs.Prelude.{◌≡◌, IfOk, option_copied};
-ghost use Rattle.std.specs.BTreeMap.{get};
-ghost use Rattle.std.specs.Ordering.{nat_cmp};
+ghost use Rattle.std.specs.Prelude.{◌≡◌, ◌<◌, ℕ, List, Some, IfOk, IfSome, length, map};
+ghost use Rattle.std.specs.Prelude.{option_copied, slice_get};
 ghost use Rattle.script_tree.specs.Traces.{request_of, response_of};
-ghost use Rattle.replayer.specs.Places.{TellsRequests, TellsResponses, first_place, is_request, request_at, response_at};
+ghost use Rattle.script_tree.specs.declared.trace.TraceEvent.{TraceEvent as AnyEvent};
+ghost use Rattle.replayer.specs.Places.{TellsRequests, TellsResponses, partner_place};
+ghost use Rattle.replayer.specs.Places.{request_place, request_at, response_at};
+ghost use Rattle.std.specs.Option.{option_and_then};
 
 use script_tree::request::{Request, Response};
 use script_tree::trace::TraceEvent;
 use std::alloc::{AllocError, Global};
 use std::collections::BTreeMap;
+use std::marker::Model;
 
-/// A trace, in which requests and responses are found by their ids.
+/// A trace, in which a request is found by its id, and a response and its request by one another.
+/// Contracts see its events.
 #[derive(Drop)]
 pub struct IndexedTrace<'a> {
     events: &'a [TraceEvent],
     /// The places of the requests, by id.
-    requests: BTreeMap<u32, usize>,
-    /// The places of the responses, by id.
-    responses: BTreeMap<u32, usize>,
-    ghost requests_told: { TellsRequests requests 0 events.now },
-    ghost responses_told: { TellsResponses responses 0 events.now },
+    places: BTreeMap<u32, usize>,
+    /// The place of each event's partner: of a request its response, of a response its request.
+    partners: Vec<Option<usize>>,
+}
+
+impl<'a> Model for IndexedTrace<'a> {
+    ghost use Rattle.std.specs.Prelude.{List};
+    ghost use Rattle.std.specs.Coded.{coded_list};
+    ghost use Rattle.script_tree.specs.declared.trace.TraceEvent.{TraceEvent};
+    ghost use Rattle.script_tree.specs.contracts.trace.TraceEvent as item;
+
+    ghost Value = { List TraceEvent };
+
+    ghost coded = { coded_list item.the_row.coded };
+
+    ghost use Rattle.replayer.specs.IndexedTraces.{events_of, IsIndexed};
+
+    ghost view = { events_of };
+
+    ghost invariant = { IsIndexed };
 }
 
 impl<'a> IndexedTrace<'a> {
     pub fn new(alloc: Global, events: &'a [TraceEvent]) -> Result<IndexedTrace<'a>, AllocError>
-        ensures { IfOk result (λ trace. trace.events.now ≡ events.now) }
+        ensures { IfOk result (λ trace. trace ≡ events.now) }
     {
-        let mut requests = BTreeMap::new(alloc);
+        let mut places = BTreeMap::new(alloc);
         let mut responses = BTreeMap::new(alloc);
         for place in (0..events.len()).rev() {
             match &events[place] {
                 TraceEvent::Asked(id, _) => {
-                    requests.insert(*id, place)?;
+                    places.insert(*id, place)?;
                 }
                 TraceEvent::Answered(id, _) => {
                     responses.insert(*id, place)?;
                 }
             }
         }
+        let partners = partners_of(alloc, events, &places, &responses)?;
         Ok(IndexedTrace {
             events,
-            requests,
-            responses,
+            places,
+            partners,
         })
     }
 
     pub fn events(&self) -> &'a [TraceEvent]
-        ensures { result.now ≡ self.now.events.now }
+        ensures { result.now ≡ self.now }
     {
         self.events
     }
 
     /// Where the request of an id stands.
-    pub fn place(&self, id: u32) -> Option<usize>
-        ensures { result ≡ first_place (is_request id) 0 self.now.events.now }
+    pub fn place(&self, rid: u32) -> Option<usize>
+        ensures place { result ≡ request_place self.now rid }
+        ensures within { IfSome result (λ place. place < length self.now) }
     {
-        self.requests.get(&id).copied()
+        self.places.get(&rid).copied()
     }
 
-    /// The request of an id.
-    pub fn request(&self, id: u32) -> Option<&'a Request>
-        ensures { option_copied result ≡ request_of self.now.events.now id }
+    /// The request that stands here.
+    pub fn request(&self, place: usize) -> Option<&'a Request>
+        ensures { (r : ℕ) → request_place self.now r ≡ Some place → option_copied result ≡ request_of self.now r }
     {
-        let place = *self.requests.get(&id)?;
         request_at(self.events, place)
     }
 
-    /// The response of an id.
-    pub fn response(&self, id: u32) -> Option<&'a Response>
-        ensures { option_copied result ≡ response_of self.now.events.now id }
+    /// The response of the request that stands here.
+    pub fn response(&self, place: usize) -> Option<&'a Response>
+        ensures { (r : ℕ) → request_place self.now r ≡ Some place → option_copied result ≡ response_of self.now r }
     {
-        let place = *self.responses.get(&id)?;
-        response_at(self.events, place)
+        response_at(self.events, self.partner(place)?)
+    }
+
+    /// Where the partner of the event stands that stands here.
+    pub fn partner(&self, place: usize) -> Option<usize>
+        ensures { result ≡ option_and_then (partner_place self.now) (slice_get self.now place) }
+    {
+        *self.partners.get(place)?
+    }
+}
+
+/// The place of each event's partner.
+fn partners_of(
+    alloc: Global,
+    events: &[TraceEvent],
+    requests: &BTreeMap<u32, usize>,
+    responses: &BTreeMap<u32, usize>,
+) -> Result<Vec<Option<usize>>, AllocError>
+    requires requests { TellsRequests requests.now 0 events.now }
+    requires responses { TellsResponses responses.now 0 events.now }
+    ensures { IfOk result (λ ps. ps.items ≡ map (partner_place events.now) events.now) }
+{
+    let mut partners = Vec::with_capacity(alloc, events.len())?;
+    for event in events {
+        partners.push(partner_of(event, requests, responses))?;
+    }
+    Ok(partners)
+}
+
+/// The place of the event's partner.
+fn partner_of(
+    event: &TraceEvent,
+    requests: &BTreeMap<u32, usize>,
+    responses: &BTreeMap<u32, usize>,
+) -> Option<usize>
+    ensures { (es : List AnyEvent) → TellsRequests requests.now 0 es → TellsResponses responses.now 0 es
+        → result ≡ partner_place es event.now }
+{
+    match event {
+        TraceEvent::Asked(rid, _) => responses.get(rid).copied(),
+        TraceEvent::Answered(rid, _) => requests.get(rid).copied(),
     }
 }
 

@@ -1,5 +1,5 @@
 use crate::runner::{Next, Runner};
-use script_meaning::walker::{Walker, WalkerStep};
+use walker::{Walker, WalkerStep};
 use script_tree::request::Request;
 use script_tree::syntax::program::Program;
 use script_tree::value::Value;

@@ -1,9 +1,7 @@
-ghost use Rattle.std.specs.Prelude.{◌≡◌, ◌↔◌, IfOk, ◌<◌, ◌^◌, length};
-ghost use Rattle.std.specs.Result.{result_map_both};
-ghost use Rattle.script_tree.specs.StraightLine.{IsStraightLine};
+ghost use Rattle.std.specs.Prelude.{◌≡◌, ◌↔◌, IfOk};
 ghost use Rattle.script_tree.specs.Traces.{IsBalanced};
 ghost use Rattle.replayer.specs.Differences.{difference_of, replayed};
-ghost use Rattle.replayer.specs.Laws.{ExplainsIfRead};
+ghost use Rattle.replayer.specs.Laws.{ExplainsIfRead, schedule_read};
 ghost use Rattle.replayer.specs.OnRegisters.{objects_of};
 ghost use Rattle.replayer.specs.declared.reason.Replayed.TheVariants.{Agrees};
 
@@ -19,8 +17,8 @@ use script_tree::syntax::program::Program;
 use script_tree::trace::Trace;
 use std::alloc::{AllocError, Global};
 
-/// Where the schedule first differs from the trace, if it does, from what these registers hold. Requests
-/// are run by the runner.
+/// Where the schedule first differs from the trace, if it does, from what these registers hold.
+/// Requests are run by the runner.
 pub fn replay_by<R: Runner>(
     alloc: Global,
     runner: &R,
@@ -29,16 +27,15 @@ pub fn replay_by<R: Runner>(
     trace: &Trace,
     schedule: &Schedule,
 ) -> Result<Option<ReplayReason>, AllocError>
-    requires straight { IsStraightLine program.now }
-    requires few { length program.now < 2 ^ 32 }
-    ensures { IfOk result (λ d. d ≡ difference_of program.now (objects_of start.values) trace.now schedule.now) }
+    ensures { let objects = objects_of start in
+        IfOk result (λ d. d ≡ difference_of program.now objects trace.now schedule.now) }
 {
     let events = IndexedTrace::new(alloc, trace.as_slice())?;
+    let mut stage = Stage::new(alloc, program, start, events)?;
     let moments = schedule.as_slice();
-    let mut stage = Stage::new(alloc, start, &events);
     for place in 0..moments.len() {
         let moment = moments[place];
-        if let Some(reason) = stage.step(alloc, runner, program, &events, moment)? {
+        if let Some(reason) = stage.step(alloc, runner, moment)? {
             return Ok(Some(ReplayReason::AtMoment {
                 reason,
                 moment: place as u64,
@@ -46,11 +43,11 @@ pub fn replay_by<R: Runner>(
             }));
         }
     }
-    Ok(stage.first_not_departed(&events))
+    Ok(stage.first_not_departed())
 }
 
-/// Replays a schedule against a trace, moment by moment, from what these registers hold; the offset of its
-/// first bad record stands for a schedule that can't be read.
+/// Replays a schedule against a trace, moment by moment, from what these registers hold; the offset
+/// of its first bad record stands for a schedule that can't be read.
 pub fn replay(
     alloc: Global,
     program: &Program,
@@ -58,11 +55,11 @@ pub fn replay(
     trace: &Trace,
     schedule: Result<&Schedule, u64>,
 ) -> Result<Replayed, AllocError>
-    requires straight { IsStraightLine program.now }
-    requires few { length program.now < 2 ^ 32 }
     requires balanced { IsBalanced trace.now }
-    ensures replayed { IfOk result (λ r. r ≡ replayed program.now (objects_of start.values) trace.now (result_map_both (λ s. s.now) (λ at. at) schedule.entry)) }
-    ensures agrees { IfOk result (λ r. (r ≡ Agrees) ↔ ExplainsIfRead program.now (objects_of start.values) trace.now (result_map_both (λ s. s.now) (λ at. at) schedule.entry)) }
+    ensures replayed { let read = schedule_read schedule.entry in
+        IfOk result (λ r. r ≡ replayed program.now (objects_of start) trace.now read) }
+    ensures agrees { let read = schedule_read schedule.entry in
+        IfOk result (λ r. (r ≡ Agrees) ↔ ExplainsIfRead program.now (objects_of start) trace.now read) }
 {
     agreement();
     let schedule = match schedule {

@@ -1,7 +1,7 @@
-ghost use Rattle.std.specs.Prelude.{IfOk, ◌<◌, ◌^◌, length};
-ghost use Rattle.script_tree.specs.StraightLine.{IsStraightLine};
+ghost use Rattle.std.specs.Prelude.{◌≢◌, IfOk};
+ghost use Rattle.script_meaning.specs.Conduct.{Undefined};
 ghost use Rattle.script_meaning.specs.Replay.{ending_of};
-ghost use Rattle.replayer.specs.Runners.{IsReached, IsNext};
+ghost use Rattle.replayer.specs.Runners.{IsNext};
 
 use script_tree::operation::Op;
 use script_tree::request::{Request, Response};
@@ -28,8 +28,6 @@ pub trait Runner {
         request: &Request,
         answers: &[Value],
     ) -> Result<Next, AllocError>
-        requires straight { IsStraightLine program.now }
-        requires few { length program.now < 2 ^ 32 }
-        requires reached { IsReached program.now request.now answers.now }
+        requires { ending_of program.now request.now answers.now ≢ Undefined }
         ensures { IfOk result (λ next. IsNext next (ending_of program.now request.now answers.now)) };
 }

@@ -1,50 +1,61 @@
-ghost use Rattle.std.specs.Prelude.{◌≡◌, ℕ, List, [], ◌∷◌, ◌++◌, Option, None, IfOk, option_copied, ◌<◌, ◌^◌, length};
-ghost use Rattle.script_tree.specs.StraightLine.{IsStraightLine};
-ghost use Rattle.script_tree.specs.Traces.{request_of};
-ghost use Rattle.script_tree.specs.declared.schedule.Moment.{Moment as AnyMoment};
-ghost use Rattle.script_tree.specs.declared.syntax.declaration.Declaration.{Declaration};
+ghost use Rattle.std.specs.Prelude.{◌≡◌, vec_len, length, option_copied};
+ghost use Rattle.script_tree.specs.Programs.{IsBuilt};
 ghost use Rattle.script_meaning.specs.Explains.{rid_of};
-ghost use Rattle.script_meaning.specs.Replay.{Scene, opening, ending_with};
-ghost use Rattle.replayer.specs.Differences.{is_too_early, is_same_response, moment_fault, fault_of, first_not_departed};
-ghost use Rattle.replayer.specs.Runners.{IsNextIfOpen};
-ghost use Rattle.replayer.specs.Stages.{Shows, IsStep};
-ghost use Rattle.replayer.specs.OnRegisters.{objects_of};
-ghost use Rattle.replayer.specs.StandingWords.{standing_in, answers_in, departed_in, AreReached};
+ghost use Rattle.replayer.specs.Differences.{is_same_response};
+ghost use Rattle.replayer.specs.Standings.{AreDefined};
 
 use crate::indexed_trace::IndexedTrace;
 use crate::reason::{Reason, ReplayReason};
 use crate::registers::Registers;
 use crate::runner::{Next, Runner};
-use crate::standing::{Standing, Standings};
+use crate::standing::{Answers, Standing, all_away, first_not_departed, first_waiting, put_answer};
 use script_tree::operation::Choice;
 use script_tree::request::Response;
 use script_tree::schedule::Moment;
 use script_tree::syntax::program::Program;
-use script_tree::value::Values;
 use std::alloc::{AllocError, Global};
 
 /// What is kept between two moments of a schedule.
 #[derive(Drop)]
-pub struct Stage {
+pub struct Stage<'a> {
+    program: &'a Program,
+    trace: IndexedTrace<'a>,
     registers: Registers,
-    standings: Standings,
+    /// How each request stands, at its place in the trace.
+    standings: Vec<Standing>,
     /// The place in the trace of the first response whose request has not departed.
     waiting: usize,
+    ghost built: { IsBuilt program.now },
+    ghost sized: { vec_len standings ≡ length trace },
+    ghost defined: { AreDefined program.now trace standings.items },
 }
 
-impl Stage {
+impl<'a> Stage<'a> {
+    ghost use Rattle.std.specs.Prelude.{◌≡◌, IfOk};
+    ghost use Rattle.script_tree.specs.declared.schedule.Moment.TheVariants.{Arrive, Act, Depart};
+    ghost use Rattle.replayer.specs.Differences.{first_not_departed};
+    ghost use Rattle.replayer.specs.Places.{IsRequestPlace};
+    ghost use Rattle.replayer.specs.Stages.{Opens, IsStageOf, Steps, StepsAt, NextAt, departed_of};
+
     /// Before the first moment, where the registers hold this.
-    pub fn new(alloc: Global, start: Registers, trace: &IndexedTrace) -> Stage
-        ensures shown { Shows trace.now.events.now [] (opening (objects_of start.values)) result }
-        ensures reached { (program : List Declaration) → AreReached program trace.now.events.now result.standings.by_id }
+    pub fn new(
+        alloc: Global,
+        program: &'a Program,
+        start: Registers,
+        trace: IndexedTrace<'a>,
+    ) -> Result<Stage<'a>, AllocError>
+        ensures { IfOk result (Opens program.now start trace.entry) }
     {
-        let standings = Standings::new(alloc);
-        let waiting = standings.first_waiting(trace.events(), 0);
-        Stage {
+        let _declarations = program.declarations();
+        let standings = all_away(alloc, trace.events().len())?;
+        let waiting = first_waiting(&trace, &standings, 0);
+        Ok(Stage {
+            program,
+            trace,
             registers: start,
             standings,
             waiting,
-        }
+        })
     }
 
     /// Plays a moment, or tells why it is not one of the trace.
@@ -52,69 +63,48 @@ impl Stage {
         &mut self,
         alloc: Global,
         runner: &R,
-        program: &Program,
-        trace: &IndexedTrace,
         moment: Moment,
     ) -> Result<Option<Reason>, AllocError>
-        requires straight { IsStraightLine program.now }
-        requires few { length program.now < 2 ^ 32 }
-        requires reached { AreReached program.now trace.now.events.now self.old.standings.by_id }
-        ensures step { IfOk result (λ reason. (past : List AnyMoment) (scene : Scene) → Shows trace.now.events.now past scene self.old → IsStep program.now trace.now.events.now past scene moment (fault_of program.now trace.now.events.now past scene moment) reason self.new) }
-        ensures reached { IfOk result (λ reason. reason ≡ None → AreReached program.now trace.now.events.now self.new.standings.by_id) }
+        ensures step { IfOk result (λ reason. Steps moment reason self.old self.new) }
+        ensures same { IsStageOf self.old.program.now self.old.trace self.new }
     {
-        if trace.request(rid_of(moment)).is_none() {
+        let Some(place) = self.trace.place(rid_of(moment)) else {
             return Ok(Some(Reason::UnknownRequest));
-        }
+        };
         match moment {
-            Moment::Arrive(r) => self.arrive(alloc, trace, r),
-            Moment::Act(r, choice) => self.act(alloc, runner, program, trace, r, choice),
-            Moment::Depart(r) => self.depart(alloc, runner, program, trace, r),
+            Moment::Arrive(_) => Ok(self.arrive(alloc, place)),
+            Moment::Act(_, choice) => self.act(alloc, runner, place, choice),
+            Moment::Depart(_) => self.depart(alloc, runner, place),
         }
     }
 
-    fn arrive(
-        &mut self,
-        alloc: Global,
-        trace: &IndexedTrace,
-        r: u32,
-    ) -> Result<Option<Reason>, AllocError>
-        ensures step { (program : List Declaration) → IfOk result (λ reason. (past : List AnyMoment) (scene : Scene) → Shows trace.now.events.now past scene self.old → IsStep program trace.now.events.now past scene (AnyMoment.Arrive r) (moment_fault program trace.now.events.now past scene (AnyMoment.Arrive r)) reason self.new) }
-        ensures reached { IfOk result (λ reason. (program : List Declaration) → reason ≡ None → AreReached program trace.now.events.now self.old.standings.by_id → AreReached program trace.now.events.now self.new.standings.by_id) }
+    fn arrive(&mut self, alloc: Global, place: usize) -> Option<Reason>
+        requires { IsRequestPlace self.old.trace place }
+        ensures step { StepsAt place (λ r. Arrive r) result self.old self.new }
+        ensures same { IsStageOf self.old.program.now self.old.trace self.new }
     {
-        if self.standings.has_arrived(r) {
-            return Ok(Some(Reason::SecondArrival));
+        let Standing::Away = &self.standings[place] else {
+            return Some(Reason::SecondArrival);
+        };
+        if self.waiting < place {
+            return Some(Reason::TooEarly);
         }
-        if self.is_too_early(trace, r) {
-            return Ok(Some(Reason::TooEarly));
-        }
-        self.standings
-            .put(r, Standing::Open(Values::from_vec(Vec::new(alloc))))?;
-        Ok(None)
-    }
-
-    /// Whether a request that precedes this one has not departed.
-    fn is_too_early(&self, trace: &IndexedTrace, r: u32) -> bool
-        ensures { (past : List AnyMoment) (scene : Scene) → Shows trace.now.events.now past scene self.now → result ≡ is_too_early trace.now.events.now past r }
-    {
-        self.waiting < trace.place(r).unwrap_or(trace.events().len())
+        self.standings[place] = Standing::Open(Answers::new(alloc));
+        None
     }
 
     fn act<R: Runner>(
         &mut self,
         alloc: Global,
         runner: &R,
-        program: &Program,
-        trace: &IndexedTrace,
-        r: u32,
+        place: usize,
         choice: Choice,
     ) -> Result<Option<Reason>, AllocError>
-        requires straight { IsStraightLine program.now }
-        requires few { length program.now < 2 ^ 32 }
-        requires reached { AreReached program.now trace.now.events.now self.old.standings.by_id }
-        ensures step { IfOk result (λ reason. (past : List AnyMoment) (scene : Scene) → Shows trace.now.events.now past scene self.old → IsStep program.now trace.now.events.now past scene (AnyMoment.Act r choice) (moment_fault program.now trace.now.events.now past scene (AnyMoment.Act r choice)) reason self.new) }
-        ensures reached { IfOk result (λ reason. reason ≡ None → AreReached program.now trace.now.events.now self.new.standings.by_id) }
+        requires { IsRequestPlace self.old.trace place }
+        ensures step { IfOk result (λ reason. StepsAt place (λ r. Act r choice) reason self.old self.new) }
+        ensures same { IsStageOf self.old.program.now self.old.trace self.new }
     {
-        let op = match self.next_of(alloc, runner, program, trace, r)? {
+        let op = match self.next_at(alloc, runner, place)? {
             Some(Next::Wants(op)) => op,
             Some(Next::Ends(_)) => return Ok(Some(Reason::RunEnds)),
             None => return Ok(Some(Reason::NotOpen)),
@@ -123,7 +113,7 @@ impl Stage {
             return Ok(Some(Reason::BadChoice));
         }
         let answer = self.registers.act(op)?;
-        self.standings.answer(r, answer)?;
+        put_answer(&mut self.standings, place, answer)?;
         Ok(None)
     }
 
@@ -131,57 +121,50 @@ impl Stage {
         &mut self,
         alloc: Global,
         runner: &R,
-        program: &Program,
-        trace: &IndexedTrace,
-        r: u32,
+        place: usize,
     ) -> Result<Option<Reason>, AllocError>
-        requires straight { IsStraightLine program.now }
-        requires few { length program.now < 2 ^ 32 }
-        requires reached { AreReached program.now trace.now.events.now self.old.standings.by_id }
-        ensures step { IfOk result (λ reason. (past : List AnyMoment) (scene : Scene) → Shows trace.now.events.now past scene self.old → IsStep program.now trace.now.events.now past scene (AnyMoment.Depart r) (moment_fault program.now trace.now.events.now past scene (AnyMoment.Depart r)) reason self.new) }
-        ensures reached { IfOk result (λ reason. reason ≡ None → AreReached program.now trace.now.events.now self.new.standings.by_id) }
+        requires { IsRequestPlace self.old.trace place }
+        ensures step { IfOk result (λ reason. StepsAt place (λ r. Depart r) reason self.old self.new) }
+        ensures same { IsStageOf self.old.program.now self.old.trace self.new }
     {
-        let response = match self.next_of(alloc, runner, program, trace, r)? {
+        let response = match self.next_at(alloc, runner, place)? {
             Some(Next::Ends(response)) => response,
             Some(Next::Wants(_)) => return Ok(Some(Reason::WantsOperation)),
             None => return Ok(Some(Reason::NotOpen)),
         };
-        if !is_same_response(&response, trace.response(r)) {
+        if !is_same_response(&response, self.trace.response(place)) {
             return Ok(Some(Reason::OtherResponse));
         }
-        self.standings.put(r, Standing::Departed)?;
-        self.waiting = self.standings.first_waiting(trace.events(), self.waiting);
+        self.standings[place] = Standing::Departed;
+        self.waiting = first_waiting(&self.trace, &self.standings, self.waiting);
         Ok(None)
     }
 
-    /// What an open request of the trace does next.
-    fn next_of<R: Runner>(
+    /// What the request that stands here does next, where it is open.
+    fn next_at<R: Runner>(
         &self,
         alloc: Global,
         runner: &R,
-        program: &Program,
-        trace: &IndexedTrace,
-        r: u32,
+        place: usize,
     ) -> Result<Option<Next>, AllocError>
-        requires straight { IsStraightLine program.now }
-        requires few { length program.now < 2 ^ 32 }
-        requires reached { AreReached program.now trace.now.events.now self.now.standings.by_id }
-        ensures { IfOk result (λ next. IsNextIfOpen next (ending_with program.now (request_of trace.now.events.now r) (answers_in (standing_in self.now.standings.by_id r)))) }
+        requires { IsRequestPlace self.now.trace place }
+        ensures { IfOk result (NextAt place self.now) }
     {
-        let Some(request) = trace.request(r) else {
+        let Standing::Open(answers) = &self.standings[place] else {
             return Ok(None);
         };
-        let Some(answers) = self.standings.answers(r) else {
+        let Some(request) = self.trace.request(place) else {
             return Ok(None);
         };
-        Ok(Some(runner.next(alloc, program, request, answers.as_slice())?))
+        let next = runner.next(alloc, self.program, request, answers.as_slice())?;
+        Ok(Some(next))
     }
 
     /// After the last moment: the first request of the trace that has not departed.
-    pub fn first_not_departed(&self, trace: &IndexedTrace) -> Option<ReplayReason>
-        ensures { result ≡ first_not_departed (departed_in self.now.standings.by_id) trace.now.events.now }
+    pub fn first_not_departed(&self) -> Option<ReplayReason>
+        ensures { result ≡ first_not_departed (departed_of self.now) self.now.trace }
     {
-        self.standings.first_not_departed(trace.events())
+        first_not_departed(&self.trace, &self.standings)
     }
 }
 
@@ -190,7 +173,7 @@ pub fn rid_of(moment: Moment) -> u32
     ensures { result ≡ rid_of moment }
 {
     match moment {
-        Moment::Arrive(r) | Moment::Act(r, _) | Moment::Depart(r) => r,
+        Moment::Arrive(rid) | Moment::Act(rid, _) | Moment::Depart(rid) => rid,
     }
 }
 

@@ -1,114 +1,124 @@
-ghost use Rattle.std.specs.Prelude.{◌≡◌, ◌+◌, drop, ℕ, OnOk, IfOk, option_copied, is_some, Some, ◌++◌, ◌∷◌, [], List};
-ghost use Rattle.std.specs.BTreeMap.{IsEmpty};
+ghost use Rattle.std.specs.Prelude.{◌≡◌, ◌+◌, ◌<◌, ◌++◌, ◌∷◌, [], ℕ, List, Some, length, drop};
+ghost use Rattle.std.specs.Prelude.{vec_len, slice_index_or, slice_get, slice_set, IfOk, OnOk, OnErr};
 ghost use Rattle.script_tree.specs.Datum.{Datum};
-ghost use Rattle.replayer.specs.Differences.{first_not_departed};
-ghost use Rattle.replayer.specs.StandingWords.{standing_in, departed_in, answers_in, Puts, waits, first_waiting};
+ghost use Rattle.script_tree.specs.declared.trace.TraceEvent.{TraceEvent as AnyEvent};
+ghost use Rattle.replayer.specs.Differences.{left_open, first_not_departed};
+ghost use Rattle.replayer.specs.Standings.{standing_at, departed_in, is_departed, waits};
+ghost use Rattle.replayer.specs.Standings.{first_waiting};
+ghost use Rattle.replayer.specs.declared.standing.Standing.TheVariants.{Away, Open};
 
+use crate::indexed_trace::IndexedTrace;
 use crate::reason::ReplayReason;
+use basis::Items;
 use script_tree::trace::TraceEvent;
-use script_tree::value::{Value, Values};
+use script_tree::value::Value;
 use std::alloc::{AllocError, Global};
-use std::collections::BTreeMap;
 
-/// How a request stands that has arrived.
+/// The answers to a request's operations, in order.
+pub type Answers = Items<Value>;
+
+/// How a request stands.
 #[derive(Drop)]
 pub enum Standing {
+    /// It has not arrived.
+    Away,
     /// It is open, with these answers to its operations.
-    Open(Values),
+    Open(Answers),
     /// It has departed.
     Departed,
 }
 
-/// How the requests stand that have arrived.
-#[derive(Drop)]
-pub struct Standings {
-    by_id: BTreeMap<u32, Standing>,
+/// So many requests, all of them away.
+pub fn all_away(alloc: Global, count: usize) -> Result<Vec<Standing>, AllocError>
+    ensures len { IfOk result (λ v. vec_len v ≡ count) }
+    ensures away { IfOk result (λ v. (k : ℕ) → slice_index_or v.items k Away ≡ Away) }
+{
+    let mut standings = Vec::with_capacity(alloc, count)?;
+    for _ in 0..count {
+        standings.push(Standing::Away)?;
+    }
+    Ok(standings)
 }
 
-impl Standings {
-    /// No request has arrived.
-    pub fn new(alloc: Global) -> Standings
-        ensures { IsEmpty result.by_id }
-    {
-        Standings {
-            by_id: BTreeMap::new(alloc),
-        }
+/// Gives an open request the answer to its operation.
+pub fn put_answer(
+    standings: &mut Vec<Standing>,
+    place: usize,
+    answer: Value,
+) -> Result<(), AllocError>
+    requires { place < vec_len standings.old }
+    ensures put { OnOk result ((ds : List Datum) → slice_index_or standings.old.items place Away ≡ Open ds
+        → standings.new.items ≡ slice_set standings.old.items place (Open (ds ++ answer ∷ []))) }
+    ensures refused { OnErr result (standings.new.items ≡ standings.old.items) }
+    ensures len { vec_len standings.new ≡ vec_len standings.old }
+{
+    if let Standing::Open(answers) = &mut standings[place] {
+        answers.push(answer)?;
     }
+    Ok(())
+}
 
-    pub fn has_arrived(&self, r: u32) -> bool
-        ensures { result ≡ is_some (standing_in self.now.by_id r) }
-    {
-        self.by_id.contains_key(&r)
+/// Whether the request that stands at a place of the trace has departed.
+fn is_departed(standings: &[Standing], place: Option<usize>) -> bool
+    ensures { result ≡ is_departed (standing_at standings.now place) }
+{
+    match place {
+        Some(place) => matches!(standings.get(place), Some(Standing::Departed)),
+        None => false,
     }
+}
 
-    /// The answers of an open request.
-    pub fn answers(&self, r: u32) -> Option<&Values>
-        ensures { option_copied result ≡ answers_in (standing_in self.now.by_id r) }
-    {
-        match self.by_id.get(&r)? {
-            Standing::Open(answers) => Some(answers),
-            Standing::Departed => None,
-        }
+/// Whether a response stands here whose request has not departed.
+fn waits(trace: &IndexedTrace, standings: &[Standing], place: usize) -> bool
+    requires { place < length trace.now }
+    ensures { (e : AnyEvent) → slice_get trace.now place ≡ Some e
+        → result ≡ waits (departed_in trace.now standings.now) e }
+{
+    match &trace.events()[place] {
+        TraceEvent::Asked(..) => false,
+        TraceEvent::Answered(..) => !is_departed(standings, trace.partner(place)),
     }
+}
 
-    pub fn has_departed(&self, r: u32) -> bool
-        ensures { result ≡ departed_in self.now.by_id r }
-    {
-        matches!(self.by_id.get(&r), Some(Standing::Departed))
+/// The place of the first response from here on whose request has not departed.
+pub fn first_waiting(trace: &IndexedTrace, standings: &[Standing], from: usize) -> usize
+    ensures { result ≡ from + first_waiting (departed_in trace.now standings.now) (drop from trace.now) }
+{
+    let mut place = from;
+    while place < trace.events().len() && !waits(trace, standings, place) {
+        place += 1;
     }
+    place
+}
 
-    /// A request stands so from now on.
-    pub fn put(&mut self, r: u32, standing: Standing) -> Result<(), AllocError>
-        ensures { OnOk result (Puts self.old.by_id self.new.by_id r standing) }
-    {
-        self.by_id.insert(r, standing)?;
-        Ok(())
-    }
-
-    /// An open request gets an answer.
-    pub fn answer(&mut self, r: u32, answer: Value) -> Result<(), AllocError>
-        ensures { OnOk result ((ds : List Datum) → answers_in (standing_in self.old.by_id r) ≡ Some ds → Puts self.old.by_id self.new.by_id r (Standing.Open (ds ++ answer ∷ []))) }
-    {
-        if let Some(Standing::Open(answers)) = self.by_id.remove(&r) {
-            let mut answers = answers.into_vec();
-            answers.push(answer)?;
-            self.put(r, Standing::Open(Values::from_vec(answers)))?;
-        }
-        Ok(())
-    }
-
-    /// The place of the first response from here on whose request has not departed.
-    pub fn first_waiting(&self, events: &[TraceEvent], from: usize) -> usize
-        ensures { result ≡ from + first_waiting (departed_in self.now.by_id) (drop from events.now) }
-    {
-        let mut place = from;
-        while place < events.len() && !self.waits(&events[place]) {
-            place += 1;
-        }
-        place
-    }
-
-    /// Whether it is a response whose request has not departed.
-    fn waits(&self, event: &TraceEvent) -> bool
-        ensures { result ≡ waits (departed_in self.now.by_id) event.now }
-    {
-        match event {
-            TraceEvent::Asked(..) => false,
-            TraceEvent::Answered(id, _) => !self.has_departed(*id),
-        }
-    }
-
-    /// The first request of these that has not departed.
-    pub fn first_not_departed(&self, events: &[TraceEvent]) -> Option<ReplayReason>
-        ensures { result ≡ first_not_departed (departed_in self.now.by_id) events.now }
-    {
-        for event in events {
-            if let TraceEvent::Asked(id, _) = event {
-                if !self.has_departed(*id) {
-                    return Some(ReplayReason::Open(*id));
-                }
+/// The event, where it is a request that has not departed.
+fn left_open(
+    trace: &IndexedTrace,
+    standings: &[Standing],
+    event: &TraceEvent,
+) -> Option<ReplayReason>
+    ensures { result ≡ left_open (departed_in trace.now standings.now) event.now }
+{
+    match event {
+        TraceEvent::Asked(rid, _) => {
+            if is_departed(standings, trace.place(*rid)) {
+                None
+            } else {
+                Some(ReplayReason::Open(*rid))
             }
         }
-        None
+        TraceEvent::Answered(..) => None,
     }
+}
+
+/// The first request of the trace that has not departed.
+pub fn first_not_departed(trace: &IndexedTrace, standings: &[Standing]) -> Option<ReplayReason>
+    ensures { result ≡ first_not_departed (departed_in trace.now standings.now) trace.now }
+{
+    for event in trace.events() {
+        if let Some(reason) = left_open(trace, standings, event) {
+            return Some(reason);
+        }
+    }
+    None
 }

@@ -1,14 +1,14 @@
-use Rattle.std.proofs.Common.{◌≡◌, ◌∙◌, sym, ap, Some, None, option_copied}
-use Rattle.replayer.specs.Places.{first_place, is_response}
-use Rattle.replayer.proofs.PlaceFacts.{response_found, response_absent}
+use Rattle.std.proofs.Common.{◌≡◌, ◌∙◌, ap, sym, Some, None}
+use Rattle.replayer.specs.Places.{response_at, response_place}
+use Rattle.replayer.proofs.PlaceFacts.{response_found, response_absent, partner_of-request}
 use Rattle.replayer.proofs.indexed_trace.IndexedTrace.response.Goals as goal
 
-pub returns-in_err-place : goal.returns-in_err-place
-returns-in_err-place c =
-    let e : first_place (is_response c.args.id) 0 c.args.self.now.events.now ≡ None = sym (c.args.self.now.responses_told c.args.id) ∙ sym c.get.ensures.value ∙ ap option_copied c.in_err-place.was in
-    rw c.from_residual.ensures (sym (response_absent c.args.id c.args.self.now.events.now e))
+pub returns-in_err-partner : goal.returns-in_err-partner
+returns-in_err-partner c = λ r here.
+    let none : response_place c.args.self.now r ≡ None = sym (partner_of-request r c.args.self.now c.args.place here) ∙ sym c.partner.ensures ∙ c.in_err-partner.was in
+    rw c.from_residual.ensures (sym (response_absent r c.args.self.now none))
 
 pub returns : goal.returns
-returns c =
-    let e : first_place (is_response c.args.id) 0 c.args.self.now.events.now ≡ Some c.in_ok-place.field-0.now = sym (c.args.self.now.responses_told c.args.id) ∙ sym c.get.ensures.value ∙ ap option_copied c.in_ok-place.was in
-    c.response_at.ensures ∙ response_found c.args.id c.args.self.now.events.now _ e
+returns c = λ r here.
+    let found : response_place c.args.self.now r ≡ Some c.in_ok-partner.field-0 = sym (partner_of-request r c.args.self.now c.args.place here) ∙ sym c.partner.ensures ∙ c.in_ok-partner.was in
+    c.response_at.ensures ∙ ap (λ es. response_at es c.in_ok-partner.field-0) c.self.view_is ∙ response_found r c.args.self.now c.in_ok-partner.field-0 found

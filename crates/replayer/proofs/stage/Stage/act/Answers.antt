@@ -1,40 +1,81 @@
-use Rattle.std.proofs.Common.{◌≡◌, ◌∙◌, ap, sym, refl, subst, true, [], ◌∷◌, ◌++◌, Some}
+use Rattle.std.proofs.Common.{ℕ, ◌≡◌, ◌∙◌, ◌<◌, List, ap, sym, refl, subst, true, [], ◌∷◌, ◌++◌, Some, length, get_or, arith, Result, Ok, Err, OnOk, OnErr}
+use Rattle.std.proofs.Math.ListN.{set}
+use Rattle.std.specs.declared.alloc.AllocError.{AllocError}
+use Rattle.basis.proofs.Options.{some_one}
+use Rattle.script_tree.specs.Programs.{Program, IsBuilt}
+use Rattle.script_tree.specs.Requests.{Request}
 use Rattle.script_tree.specs.Traces.{request_of}
+use Rattle.script_tree.specs.Datum.{Datum}
+use Rattle.script_tree.specs.declared.operation.Op.{Op}
+use Rattle.script_tree.specs.declared.trace.TraceEvent.{TraceEvent}
 use Rattle.script_meaning.specs.Conduct.{Ending, Wants}
 use Rattle.script_meaning.specs.Replay.{ending_of, ending_with, next_of}
 use Rattle.replayer.specs.OnRegisters.{IsOnRegister}
-use Rattle.replayer.specs.Runners.{IsReached, answered}
-use Rattle.replayer.specs.StandingWords.{standing_in, answers_in}
-use Rattle.replayer.specs.declared.standing.Standing.TheVariants.{Open}
-use Rattle.replayer.proofs.StageFacts.{shows_act, reached_more, opened, act_told}
+use Rattle.replayer.specs.Places.{request_place}
+use Rattle.replayer.specs.Standings.{standing_at, standing_in, answers_in, Puts, AreDefined}
+use Rattle.replayer.specs.Stages.{standing_of, kept_of, NextAt}
+use Rattle.replayer.specs.declared.stage.Stage.{Stage}
+use Rattle.replayer.specs.declared.runner.Next.{Next}
+use Rattle.replayer.specs.declared.runner.Next.TheVariants as told
+use Rattle.replayer.specs.declared.standing.Standing.{Standing}
+use Rattle.replayer.specs.declared.standing.Standing.TheVariants.{Away, Open}
+use Rattle.replayer.proofs.StageFacts.{shows_act, defined_more, answered_defined, opened, act_told, open_is, puts_at}
 use Rattle.replayer.proofs.stage.Stage.act.Goals as goal
 
-pub returns-clause-step : goal.returns-clause-step
-returns-clause-step g c = λ past scene h.
-    let program = c.args.program.now in
-    let trace = c.args.trace.now.events.now in
-    let op = c.in-Some-Wants.op in
-    let answers = answers_in (standing_in c.args.self.now.standings.by_id c.args.r) in
-    let k : (x : Ending) × (ending_with program (request_of trace c.args.r) answers ≡ Some x) × ((x ≡ Wants op) × IsOnRegister op) = rw (c.in-Some-Wants.is, c.in-Some-Wants.field-0-is) at c.in_ok-op.ensures in
-    let e : ending_with program (request_of trace c.args.r) answers ≡ Some (Wants op) = k.1 ∙ ap Some k.2.0 in
-    let w = opened program (request_of trace c.args.r) answers (Wants op) e in
-    let next : next_of program trace scene c.args.r ≡ Some (Wants op) = ap (ending_with program (request_of trace c.args.r)) (h.answers c.args.r) ∙ e in
-    record {
-      told = act_told program trace scene c.args.r c.args.choice op true next (c.take.ensures op (scene.objects op.object) k.2.1 ∙ c.if-not-take.false);
-      shown = λ _. shows_act program trace past scene c.args.self.now c.args.r c.args.choice op w.1 c.in_ok-answer.answer _ h next w.3 (c.in_ok-answer.ensures.answer c.args.choice) (c.in_ok-answer.ensures.done c.args.choice) (c.in_ok-answer-2.ensures w.1 w.3) refl;
-    }
+-- what stands at the place gets an answer
+put : (trace : List TraceEvent) (old new : List Standing) (r place : ℕ) (ds : List Datum) (d : Datum) → request_place trace r ≡ Some place → place < length old → answers_in (standing_in trace old r) ≡ Some ds
+    → ((es : List Datum) → get_or old place Away ≡ Open es → new ≡ set old place (Open (es ++ d ∷ []))) → Puts trace old new r (Open (ds ++ d ∷ []))
+put trace old new r place ds d here inside is_open puts =
+    let stands : get_or old place Away ≡ Open ds = ap (standing_at old) (sym here) ∙ open_is (standing_in trace old r) ds is_open in
+    let P : List Standing → Type 0 = λ ss. Puts trace old ss r (Open (ds ++ d ∷ [])) in
+    subst P (sym (puts ds stands)) (puts_at trace old r place (Open (ds ++ d ∷ [])) here inside)
 
-pub returns-clause-reached : goal.returns-clause-reached
-returns-clause-reached g c = λ _.
-    let program = c.args.program.now in
-    let trace = c.args.trace.now.events.now in
+-- what is wanted at a place
+pub wanted : (stage : Stage) (place r : ℕ) (op : Op) → NextAt place stage (Some (told.Wants op)) → request_place stage.trace r ≡ Some place
+    → (ending_with stage.program.now (request_of stage.trace r) (answers_in (standing_of stage r)) ≡ Some (Wants op)) × IsOnRegister op
+wanted stage place r op next here = let k = next r here in (k.1 ∙ ap (λ x. Some x) k.2.0, k.2.1)
+
+pub act-requires : goal.act-requires
+act-requires g c =
+    (wanted c.args.self.now c.args.place c.requires.rid c.in-Some-Wants.op (rw (c.in-Some-Wants.is, c.in-Some-Wants.field-0-is) at c.in_ok-op.ensures) c.requires.stands).1
+
+-- runs go on or end, whether the answer was put or not
+put_defined : (program : Program) → IsBuilt program → (trace : List TraceEvent) (old new : List Standing) (r place : ℕ) (q : Request) (ds : List Datum) (d : Datum) (op : Op) (result : Result (Unit {0}) AllocError)
+    → AreDefined program trace old → request_place trace r ≡ Some place → place < length old → request_of trace r ≡ Some q → answers_in (standing_in trace old r) ≡ Some ds → ending_of program q ds ≡ Wants op
+    → OnOk result ((es : List Datum) → get_or old place Away ≡ Open es → new ≡ set old place (Open (es ++ d ∷ []))) → OnErr result (new ≡ old) → AreDefined program trace new
+put_defined program built trace old new r place q ds d op (Ok done) defined here inside known is_open wants puts refused =
+    defined_more program trace old new r (Open (ds ++ d ∷ [])) defined (put trace old new r place ds d here inside is_open puts)
+    (λ p es asked given.
+    let same : q ≡ p = some_one q p (sym known ∙ asked) in
+    answered_defined program built p ds d op (ap (λ x. ending_of program x ds) (sym same) ∙ wants) es given)
+put_defined program built trace old new r place q ds d op (Err e) defined here inside known is_open wants puts refused =
+    let P : List Standing → Type 0 = λ ss. AreDefined program trace ss in
+    subst P (sym refused) defined
+
+pub invariant_of-self-2-clause-defined : goal.invariant_of-self-2-clause-defined
+invariant_of-self-2-clause-defined g c =
+    let stage = c.args.self.now in
+    let ss = stage.standings.items in
+    let rid = c.requires.rid in
+    let inside : c.args.place < length ss = omega (arith, c.requires.within, stage.sized, stage.standings.ok.0) in
     let op = c.in-Some-Wants.op in
-    let answers = answers_in (standing_in c.args.self.now.standings.by_id c.args.r) in
-    let k : (x : Ending) × (ending_with program (request_of trace c.args.r) answers ≡ Some x) × ((x ≡ Wants op) × IsOnRegister op) = rw (c.in-Some-Wants.is, c.in-Some-Wants.field-0-is) at c.in_ok-op.ensures in
-    let e : ending_with program (request_of trace c.args.r) answers ≡ Some (Wants op) = k.1 ∙ ap Some k.2.0 in
-    let w = opened program (request_of trace c.args.r) answers (Wants op) e in
-    reached_more program trace c.args.self.now.standings.by_id c.answer.new.self.by_id c.args.r (Open (w.1 ++ c.in_ok-answer.answer ∷ [])) c.requires.reached (c.in_ok-answer-2.ensures w.1 w.3)
-    (λ q ds known told.
-    let same : w.0 ≡ q = (let k : Some w.0 ≡ Some q = sym w.2 ∙ known in cc) in
-    let all : w.1 ++ c.in_ok-answer.answer ∷ [] ≡ ds = cc in
-    subst (IsReached program q) all (answered w.1 c.in_ok-answer.answer op (ap (λ x. ending_of program x w.1) (sym same) ∙ w.4)))
+    let k = wanted stage c.args.place rid op (rw (c.in-Some-Wants.is, c.in-Some-Wants.field-0-is) at c.in_ok-op.ensures) c.requires.stands in
+    let w = opened stage.program.now (request_of stage.trace rid) (answers_in (standing_of stage rid)) (Wants op) k.0 in
+    put_defined stage.program.now stage.built stage.trace ss c.put_answer.new.standings.items rid c.args.place w.0 w.1 c.in_ok-answer.answer op c.put_answer.result
+    stage.defined c.requires.stands inside w.2 w.3 w.4 c.put_answer.ensures.put c.put_answer.ensures.refused
+
+pub returns-clause-step : goal.returns-clause-step
+returns-clause-step g c = λ r here past scene h.
+    let stage = c.args.self.now in
+    let ss = stage.standings.items in
+    let inside : c.args.place < length ss = omega (arith, c.requires.within, stage.sized, stage.standings.ok.0) in
+    let op = c.in-Some-Wants.op in
+    let answers = answers_in (standing_of stage r) in
+    let k = wanted stage c.args.place r op (rw (c.in-Some-Wants.is, c.in-Some-Wants.field-0-is) at c.in_ok-op.ensures) here in
+    let w = opened stage.program.now (request_of stage.trace r) answers (Wants op) k.0 in
+    let next : next_of stage.program.now stage.trace scene r ≡ Some (Wants op) = ap (ending_with stage.program.now (request_of stage.trace r)) (h.answers r) ∙ k.0 in
+    record {
+      told = act_told stage.program.now stage.trace scene r c.args.choice op true next (c.take.ensures op (scene.objects op.object) k.1 ∙ c.if-not-take.false);
+      shown = λ _. shows_act stage.program.now stage.trace past scene (kept_of stage) r c.args.choice op w.1 c.in_ok-answer.answer _ h next w.3 (c.in_ok-answer.ensures.done c.args.choice)
+          (put stage.trace ss c.put_answer.new.standings.items r c.args.place w.1 c.in_ok-answer.answer here inside w.3 c.in_ok-put_answer.ensures.put) refl;
+    }

@@ -1,35 +1,54 @@
-use Rattle.std.proofs.Common.{◌≡◌, ◌∙◌, ap, sym, refl, subst, ℕ, Bool, true, false, cond, List, [], Some, None}
+use Rattle.std.proofs.Common.{◌≡◌, ◌∙◌, ◌<◌, ◌≤◌, ap, sym, refl, subst, ℕ, Bool, true, false, not, cond, List, [], Some, None, length, unwrap_or, nat_lt, arith}
+use Rattle.std.proofs.Math.ListN.{set}
+use Rattle.std.proofs.lemmas.Bool.{lt-ltb}
+use Rattle.script_tree.specs.Datum.{Datum}
 use Rattle.script_tree.specs.declared.schedule.Moment.{Moment}
 use Rattle.script_tree.specs.declared.trace.TraceEvent.{TraceEvent}
 use Rattle.replayer.specs.Differences.{has_arrived, is_too_early, arrival_fault}
-use Rattle.replayer.specs.Runners.{IsReached, begun}
-use Rattle.replayer.specs.StandingWords.{Puts}
+use Rattle.replayer.specs.Standings.{is_away, departed_in, Puts}
+use Rattle.replayer.specs.Stages.{standing_of, kept_of}
 use Rattle.replayer.specs.declared.reason.Reason.TheVariants.{SecondArrival, TooEarly}
-use Rattle.replayer.specs.declared.standing.Standing.TheVariants.{Open}
-use Rattle.replayer.proofs.StageFacts.{shows_arrival, reached_more}
+use Rattle.replayer.specs.declared.standing.Standing.TheVariants.{Away, Open}
+use Rattle.replayer.proofs.StageFacts.{stands_in, early_where, not_below, shows_arrival, puts_at, defined_more, begun_defined}
 use Rattle.replayer.proofs.stage.Stage.arrive.Goals as goal
 
 fault_is : (trace : List TraceEvent) (past : List Moment) (r : ℕ) (b : Bool) → has_arrived past r ≡ false → is_too_early trace past r ≡ b → arrival_fault trace past r ≡ cond b (Some TooEarly) None
 fault_is trace past r b a e = ap (λ x. cond x (Some SecondArrival) (cond (is_too_early trace past r) (Some TooEarly) None)) a ∙ ap (λ x. cond x (Some TooEarly) None) e
 
-pub returns-then-is_too_early-clause-step : goal.returns-then-is_too_early-clause-step
-returns-then-is_too_early-clause-step c = λ program past scene h. record {
-  told = fault_is c.args.trace.now.events.now past c.args.r true (h.arrived c.args.r ∙ sym c.has_arrived.ensures ∙ c.if-has_arrived.false) (sym (c.is_too_early.ensures past scene h) ∙ c.if-is_too_early.true);
-  shown = λ e. absurd (cc);
-}
-
-pub returns-clause-step : goal.returns-clause-step
-returns-clause-step c = λ program past scene h.
-    let none : c.from_vec.result ≡ [] = c.from_vec.ensures ∙ c.new.ensures.items in
-    let p : Puts c.args.self.now.standings.by_id c.put.new.self.by_id c.args.r (Open []) = subst (λ ds. Puts c.args.self.now.standings.by_id c.put.new.self.by_id c.args.r (Open ds)) none c.in_ok-put.ensures in
+pub returns-then-self-place-clause-step : goal.returns-then-self-place-clause-step
+returns-then-self-place-clause-step c = λ r here past scene h.
+    let stage = c.args.self.now in
+    let ss = stage.standings.items in
+    let inside : c.args.place < length ss = omega (arith, c.requires.within, stage.sized, stage.standings.ok.0) in
+    let away : standing_of stage r ≡ Away = stands_in stage.trace ss r c.args.place c.index.result.now here inside c.index.ensures ∙ c.in-Away.is in
+    let new : has_arrived past r ≡ false = h.arrived r ∙ ap (λ s. not (is_away s)) away in
+    let early = early_where past r (departed_in stage.trace ss) h.departed stage.trace stage.waiting c.args.place h.waits (sym (ap (λ o. unwrap_or o (length stage.trace)) here)) in
     record {
-      told = fault_is c.args.trace.now.events.now past c.args.r false (h.arrived c.args.r ∙ sym c.has_arrived.ensures ∙ c.if-has_arrived.false) (sym (c.is_too_early.ensures past scene h) ∙ c.if-is_too_early.false);
-      shown = λ e. shows_arrival program c.args.trace.now.events.now past scene c.args.self.now c.args.r _ h (sym c.has_arrived.ensures ∙ c.if-has_arrived.false) p refl refl;
+      told = fault_is stage.trace past r true new (sym early ∙ lt-ltb stage.waiting c.args.place c.if-self-place.true);
+      shown = λ e. absurd (cc);
     }
 
-pub returns-clause-reached : goal.returns-clause-reached
-returns-clause-reached c = λ program e h.
-    let none : c.from_vec.result ≡ [] = c.from_vec.ensures ∙ c.new.ensures.items in
-    let p : Puts c.args.self.now.standings.by_id c.put.new.self.by_id c.args.r (Open []) = subst (λ ds. Puts c.args.self.now.standings.by_id c.put.new.self.by_id c.args.r (Open ds)) none c.in_ok-put.ensures in
-    reached_more program c.args.trace.now.events.now c.args.self.now.standings.by_id c.put.new.self.by_id c.args.r (Open []) h p
-    (λ q ds known opened. subst (IsReached program q) (let k : [] ≡ ds = cc in k) begun)
+pub invariant_of-self-clause-defined : goal.invariant_of-self-clause-defined
+invariant_of-self-clause-defined c =
+    let stage = c.args.self.now in
+    let ss = stage.standings.items in
+    let inside : c.args.place < length ss = omega (arith, c.requires.within, stage.sized, stage.standings.ok.0) in
+    let P : List Datum → Type 0 = λ ds. Puts stage.trace ss (set ss c.args.place (Open c.new.result)) c.requires.rid (Open ds) in
+    defined_more stage.program.now stage.trace ss (set ss c.args.place (Open c.new.result)) c.requires.rid (Open []) stage.defined
+    (subst P c.new.ensures (puts_at stage.trace ss c.requires.rid c.args.place (Open c.new.result) c.requires.stands inside))
+    (λ q ds known is_open. begun_defined stage.program.now stage.built q ds is_open)
+
+pub returns-clause-step : goal.returns-clause-step
+returns-clause-step c = λ r here past scene h.
+    let stage = c.args.self.now in
+    let ss = stage.standings.items in
+    let inside : c.args.place < length ss = omega (arith, c.requires.within, stage.sized, stage.standings.ok.0) in
+    let away : standing_of stage r ≡ Away = stands_in stage.trace ss r c.args.place c.index.result.now here inside c.index.ensures ∙ c.in-Away.is in
+    let new : has_arrived past r ≡ false = h.arrived r ∙ ap (λ s. not (is_away s)) away in
+    let early = early_where past r (departed_in stage.trace ss) h.departed stage.trace stage.waiting c.args.place h.waits (sym (ap (λ o. unwrap_or o (length stage.trace)) here)) in
+    let P : List Datum → Type 0 = λ ds. Puts stage.trace ss (set ss c.args.place (Open c.new.result)) r (Open ds) in
+    let puts : P [] = subst P c.new.ensures (puts_at stage.trace ss r c.args.place (Open c.new.result) here inside) in
+    record {
+      told = fault_is stage.trace past r false new (sym early ∙ not_below stage.waiting c.args.place c.if-self-place.false);
+      shown = λ e. shows_arrival stage.program.now stage.trace past scene (kept_of stage) r _ h away puts refl refl;
+    }

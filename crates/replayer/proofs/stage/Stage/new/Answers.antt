@@ -1,10 +1,13 @@
-use Rattle.std.proofs.Common.{◌∙◌, ap, drop, zero-add}
-use Rattle.replayer.specs.StandingWords.{departed_in, first_waiting}
-use Rattle.replayer.proofs.StageFacts.{shows_opening}
+use Rattle.std.proofs.Common.{◌≡◌, ◌∙◌, refl, ap, drop, zero-add}
+use Rattle.replayer.specs.Standings.{departed_in, first_waiting}
+use Rattle.replayer.proofs.StageFacts.{away_all, shows_opening}
 use Rattle.replayer.proofs.stage.Stage.new.Goals as goal
 
-pub returns-clause-shown : goal.returns-clause-shown
-returns-clause-shown c =
-    let departed = departed_in c.new-standings.result.by_id in
-    shows_opening c.args.trace.now.events.now _ c.new-standings.ensures
-    (c.first_waiting-waiting.ensures ∙ zero-add (first_waiting departed (drop 0 c.events.result.now)) ∙ ap (λ es. first_waiting departed es) c.events.ensures)
+pub returns : goal.returns
+returns c =
+    let ss = c.in_ok-standings.standings.items in
+    record {
+      of = record { program = refl; trace = refl };
+      shown = shows_opening c.args.trace _ (away_all c.args.trace ss c.in_ok-standings.ensures.away)
+          (c.first_waiting-waiting.ensures ∙ zero-add _ ∙ ap (λ xs. first_waiting (departed_in c.args.trace xs) c.args.trace) c.deref.ensures.value);
+    }

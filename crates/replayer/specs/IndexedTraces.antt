@@ -1,0 +1,13 @@
+-- What is kept of a trace beside its events.
+use Rattle.std.specs.Prelude.{◌≡◌, List, map}
+use Rattle.script_tree.specs.declared.trace.TraceEvent.{TraceEvent}
+use Rattle.replayer.specs.Places.{TellsRequests, partner_place}
+use Rattle.replayer.specs.declared.indexed_trace.IndexedTrace.TheInside.{Inside}
+
+abbrev pub events_of : Inside → List TraceEvent
+events_of a = a.events.now
+
+-- The map has the place of each request, and the list the place of each event's partner.
+pub record IsIndexed (a : Inside) : Type 0 where
+  pub requests : TellsRequests a.places 0 a.events.now
+  pub partners : a.partners.items ≡ map (partner_place a.events.now) a.events.now

@@ -1,0 +1,64 @@
+-- How the requests of a trace stand, each at its place in the trace.
+use Rattle.std.specs.Prelude.{◌≡◌, ◌≢◌, ℕ, suc, Bool, true, false, not, if◌then◌else◌, List, [], ◌∷◌, Option, Some, None, slice_index_or}
+use Rattle.script_tree.specs.Datum.{Datum}
+use Rattle.script_tree.specs.Programs.{Program}
+use Rattle.script_tree.specs.Requests.{Request}
+use Rattle.script_tree.specs.Traces.{request_of}
+use Rattle.script_tree.specs.declared.trace.TraceEvent.{TraceEvent}
+use Rattle.script_tree.specs.declared.trace.TraceEvent.TheVariants.{Asked, Answered}
+use Rattle.script_meaning.specs.Conduct.{Undefined}
+use Rattle.script_meaning.specs.Replay.{ending_of}
+use Rattle.replayer.specs.Places.{request_place}
+use Rattle.replayer.specs.declared.standing.Standing.{Standing}
+use Rattle.replayer.specs.declared.standing.Standing.TheVariants.{Away, Open, Departed}
+
+abbrev pub standing_at : List Standing → Option ℕ → Standing
+standing_at ss None = Away
+standing_at ss (Some place) = slice_index_or ss place Away
+
+-- how the request of an id stands; one that the trace lacks is away
+abbrev pub standing_in : List TraceEvent → List Standing → ℕ → Standing
+standing_in trace ss r = standing_at ss (request_place trace r)
+
+abbrev pub answers_in : Standing → Option (List Datum)
+answers_in Away = None
+answers_in (Open ds) = Some ds
+answers_in Departed = None
+
+abbrev pub is_away : Standing → Bool
+is_away Away = true
+is_away (Open ds) = false
+is_away Departed = false
+
+abbrev pub is_departed : Standing → Bool
+is_departed Away = false
+is_departed (Open ds) = false
+is_departed Departed = true
+
+abbrev pub departed_in : List TraceEvent → List Standing → ℕ → Bool
+departed_in trace ss r = is_departed (standing_in trace ss r)
+
+-- One request stands so now, and all others as before.
+pub record Puts (trace : List TraceEvent) (before after : List Standing) (r : ℕ) (s : Standing) : Type 0 where
+  pub here : standing_in trace after r ≡ s
+  pub others : (x : ℕ) → x ≢ r → standing_in trace after x ≡ standing_in trace before x
+
+-- ---- responses that are waited for
+
+-- a response whose request hasn't departed
+abbrev pub waits : (ℕ → Bool) → TraceEvent → Bool
+waits departed (Asked id q) = false
+waits departed (Answered id x) = not (departed id)
+
+-- the place of the first of these; the length of the list, where there is none
+abbrev pub first_waiting : (ℕ → Bool) → List TraceEvent → ℕ
+first_waiting departed [] = 0
+first_waiting departed (e ∷ es) = if waits departed e then 0 else suc (first_waiting departed es)
+
+-- ---- runs
+
+-- Each open request has only answers to operations that it wanted, so that its run goes on or ends.
+abbrev pub AreDefined : Program → List TraceEvent → List Standing → Type 0
+AreDefined program trace ss =
+    (r : ℕ) (q : Request) (ds : List Datum) → request_of trace r ≡ Some q → answers_in (standing_in trace ss r) ≡ Some ds
+    → ending_of program q ds ≢ Undefined

@@ -63,6 +63,7 @@ impl Walker<'_> {
         requires { is_item (call at name.now (expressions_of operands.now)) ≡ true }
         ensures { GivesValue result run.new (call_value self.now at name.now operands.now run.old) }
     {
+        // That no declaration is a function is known of the walker.
         let _ = &self.declarations;
         let arguments = self.eval_all(alloc, run, operands)?;
         run.charge()?;
@@ -78,7 +79,7 @@ impl Walker<'_> {
         operands: &Expressions,
     ) -> Result<Vec<Value>, Stopped>
         requires { list_all is_item operands.now ≡ true }
-        ensures { Gives (λ vs. vs.items) result run.new (page_values self.now operands.now run.old) }
+        ensures { Gives (λ v. v.items) result run.new (page_values self.now operands.now run.old) }
     {
         let mut values = Vec::new(alloc);
         for operand in operands.as_slice() {

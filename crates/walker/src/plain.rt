@@ -51,8 +51,8 @@ impl<'a> Walker<'a> {
         }
     }
 
-    /// What the run does after these answers. Where they are more than it asks for, nothing is said.
-    /// The walker stays as it was, also where memory ran out.
+    /// What the run does after these answers. Of more answers than it asks for nothing is said. The
+    /// walker stays as it was, also where memory ran out.
     pub fn next(&mut self, alloc: Global, answers: &[Value]) -> Result<WalkerStep, AllocError>
         ensures step { IfOk result (Tells (ending_after self.old answers.now)) }
         ensures same { self.new ≡ self.old }
@@ -63,6 +63,7 @@ impl<'a> Walker<'a> {
     fn step(&self, alloc: Global, answers: &[Value]) -> Result<WalkerStep, AllocError>
         ensures { IfOk result (Tells (ending_after self.now answers.now)) }
     {
+        // That pages have no branches is known of the walker.
         let _ = &self.declarations;
         match self.page() {
             None => no_page(alloc),

@@ -179,8 +179,8 @@ fn nulls(alloc: Global, count: usize) -> Result<Vec<Value>, AllocError> {
     Ok(values)
 }
 
-/// The step of a request for this path, on the page `/f` of some writes to `A` and an echo of what is
-/// read.
+/// The step of a request for this path, where the page `/f` writes to `A` so often, and echoes what
+/// it reads.
 fn step_of(
     alloc: Global,
     path: &[u8],

@@ -49,9 +49,12 @@ fault_response f = record { status = 500; body = codes "fault " ++ (decimal (fau
 abbrev pub over : ℕ → Progress → Response → End → Ending
 over page p response end = unless_left p.answers (Ends response (path_of page p end))
 
+abbrev pub response_of : Progress → Response
+response_of p = record { status = p.status; body = p.body }
+
 -- how the run of a page ends
 abbrev pub ended : ℕ → Outcome Flow → Conduct
-ended page (goes flow p) = record { trail = p.trail; ending = over page p (record { status = p.status; body = p.body }) Normal }
+ended page (goes flow p) = record { trail = p.trail; ending = over page p (response_of p) Normal }
 ended page (stops (wants op) p) = record { trail = p.trail; ending = Wants op }
 ended page (stops (fault f) p) = record { trail = p.trail; ending = over page p (fault_response f) (Fault f) }
 ended page (stops answer_fault p) = record { trail = p.trail; ending = over page p (fault_response TooLarge) AnswerFault }

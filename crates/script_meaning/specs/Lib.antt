@@ -10,4 +10,5 @@ pub mod Operators
 pub mod Replay
 pub mod Results
 pub mod Run
+pub mod RunCodes
 pub mod Variables

@@ -1,17 +1,19 @@
 -- One record more of a file, read or written.
-use Rattle.std.proofs.Common.{◌≡◌, ℕ, ◌+◌, ◌-◌, ◌<◌, ◌≤◌, ◌^◌, cond, eqb, List, [], ◌∷◌, ◌++◌, length, drop, take, get_or, Option, Some, None, Result, Ok, Err, inr, true, ap, sym, ◌∙◌, refl, subst, append_assoc, arith}
+use Rattle.std.proofs.Common.{◌≡◌, ℕ, ◌+◌, ◌-◌, ◌<◌, ◌≤◌, ◌^◌, cond, eqb, List, [], ◌∷◌, ◌++◌, length, drop, take, get_or, Option, Some, None, Result, Ok, Err, inr, true, false, Bool, inl, ap, sym, ◌∙◌, refl, subst, append_assoc, arith}
 use Rattle.std.proofs.lemmas.Bool.{eqb-true, eq-eqb}
-use Rattle.std.proofs.lemmas.List.{append-nil, drop_all, take_more, drop_more, take-append-drop}
+use Rattle.std.proofs.lemmas.List.{append-nil, length-append, drop_all, take_more, drop_more, take-append-drop}
 use Rattle.std.proofs.lemmas.Option.{cond_some}
+use Rattle.std.specs.List.{starts_with}
+use Rattle.std.proofs.lemmas.Bool.Decides.{Decides-eqb}
+use Rattle.std.proofs.lemmas.Slice.Eq.{starts_is}
+use Rattle.basis.proofs.Booleans.{true_false}
 use Rattle.basis.specs.Options.{◌>>=◌}
-use Rattle.wire.specs.Fields.{bytes_at, whole_of, record_at, TakesRecord}
+use Rattle.wire.specs.Fields.{bytes_at, whole_of, record_at}
 use Rattle.wire.specs.Readers.{IsBytes, IsReader}
 use Rattle.wire.specs.Spellings.{Field, IsSpelled, IsFieldAt, HasOneSpelling, framed, bytes_spelling}
 use Rattle.wire.specs.Files.{Format, record_spelling, records_spelling, file_spelling, payload_field, record_field, MayFollow, IsBadRecord, IsFault, Decodes, IsBeyond}
-use Rattle.wire.specs.declared.fault.FileFault.{FileFault}
-use Rattle.wire.specs.declared.fault.FileFault.TheVariants.{Memory, Unreadable}
-use Rattle.std.specs.Prelude.{IsErrAnd}
-use Rattle.wire.proofs.Spelled.{joined, at_front}
+use Rattle.wire.proofs.Spelled.{joined, at_front, ends_inside}
+use Rattle.std.specs.Int.{w32, to_be_bytes}
 use Rattle.wire.proofs.NumberFields.{bind_some, some_one, bytes_found, bytes_only, bytes_are_bytes}
 use Rattle.wire.proofs.FileLaws.{HasOnePayload}
 
@@ -93,14 +95,33 @@ records_push format (y ∷ ys) x = ap (λ (s : List ℕ). record_spelling format
 pub file_push : {A : Type 0} (format : Format A) (xs : List A) (x : A) → file_spelling format (xs ++ x ∷ []) ≡ file_spelling format xs ++ record_spelling format x
 file_push format xs x = ap (λ (s : List ℕ). format.magic ++ s) (records_push format xs x) ∙ sym (append_assoc format.magic (records_spelling format xs) (record_spelling format x))
 
-pub one_more : {A : Type 0} (format : Format A) (bytes : List ℕ) (items : List A) (at : ℕ) (x : A) (next : ℕ) → IsReadUpTo format bytes items at → IsFieldAt (record_field format items) bytes at x next → next ≤ length bytes → IsReadUpTo format bytes (items ++ x ∷ []) next
-one_more format bytes items at x next p q within =
+pub one_more : {A : Type 0} (format : Format A) (bytes : List ℕ) (items : List A) (at : ℕ) (x : A) (next : ℕ) → IsReadUpTo format bytes items at → IsFieldAt (record_field format items) bytes at x next → IsReadUpTo format bytes (items ++ x ∷ []) next
+one_more format bytes items at x next p q =
+    let inside = ends_inside bytes (record_spelling format x) at next (omega (arith, length-append (to_be_bytes w32 (length (format.payload x))) (format.payload x))) q.1 in
     let Here : List ℕ → Type 0 = λ s. IsSpelled bytes 0 s next in
     record {
       allowed = allowed_push format [] items x p.allowed q.0;
       spelled = subst Here (sym (file_push format items x)) (joined bytes (file_spelling format items) (record_spelling format x) 0 at next p.spelled q.1);
-      within = within;
+      within = inside.1;
     }
+
+-- a file that doesn't begin with the magic
+pub no_magic : {A : Type 0} (format : Format A) (bytes m : List ℕ) (r : Bool) → r ≡ starts_with eqb bytes m → m ≡ format.magic → r ≡ false → IsFault format bytes 0
+no_magic format bytes m r says is missed =
+    let begins = (starts_is Decides-eqb bytes m r says).1 in
+    inl ((λ (rest, e). true_false r (begins rest (e ∙ ap (λ (x : List ℕ). x ++ rest) (sym is))) missed), refl)
+
+-- one that does, before its first record
+pub read_none : {A : Type 0} (format : Format A) (bytes m : List ℕ) (items : List A) (r : Bool) → r ≡ starts_with eqb bytes m → m ≡ format.magic → items ≡ [] → r ≡ true → length m ≤ length bytes → IsReadUpTo format bytes items (length m)
+read_none {A} format bytes m items r says is none begun within =
+    let begins = (starts_is Decides-eqb bytes m r says).0 begun in
+    let spelled : IsSpelled bytes 0 (m ++ []) (length m) = record {
+      spells = begins ∙ ap (λ (x : List ℕ). x ++ drop (length m) bytes) (sym (append-nil m));
+      next_is = omega (arith, ap length (append-nil m));
+    } in
+    let Here : List ℕ → Type 0 = λ x. IsSpelled bytes 0 (x ++ []) (length m) in
+    let Read : List A → Type 0 = λ xs. IsReadUpTo format bytes xs (length m) in
+    subst Read (sym none) (record { allowed = tt; spelled = subst Here is spelled; within = within })
 
 pub bad_record : {A : Type 0} (format : Format A) (bytes : List ℕ) (items : List A) (at : ℕ) → IsReadUpTo format bytes items at → at < length bytes → ((x : A) (next : ℕ) → IsFieldAt (record_field format items) bytes at x next → ⊥) → IsBadRecord format bytes at
 bad_record format bytes items at p inside bad = record { before = items; allowed = p.allowed; spelled = p.spelled; inside = inside; bad = bad }
@@ -109,18 +130,6 @@ pub written_more : {A : Type 0} (format : Format A) (xs : List A) (i : ℕ) (d :
 written_more {A} format xs i d old new lt so_far e =
     let more : take (i + 1) xs ≡ take i xs ++ get_or xs i d ∷ [] = take_more xs i d lt in
     e ∙ ap (λ (s : List ℕ). s ++ record_spelling format (get_or xs i d)) so_far ∙ sym (file_push format (take i xs) (get_or xs i d)) ∙ ap (λ (ys : List A). file_spelling format ys) (sym more)
-
-fault_there : {A : Type 0} (format : Format A) (reads : List ℕ → Option A) (bytes : List ℕ) (items : List A) (at : ℕ) (fault : FileFault) → IsReader (record_field format items) (record_at reads) → IsReadUpTo format bytes items at → at < length bytes → TakesRecord reads bytes at (Err fault) → Decodes format bytes (Err fault)
-fault_there format reads bytes items at Memory reader read inside takes = tt
-fault_there format reads bytes items at (Unreadable place) reader read inside takes =
-    subst (IsFault format bytes) (sym takes.1) (inr (bad_record format bytes items at read inside (none_there (record_field format items) (record_at reads) reader bytes at takes.0)))
-
--- The fault of a record's reader is one of the file.
-pub fault_handed_on : {A : Type 0} (format : Format A) (reads : List ℕ → Option A) (bytes : List ℕ) (items : List A) (at : ℕ) (fault : FileFault) (r : Result (List A) FileFault) → IsReader (record_field format items) (record_at reads) → IsReadUpTo format bytes items at → at < length bytes → TakesRecord reads bytes at (Err fault) → IsErrAnd r (λ e. e ≡ fault) → Decodes format bytes r
-fault_handed_on format reads bytes items at fault (Ok x) reader read inside takes e = absurd e
-fault_handed_on {A} format reads bytes items at fault (Err found) reader read inside takes e =
-    let P : FileFault → Type 0 = λ f. Decodes format bytes (Err f) in
-    subst P (sym e) (fault_there format reads bytes items at fault reader read inside takes)
 
 -- the item whose record would end behind the limit
 pub beyond_here : {A : Type 0} (format : Format A) (limit : ℕ) (items whole : List A) (i : ℕ) (item : A) (at : ℕ) (out : List ℕ) → items ≡ whole → i < length items → item ≡ get_or items i item → out ≡ file_spelling format (take i items) → at ≡ length out → at ≤ limit → limit - at < length (record_spelling format item) → IsBeyond format limit whole at

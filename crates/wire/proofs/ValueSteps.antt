@@ -8,8 +8,9 @@ use Rattle.wire.specs.Fields.{number_at}
 use Rattle.wire.specs.Readers.{IsBytes}
 use Rattle.wire.specs.Spellings.{IsSpelled, value_spelling, values_spelling, HasWideNumbers, HaveWideNumbers}
 use Rattle.wire.specs.ValueReadings.{tag_of, tail_of, IsBounded, GivesValue, GivesTail}
-use Rattle.wire.specs.declared.fault.FileFault.{FileFault}
-use Rattle.wire.specs.declared.fault.FileFault.TheVariants.{Memory, Unreadable}
+use Rattle.basis.specs.declared.or_memory.OrMemory.{OrMemory}
+use Rattle.basis.specs.declared.or_memory.OrMemory.TheVariants.{Memory, Other}
+use Rattle.wire.specs.declared.fault.Unreadable.{Unreadable}
 use Rattle.wire.specs.declared.value_reading.Part.{Part}
 use Rattle.wire.proofs.Spelled.{joined, first_part, second_part, pair_is}
 use Rattle.wire.proofs.NumberFields.{wide32, number_found, number_only}
@@ -140,13 +141,13 @@ no_member depth below room bytes at count next vs to left d end' small under e f
     missing below left bytes next vs to there.0 end' room small read.spelled read.wide read.sized there.1.wide there.1.nested there.1.sized (subst Here (sym same.1) there.1.spelled) (omega (arith, same.0)) not
 
 -- the fault of a member's reader is one of the list
-fault_there : (depth below room : ℕ) (bytes : List ℕ) (at count next : ℕ) (vs : List Datum) (to left : ℕ) (fault : FileFault) → room ≤ 65536 → below + 1 ≡ depth → number_at w32 bytes at ≡ Some (count, next) → length vs < count → AreRead below room bytes next vs to left → GivesValue below left bytes to (Err fault) → GivesTail 5 depth (room + 1) bytes at (Err fault)
+fault_there : (depth below room : ℕ) (bytes : List ℕ) (at count next : ℕ) (vs : List Datum) (to left : ℕ) (fault : OrMemory Unreadable) → room ≤ 65536 → below + 1 ≡ depth → number_at w32 bytes at ≡ Some (count, next) → length vs < count → AreRead below room bytes next vs to left → GivesValue below left bytes to (Err fault) → GivesTail 5 depth (room + 1) bytes at (Err fault)
 fault_there depth below room bytes at count next vs to left Memory small under e fewer read gives = tt
-fault_there depth below room bytes at count next vs to left (Unreadable place) small under e fewer read gives =
+fault_there depth below room bytes at count next vs to left (Other place) small under e fewer read gives =
     λ d end' tag bound p. no_member depth below room bytes at count next vs to left d end' small under e fewer read gives tag bound p
 
-pub member_fault : (depth below room : ℕ) (bytes : List ℕ) (at count next : ℕ) (vs : List Datum) (to left : ℕ) (fault : FileFault) (r : Result Part FileFault) → room ≤ 65536 → below + 1 ≡ depth → number_at w32 bytes at ≡ Some (count, next) → length vs < count → AreRead below room bytes next vs to left → GivesValue below left bytes to (Err fault) → IsErrAnd r (λ e. e ≡ fault) → GivesTail 5 depth (room + 1) bytes at r
+pub member_fault : (depth below room : ℕ) (bytes : List ℕ) (at count next : ℕ) (vs : List Datum) (to left : ℕ) (fault : OrMemory Unreadable) (r : Result Part (OrMemory Unreadable)) → room ≤ 65536 → below + 1 ≡ depth → number_at w32 bytes at ≡ Some (count, next) → length vs < count → AreRead below room bytes next vs to left → GivesValue below left bytes to (Err fault) → IsErrAnd r (λ e. e ≡ fault) → GivesTail 5 depth (room + 1) bytes at r
 member_fault depth below room bytes at count next vs to left fault (Ok part) small under e fewer read gives is = absurd is
 member_fault depth below room bytes at count next vs to left fault (Err found) small under e fewer read gives is =
-    let P : FileFault → Type 0 = λ f. GivesTail 5 depth (room + 1) bytes at (Err f) in
+    let P : OrMemory Unreadable → Type 0 = λ f. GivesTail 5 depth (room + 1) bytes at (Err f) in
     subst P (sym is) (fault_there depth below room bytes at count next vs to left fault small under e fewer read gives)

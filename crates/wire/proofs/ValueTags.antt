@@ -8,8 +8,9 @@ use Rattle.wire.specs.Fields.{byte_at, integer_at, bytes_at}
 use Rattle.wire.specs.Readers.{IsBytes}
 use Rattle.wire.specs.Spellings.{IsSpelled, value_spelling, HasWideNumbers}
 use Rattle.wire.specs.ValueReadings.{tag_of, tail_of, IsBounded, IsWithinRoom, GivesValue, GivesTail}
-use Rattle.wire.specs.declared.fault.FileFault.{FileFault}
-use Rattle.wire.specs.declared.fault.FileFault.TheVariants.{Memory, Unreadable}
+use Rattle.basis.specs.declared.or_memory.OrMemory.{OrMemory}
+use Rattle.basis.specs.declared.or_memory.OrMemory.TheVariants.{Memory, Other}
+use Rattle.wire.specs.declared.fault.Unreadable.{Unreadable}
 use Rattle.wire.specs.declared.value_reading.Part.{Part}
 use Rattle.wire.proofs.Spelled.{joined, pair_is}
 use Rattle.wire.proofs.NumberFields.{integer_reader, bytes_reader}
@@ -50,18 +51,18 @@ from_tag bytes at tag next d end' e same p =
     subst Here (sym (by_tag d)) (joined bytes (tag_of d ∷ []) (tail_of d) at next end' (subst Tag same (byte_found bytes at tag next e)) p)
 
 -- what is read behind the tag is read at the tag
-pub tail_gives : (bytes : List ℕ) (at tag next depth room left : ℕ) (r : Result Part FileFault) → byte_at bytes at ≡ Some (tag, next) → left + 1 ≡ room → GivesTail tag depth (left + 1) bytes next r → GivesValue depth room bytes at r
+pub tail_gives : (bytes : List ℕ) (at tag next depth room left : ℕ) (r : Result Part (OrMemory Unreadable)) → byte_at bytes at ≡ Some (tag, next) → left + 1 ≡ room → GivesTail tag depth (left + 1) bytes next r → GivesValue depth room bytes at r
 tail_gives bytes at tag next depth room left (Ok part) e same g =
     let Room : ℕ → Type 0 = λ n. IsWithinRoom depth n part in
     (from_tag bytes at tag next part.value part.next e g.0 g.1.0, subst Room same g.1.1)
 tail_gives bytes at tag next depth room left (Err Memory) e same g = tt
-tail_gives bytes at tag next depth room left (Err (Unreadable place)) e same g =
+tail_gives bytes at tag next depth room left (Err (Other place)) e same g =
     λ d end' bound p.
     let here = at_tag bytes at tag next d end' e p in
     let Room : ℕ → Type 0 = λ n. IsBounded depth n d in
     g d end' here.0 (subst Room (sym same) bound) here.1
 
-pub tagged_gives : (bytes : List ℕ) (at tag t next depth room left : ℕ) (r : Result Part FileFault) → byte_at bytes at ≡ Some (tag, next) → tag ≡ t → left + 1 ≡ room → GivesTail t depth (left + 1) bytes next r → GivesValue depth room bytes at r
+pub tagged_gives : (bytes : List ℕ) (at tag t next depth room left : ℕ) (r : Result Part (OrMemory Unreadable)) → byte_at bytes at ≡ Some (tag, next) → tag ≡ t → left + 1 ≡ room → GivesTail t depth (left + 1) bytes next r → GivesValue depth room bytes at r
 tagged_gives bytes at tag t next depth room left r e same sum g =
     let Tail : ℕ → Type 0 = λ n. GivesTail n depth (left + 1) bytes next r in
     tail_gives bytes at tag next depth room left r e sum (subst Tail (sym same) g)
@@ -81,16 +82,16 @@ no_room depth room d none bound =
     omega (arith, size_some d)
 
 -- where nothing is, the fault is right
-pub value_fault : (depth room : ℕ) (bytes : List ℕ) (at place : ℕ) (r : Result Part FileFault) → IsErrAnd r (λ e. e ≡ Unreadable place) → ((d : Datum) (next : ℕ) → IsBounded depth room d → IsSpelled bytes at (value_spelling d) next → ⊥) → GivesValue depth room bytes at r
+pub value_fault : (depth room : ℕ) (bytes : List ℕ) (at : ℕ) (place : Unreadable) (r : Result Part (OrMemory Unreadable)) → IsErrAnd r (λ e. e ≡ Other place) → ((d : Datum) (next : ℕ) → IsBounded depth room d → IsSpelled bytes at (value_spelling d) next → ⊥) → GivesValue depth room bytes at r
 value_fault depth room bytes at place (Ok part) e none = absurd e
 value_fault depth room bytes at place (Err fault) e none =
-    let P : FileFault → Type 0 = λ f. GivesValue depth room bytes at (Err f) in
+    let P : OrMemory Unreadable → Type 0 = λ f. GivesValue depth room bytes at (Err f) in
     subst P (sym e) none
 
-pub tail_fault : (tag depth room : ℕ) (bytes : List ℕ) (at place : ℕ) (r : Result Part FileFault) → IsErrAnd r (λ e. e ≡ Unreadable place) → ((d : Datum) (next : ℕ) → tag ≡ tag_of d → IsBounded depth room d → IsSpelled bytes at (tail_of d) next → ⊥) → GivesTail tag depth room bytes at r
+pub tail_fault : (tag depth room : ℕ) (bytes : List ℕ) (at : ℕ) (place : Unreadable) (r : Result Part (OrMemory Unreadable)) → IsErrAnd r (λ e. e ≡ Other place) → ((d : Datum) (next : ℕ) → tag ≡ tag_of d → IsBounded depth room d → IsSpelled bytes at (tail_of d) next → ⊥) → GivesTail tag depth room bytes at r
 tail_fault tag depth room bytes at place (Ok part) e none = absurd e
 tail_fault tag depth room bytes at place (Err fault) e none =
-    let P : FileFault → Type 0 = λ f. GivesTail tag depth room bytes at (Err f) in
+    let P : OrMemory Unreadable → Type 0 = λ f. GivesTail tag depth room bytes at (Err f) in
     subst P (sym e) none
 
 not_both : {B : Type 0} (o : Option B) (x : B) → o ≡ None → o ≡ Some x → ⊥

@@ -4,20 +4,18 @@ use Rattle.std.specs.Int.{Width, w32, w64, byte_len, from_be_bytes, cast_signed}
 use Rattle.basis.specs.Options.{◌>>=◌}
 use Rattle.script_tree.specs.declared.operation.Choice.{Choice}
 use Rattle.script_tree.specs.declared.operation.Choice.TheVariants.{Nothing, Number}
-use Rattle.wire.specs.declared.fault.FileFault.{FileFault}
-use Rattle.wire.specs.declared.fault.FileFault.TheVariants.{Memory, Unreadable}
-use Rattle.wire.specs.declared.fault.WireFault.{WireFault}
+use Rattle.basis.specs.UnlessMemory.{UnlessMemory}
+use Rattle.basis.specs.declared.or_memory.OrMemory.{OrMemory}
+use Rattle.wire.specs.declared.fault.Unreadable.{Unreadable}
 
 -- What is read, seen by `view`, is what is spelled; a fault means that nothing is spelled at the place that it names.
-abbrev pub Reads : {X Y : Type 0} → (X → Y) → ℕ → Result X WireFault → Option Y → Type 0
+abbrev pub Reads : {X Y : Type 0} → (X → Y) → ℕ → Result X Unreadable → Option Y → Type 0
 Reads view at (Ok x) spelled = spelled ≡ Some (view x)
 Reads view at (Err fault) spelled = (spelled ≡ None) × (fault.at ≡ at)
 
 -- The same, where memory may run out.
-abbrev pub Takes : {X Y : Type 0} → (X → Y) → Result X FileFault → Option Y → Type 0
-Takes view (Ok x) spelled = spelled ≡ Some (view x)
-Takes view (Err Memory) spelled = Unit {0}
-Takes view (Err (Unreadable at)) spelled = spelled ≡ None
+abbrev pub Takes : {X Y : Type 0} → (X → Y) → Result X (OrMemory Unreadable) → Option Y → Type 0
+Takes view result spelled = UnlessMemory (λ x. spelled ≡ Some (view x)) (λ fault. spelled ≡ None) result
 
 -- the next place is behind this one and not behind the end
 abbrev pub IsWithin : List ℕ → ℕ → ℕ → Type 0
@@ -69,9 +67,3 @@ record_at reads bytes at = do
   payload ← bytes_at bytes at
   item ← reads payload.0
   Some (item, payload.1)
-
--- What is read of the record at a place is what it spells; a fault means that it spells nothing, and names its place.
-abbrev pub TakesRecord : {A : Type 0} → (List ℕ → Option A) → List ℕ → ℕ → Result (A × ℕ) FileFault → Type 0
-TakesRecord reads bytes at (Ok x) = record_at reads bytes at ≡ Some x
-TakesRecord reads bytes at (Err Memory) = Unit {0}
-TakesRecord reads bytes at (Err (Unreadable place)) = (record_at reads bytes at ≡ None) × (place ≡ at)

@@ -1,8 +1,10 @@
 -- A file: a magic, then records up to the end.
-use Rattle.std.specs.Prelude.{◌≡◌, ℕ, ◌+◌, ◌<◌, ◌≤◌, List, [], ◌∷◌, ◌++◌, length, Result, Ok, Err, ◌⊎◌}
+use Rattle.std.specs.Prelude.{◌≡◌, ℕ, ◌+◌, ◌<◌, ◌≤◌, List, [], ◌∷◌, ◌++◌, length, Option, Some, None, Result, Ok, Err, ◌⊎◌}
 use Rattle.wire.specs.Spellings.{Field, IsSpelled, IsFieldAt, bytes_spelling, framed, HasOneSpelling}
-use Rattle.wire.specs.declared.fault.FileFault.{FileFault}
-use Rattle.wire.specs.declared.fault.FileFault.TheVariants.{Memory, Unreadable}
+use Rattle.basis.specs.UnlessMemory.{UnlessMemory}
+use Rattle.basis.specs.declared.or_memory.OrMemory.{OrMemory}
+use Rattle.wire.specs.declared.fault.Unreadable.{Unreadable}
+use Rattle.wire.specs.declared.fault.PastLimit.{PastLimit}
 
 -- a kind of file: its magic, how the payload of a record is spelled, and which one may stand behind which records
 pub record Format (A : Type 0) : Type 1 where
@@ -55,10 +57,23 @@ abbrev pub IsFault : {A : Type 0} → Format A → List ℕ → ℕ → Type 0
 IsFault format bytes at = (¬ HasMagic format bytes × (at ≡ 0)) ⊎ IsBadRecord format bytes at
 
 -- the records of the file, or its fault, unless memory ran out
-abbrev pub Decodes : {A : Type 0} → Format A → List ℕ → Result (List A) FileFault → Type 0
-Decodes format bytes (Ok items) = Spells format bytes items
-Decodes format bytes (Err Memory) = Unit {0}
-Decodes format bytes (Err (Unreadable at)) = IsFault format bytes at
+abbrev pub Decodes : {A : Type 0} → Format A → List ℕ → Result (List A) (OrMemory Unreadable) → Type 0
+Decodes format bytes result = UnlessMemory (Spells format bytes) (λ fault. IsFault format bytes fault.at) result
+
+-- The payload of a record that may stand behind these is read as the item that it spells; a fault means that it spells none.
+abbrev pub TakesPayload : {A : Type 0} → Format A → List A → List ℕ → Result A (OrMemory Unreadable) → Type 0
+TakesPayload {A} format before payload result =
+    UnlessMemory (λ x. format.allows before x × (payload ≡ format.payload x)) (λ fault. (x : A) → format.allows before x → payload ≡ format.payload x → ⊥) result
+
+-- what is left of the room behind the spelling, or nothing where the spelling is longer
+abbrev pub LeavesRoom : ℕ → List ℕ → Option ℕ → Type 0
+LeavesRoom room spelling None = room < length spelling
+LeavesRoom room spelling (Some left) = left + length spelling ≡ room
+
+-- how many bytes the payload of a record has that fits into the room, or nothing where the record is longer
+abbrev pub HasLen : ℕ → List ℕ → Option ℕ → Type 0
+HasLen room payload None = room < length (bytes_spelling payload)
+HasLen room payload (Some len) = (len ≡ length payload) × (len + 4 ≤ room)
 
 -- Of these items, the first whose record would end behind the limit has its record here.
 pub record IsBeyond {A : Type 0} (format : Format A) (limit : ℕ) (items : List A) (at : ℕ) : Type 0 where
@@ -70,17 +85,17 @@ pub record IsBeyond {A : Type 0} (format : Format A) (limit : ℕ) (items : List
   pub within : at ≤ limit
   pub beyond : limit < at + length (record_spelling format item)
 
+-- The file has these items, and is within the limit.
+abbrev pub IsFileWithin : {A : Type 0} → Format A → ℕ → List A → List ℕ → Type 0
+IsFileWithin format limit items bytes = (bytes ≡ file_spelling format items) × (length bytes ≤ limit)
+
 -- the file of these items, seen by `view`, or where it would pass the limit, unless memory ran out
-abbrev pub Encodes : {A X : Type 0} → (X → List ℕ) → Format A → ℕ → List A → Result X FileFault → Type 0
-Encodes view format limit items (Ok bytes) = (view bytes ≡ file_spelling format items) × (length (view bytes) ≤ limit)
-Encodes view format limit items (Err Memory) = Unit {0}
-Encodes view format limit items (Err (Unreadable at)) = IsBeyond format limit items at
+abbrev pub Encodes : {A X : Type 0} → (X → List ℕ) → Format A → ℕ → List A → Result X (OrMemory PastLimit) → Type 0
+Encodes view format limit items result = UnlessMemory (λ out. IsFileWithin format limit items (view out)) (λ fault. IsBeyond format limit items fault.at) result
 
 -- what decoding the file of these items gives: them again, unless memory ran out
-abbrev pub GivesBack : {A : Type 0} → List A → Result (List A) FileFault → Type 0
-GivesBack items (Ok found) = found ≡ items
-GivesBack items (Err Memory) = Unit {0}
-GivesBack items (Err (Unreadable at)) = ⊥
+abbrev pub GivesBack : {A : Type 0} → List A → Result (List A) (OrMemory Unreadable) → Type 0
+GivesBack items result = UnlessMemory (λ found. found ≡ items) (λ fault. ⊥) result
 
 -- No record is spelled as another, and none begins another; a file has one list of records at most, and none where it has a fault; it has one fault at most; and what is encoded is decoded again.
 pub record IsExact {A : Type 0} (format : Format A) : Type 0 where
@@ -88,4 +103,4 @@ pub record IsExact {A : Type 0} (format : Format A) : Type 0 where
   pub one_reading : (bytes : List ℕ) (xs ys : List A) → Spells format bytes xs → Spells format bytes ys → xs ≡ ys
   pub one_fault : (bytes : List ℕ) (at at' : ℕ) → IsFault format bytes at → IsFault format bytes at' → at ≡ at'
   pub no_reading_at_fault : (bytes : List ℕ) (at : ℕ) (xs : List A) → IsFault format bytes at → Spells format bytes xs → ⊥
-  pub gives_back : (xs : List A) (r : Result (List A) FileFault) → MayFollow format [] xs → Decodes format (file_spelling format xs) r → GivesBack xs r
+  pub gives_back : (xs : List A) (r : Result (List A) (OrMemory Unreadable)) → MayFollow format [] xs → Decodes format (file_spelling format xs) r → GivesBack xs r

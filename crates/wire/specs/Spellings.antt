@@ -3,9 +3,9 @@ use Rattle.std.specs.Prelude.{◌≡◌, ℕ, ◌+◌, ◌<◌, ◌^◌, ℤ, Li
 use Rattle.std.specs.Int.{Width, w16, w32, w64, byte_len, to_be_bytes, cast_unsigned}
 use Rattle.std.specs.Int.RustNames.{FitsSigned}
 use Rattle.script_tree.specs.Datum.{Datum, null, bool, number, text, list, Data, none, more, members, IsWithinLimits}
-use Rattle.wire.specs.declared.fault.FileFault.{FileFault}
-use Rattle.wire.specs.declared.fault.WireFault.{WireFault}
-use Rattle.wire.specs.declared.fault.FileFault.TheVariants.{Memory, Unreadable}
+use Rattle.basis.specs.UnlessMemory.{UnlessMemory}
+use Rattle.basis.specs.declared.or_memory.OrMemory.{OrMemory}
+use Rattle.wire.specs.declared.fault.Unreadable.{Unreadable}
 use Rattle.script_tree.specs.declared.operation.Choice.{Choice}
 use Rattle.script_tree.specs.declared.operation.Choice.TheVariants.{Nothing, Number}
 
@@ -109,13 +109,19 @@ pub record IsFront (old new : List ℕ) : Type 0 where
   pub rest : List ℕ
   pub is : new ≡ old ++ rest
 
--- What is read, seen by `view`, is the field at the place; a fault names the place, and no field of the kind stands there.
-abbrev pub ReadsField : {A X : Type 0} → (X → A) → Field A → List ℕ → ℕ → Result (X × ℕ) WireFault → Type 0
-ReadsField view field bytes at (Ok x) = IsFieldAt field bytes at (view x.0) x.1
-ReadsField {A} view field bytes at (Err fault) = (fault.at ≡ at) × ((x : A) (next : ℕ) → IsFieldAt field bytes at x next → ⊥)
+-- Nothing of the kind stands at the place.
+abbrev pub NoneIsAt : {A : Type 0} → Field A → List ℕ → ℕ → Type 0
+NoneIsAt {A} field bytes at = (x : A) (next : ℕ) → IsFieldAt field bytes at x next → ⊥
 
--- The same, where memory may run out.
-abbrev pub TakesField : {A X : Type 0} → (X → A) → Field A → List ℕ → ℕ → Result (X × ℕ) FileFault → Type 0
-TakesField view field bytes at (Ok x) = IsFieldAt field bytes at (view x.0) x.1
-TakesField view field bytes at (Err Memory) = Unit {0}
-TakesField {A} view field bytes at (Err (Unreadable place)) = (place ≡ at) × ((x : A) (next : ℕ) → IsFieldAt field bytes at x next → ⊥)
+-- A fault names the place, and no field of the kind stands there.
+abbrev pub IsFaultAt : {A : Type 0} → Field A → List ℕ → ℕ → Unreadable → Type 0
+IsFaultAt field bytes at fault = (fault.at ≡ at) × NoneIsAt field bytes at
+
+-- What is read, seen by `view`, is the field at the place, and where the next one may begin.
+abbrev pub ReadsField : {A X : Type 0} → (X → A) → Field A → List ℕ → ℕ → Result (X × ℕ) Unreadable → Type 0
+ReadsField view field bytes at (Ok x) = IsFieldAt field bytes at (view x.0) x.1
+ReadsField view field bytes at (Err fault) = IsFaultAt field bytes at fault
+
+-- The same, unless memory ran out.
+abbrev pub TakesField : {A X : Type 0} → (X → A) → Field A → List ℕ → ℕ → Result (X × ℕ) (OrMemory Unreadable) → Type 0
+TakesField view field bytes at result = UnlessMemory (λ x. IsFieldAt field bytes at (view x.0) x.1) (IsFaultAt field bytes at) result

@@ -3,8 +3,9 @@ use Rattle.std.specs.Prelude.{◌≡◌, ℕ, ◌+◌, ◌≤◌, List, [], ◌+
 use Rattle.std.specs.Int.{w32, to_be_bytes}
 use Rattle.script_tree.specs.Datum.{Datum, null, bool, number, text, list, members, size, nesting}
 use Rattle.wire.specs.Spellings.{IsSpelled, value_spelling, values_spelling, integer_spelling, bytes_spelling, HasWideNumbers}
-use Rattle.wire.specs.declared.fault.FileFault.{FileFault}
-use Rattle.wire.specs.declared.fault.FileFault.TheVariants.{Memory, Unreadable}
+use Rattle.basis.specs.declared.or_memory.OrMemory.{OrMemory}
+use Rattle.basis.specs.declared.or_memory.OrMemory.TheVariants.{Memory, Other}
+use Rattle.wire.specs.declared.fault.Unreadable.{Unreadable}
 use Rattle.wire.specs.declared.value_reading.Part.{Part}
 
 -- the first byte of a value's spelling, and what stands behind it
@@ -36,13 +37,13 @@ pub record IsWithinRoom (depth room : ℕ) (part : Part) : Type 0 where
   pub sized : part.room + size part.value ≡ room
 
 -- the value at a place, or none of these bounds stands there
-abbrev pub GivesValue : ℕ → ℕ → List ℕ → ℕ → Result Part FileFault → Type 0
+abbrev pub GivesValue : ℕ → ℕ → List ℕ → ℕ → Result Part (OrMemory Unreadable) → Type 0
 GivesValue depth room bytes at (Ok part) = IsSpelled bytes at (value_spelling part.value) part.next × IsWithinRoom depth room part
 GivesValue depth room bytes at (Err Memory) = Unit {0}
-GivesValue depth room bytes at (Err (Unreadable place)) = (d : Datum) (next : ℕ) → IsBounded depth room d → IsSpelled bytes at (value_spelling d) next → ⊥
+GivesValue depth room bytes at (Err (Other fault)) = (d : Datum) (next : ℕ) → IsBounded depth room d → IsSpelled bytes at (value_spelling d) next → ⊥
 
 -- the same behind the value's tag
-abbrev pub GivesTail : ℕ → ℕ → ℕ → List ℕ → ℕ → Result Part FileFault → Type 0
+abbrev pub GivesTail : ℕ → ℕ → ℕ → List ℕ → ℕ → Result Part (OrMemory Unreadable) → Type 0
 GivesTail tag depth room bytes at (Ok part) = (tag ≡ tag_of part.value) × (IsSpelled bytes at (tail_of part.value) part.next × IsWithinRoom depth room part)
 GivesTail tag depth room bytes at (Err Memory) = Unit {0}
-GivesTail tag depth room bytes at (Err (Unreadable place)) = (d : Datum) (next : ℕ) → tag ≡ tag_of d → IsBounded depth room d → IsSpelled bytes at (tail_of d) next → ⊥
+GivesTail tag depth room bytes at (Err (Other fault)) = (d : Datum) (next : ℕ) → tag ≡ tag_of d → IsBounded depth room d → IsSpelled bytes at (tail_of d) next → ⊥

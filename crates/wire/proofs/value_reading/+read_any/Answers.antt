@@ -63,4 +63,4 @@ read_list-loop-preserved t c =
 
 pub read_list-returns : goal.read_list-returns
 read_list-returns t c =
-    list_given c.args.bytes.now c.args.at c.in_ok-count.count c.in_ok-count.next c.args.depth c.in-Some.below c.args.room c.loop.values.items c.loop.place c.loop.left c.list.result (λ i. omega (arith, c.type_inv.bytes i)) c.in_ok-count.ensures.reads (omega (arith, c.loop.invariant.counted, c.loop-test.false, c.loop.auto.counter-end)) (omega (arith, c.in-Some.ensures)) c.loop.invariant.read (c.list.ensures ∙ ap (λ ds. list (data_of ds)) c.from_vec.ensures)
+    list_given c.args.bytes.now c.args.at c.in_ok-count.count c.in_ok-count.next c.args.depth c.in-Some.below c.args.room c.loop.values.items c.loop.place c.loop.left c.list.result (λ i. omega (arith, c.type_inv.bytes i)) c.in_ok-count.ensures.reads (omega (arith, c.loop.invariant.counted, c.loop-test.false, c.loop.auto.counter-end)) (omega (arith, c.in-Some.ensures)) c.loop.invariant.read (c.list.ensures ∙ ap (λ ds. list (data_of ds)) c.in_ok-members.ensures)

@@ -13,4 +13,4 @@ returns-in_default c = λ depth.
 
 pub returns : goal.returns
 returns c = λ depth.
-    text_given c.args.bytes.now c.args.at c.in_ok-text.text.now c.in_ok-text.next depth c.args.room c.in-Some.left c.text.result (λ i. omega (arith, c.type_inv.bytes i)) c.in_ok-text.ensures.reads (omega (arith, c.in-Some.ensures)) (c.text.ensures ∙ ap text (c.from_vec-text.ensures ∙ c.in_ok-from_slice.ensures.items))
+    text_given c.args.bytes.now c.args.at c.in_ok-text.text.now c.in_ok-text.next depth c.args.room c.in-Some.left c.in_ok-value.value (λ i. omega (arith, c.type_inv.bytes i)) c.in_ok-text.ensures.reads (omega (arith, c.in-Some.ensures)) (c.in_ok-value.ensures ∙ ap text (c.from_vec-text.ensures ∙ c.in_ok-from_slice.ensures.items))

@@ -1,14 +1,13 @@
 -- Why a file is read in one way, and one record more.
 use Rattle.std.proofs.Common.{◌≡◌, ℕ, ◌+◌, ◌-◌, ◌<◌, ◌^◌, List, [], ◌∷◌, ◌++◌, length, drop, Result, Ok, Err, inl, inr, ap, sym, ◌∙◌, refl, subst, append_assoc, arith}
 use Rattle.std.proofs.lemmas.List.{append-nil, length-append, length-drop, drop_at}
-use Rattle.wire.specs.Fields.{bytes_at}
-use Rattle.wire.specs.Spellings.{HasOneSpelling, bytes_field}
+use Rattle.wire.specs.Spellings.{HasOneSpelling}
 use Rattle.wire.specs.Files.{Format, record_spelling, records_spelling, file_spelling, record_field, MayFollow, Spells, HasMagic, IsBadRecord, IsFault, Decodes, GivesBack, IsExact}
 use Rattle.basis.specs.declared.or_memory.OrMemory.{OrMemory}
 use Rattle.basis.specs.declared.or_memory.OrMemory.TheVariants.{Memory, Other}
 use Rattle.wire.specs.declared.fault.Unreadable.{Unreadable}
-use Rattle.wire.proofs.Spelled.{has_one, rest_behind}
-use Rattle.wire.proofs.NumberFields.{bytes_reader}
+use Rattle.wire.proofs.OneSpelling.{bytes_one}
+use Rattle.wire.proofs.Spelled.{rest_behind}
 
 -- Payloads that may stand behind the same records are told apart.
 abbrev pub HasOnePayload : {A : Type 0} → Format A → Type 0
@@ -16,7 +15,7 @@ HasOnePayload {A} format = (before : List A) (x y : A) → format.allows before 
 
 pub record_one : {A : Type 0} (format : Format A) → HasOnePayload format → (before : List A) → HasOneSpelling (record_field format before)
 record_one format one before x y r s p q e =
-    let same : (format.payload x ≡ format.payload y) × (r ≡ s) = has_one bytes_field bytes_at bytes_reader (format.payload x) (format.payload y) r s p.1 q.1 e in
+    let same : (format.payload x ≡ format.payload y) × (r ≡ s) = bytes_one (format.payload x) (format.payload y) r s p.1 q.1 e in
     (one before x y p.0 q.0 p.1 q.1 same.0, same.1)
 
 -- nothing that may stand behind these records begins so

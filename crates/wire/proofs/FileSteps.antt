@@ -8,64 +8,13 @@ use Rattle.std.proofs.lemmas.Bool.Decides.{Decides-eqb}
 use Rattle.std.proofs.lemmas.Slice.Eq.{starts_is}
 use Rattle.basis.proofs.Booleans.{true_false}
 use Rattle.basis.specs.Options.{◌>>=◌}
-use Rattle.wire.specs.Fields.{bytes_at, whole_of, record_at}
-use Rattle.wire.specs.Readers.{IsBytes, IsReader}
 use Rattle.wire.specs.Spellings.{Field, IsSpelled, IsFieldAt, HasOneSpelling, framed, bytes_spelling}
 use Rattle.wire.specs.Files.{Format, record_spelling, records_spelling, file_spelling, payload_field, record_field, MayFollow, IsBadRecord, IsFault, Decodes, IsBeyond}
 use Rattle.wire.proofs.Spelled.{joined, at_front, ends_inside}
 use Rattle.std.specs.Int.{w32, to_be_bytes}
-use Rattle.wire.proofs.NumberFields.{bind_some, some_one, bytes_found, bytes_only, bytes_are_bytes}
 use Rattle.wire.proofs.FileLaws.{HasOnePayload}
 
 -- ---- payloads
-
-whole_found : {A : Type 0} (field : Field A) (read : List ℕ → ℕ → Option (A × ℕ)) → IsReader field read → (bytes : List ℕ) (x : A) → IsBytes bytes → whole_of read bytes ≡ Some x → field.allows x × (bytes ≡ field.spelling x)
-whole_found {A} field read reader bytes x fits e =
-    let b = bind_some (read bytes 0) (λ (y : A × ℕ). cond (eqb y.1 (length bytes)) (Some y.0) None) x e in
-    let g = cond_some (eqb b.0.1 (length bytes)) b.0.0 x b.2 in
-    let here = reader.found bytes 0 b.0.0 b.0.1 fits b.1 in
-    let end' : drop b.0.1 bytes ≡ [] = drop_all b.0.1 bytes (omega (arith, eqb-true _ _ g.0)) in
-    let all : bytes ≡ field.spelling b.0.0 = here.1.spells ∙ ap (λ (r : List ℕ). field.spelling b.0.0 ++ r) end' ∙ append-nil (field.spelling b.0.0) in
-    subst (λ (y : A). field.allows y × (bytes ≡ field.spelling y)) g.1 (here.0, all)
-
-whole_only : {A : Type 0} (field : Field A) (read : List ℕ → ℕ → Option (A × ℕ)) → IsReader field read → (x : A) → field.allows x → whole_of read (field.spelling x) ≡ Some x
-whole_only {A} field read reader x allowed =
-    let s = field.spelling x in
-    let Here : List ℕ → Type 0 = λ b. IsSpelled b 0 s (length s) in
-    let found : read s 0 ≡ Some (x, length s) = reader.only s 0 x (length s) (allowed, subst Here (append-nil s) (at_front s [])) in
-    let ends : eqb (length s) (length s) ≡ true = eq-eqb (length s) (length s) refl in
-    rw (found, ends) refl
-
-framed_found : {A : Type 0} (field : Field A) (read : List ℕ → ℕ → Option (A × ℕ)) → IsReader field read → (bytes : List ℕ) (at : ℕ) (x : A) (next : ℕ) → IsBytes bytes → record_at (whole_of read) bytes at ≡ Some (x, next) → IsFieldAt (framed field) bytes at x next
-framed_found {A} field read reader bytes at x next fits e =
-    let b = bind_some (bytes_at bytes at) (λ (p : List ℕ × ℕ). whole_of read p.0 >>= λ (item : A). Some (item, p.1)) (x, next) e in
-    let c = bind_some (whole_of read b.0.0) (λ (item : A). Some (item, b.0.1)) (x, next) b.2 in
-    let made : A × ℕ = (c.0, b.0.1) in
-    let same : made ≡ (x, next) = some_one made (x, next) c.2 in
-    let outer = bytes_found bytes at b.0.0 b.0.1 fits b.1 in
-    let inner = whole_found field read reader b.0.0 c.0 (bytes_are_bytes bytes at b.0.0 b.0.1 fits b.1) c.1 in
-    let Here : List ℕ → Type 0 = λ p. (length p < 2 ^ 32) × IsSpelled bytes at (bytes_spelling p) b.0.1 in
-    let there = subst Here inner.1 outer in
-    subst (λ (p : A × ℕ). IsFieldAt (framed field) bytes at p.0 p.1) same ((inner.0, there.0), there.1)
-
-framed_only : {A : Type 0} (field : Field A) (read : List ℕ → ℕ → Option (A × ℕ)) → IsReader field read → (bytes : List ℕ) (at : ℕ) (x : A) (next : ℕ) → IsFieldAt (framed field) bytes at x next → record_at (whole_of read) bytes at ≡ Some (x, next)
-framed_only field read reader bytes at x next ((allowed, short), p) =
-    let outer : bytes_at bytes at ≡ Some (field.spelling x, next) = bytes_only bytes at (field.spelling x) next (short, p) in
-    let inner : whole_of read (field.spelling x) ≡ Some x = whole_only field read reader x allowed in
-    rw (outer, inner) refl
-
--- A record is read by the reader of its payload.
-pub framed_reader : {A : Type 0} (field : Field A) (read : List ℕ → ℕ → Option (A × ℕ)) → IsReader field read → IsReader (framed field) (record_at (whole_of read))
-framed_reader field read reader = record { found = framed_found field read reader; only = framed_only field read reader }
-
-not_both : {B : Type 0} (o : Option B) (x : B) → o ≡ None → o ≡ Some x → ⊥
-not_both o x p q = cc
-
--- where nothing is read, nothing of the kind stands
-pub none_there : {A : Type 0} (field : Field A) (read : List ℕ → ℕ → Option (A × ℕ)) → IsReader field read → (bytes : List ℕ) (at : ℕ) → read bytes at ≡ None → (x : A) (next : ℕ) → IsFieldAt field bytes at x next → ⊥
-none_there {A} field read reader bytes at none x next p =
-    let found : A × ℕ = (x, next) in
-    not_both (read bytes at) found none (reader.only bytes at x next p)
 
 pub one_payload : {A : Type 0} (format : Format A) → ((before : List A) → HasOneSpelling (payload_field format before)) → HasOnePayload format
 one_payload format one before x y p q _ _ e =

@@ -1,5 +1,5 @@
 -- How fields are spelled, each in one way, and what it is that a field stands at a place.
-use Rattle.std.specs.Prelude.{◌≡◌, ℕ, ◌+◌, ◌<◌, ◌^◌, ℤ, List, [], ◌∷◌, ◌++◌, length, drop, true, false, Result, Ok, Err}
+use Rattle.std.specs.Prelude.{◌≡◌, ℕ, ◌+◌, ◌<◌, ◌≤◌, ◌^◌, ℤ, List, [], ◌∷◌, ◌++◌, length, drop, true, false, Result, Ok, Err}
 use Rattle.std.specs.Int.{Width, w16, w32, w64, byte_len, to_be_bytes, cast_unsigned}
 use Rattle.std.specs.Int.RustNames.{FitsSigned}
 use Rattle.script_tree.specs.Datum.{Datum, null, bool, number, text, list, Data, none, more, members, IsWithinLimits}
@@ -88,6 +88,10 @@ pub record IsSpelled (bytes : List ℕ) (at : ℕ) (spelling : List ℕ) (next :
 abbrev pub IsFieldAt : {A : Type 0} → Field A → List ℕ → ℕ → A → ℕ → Type 0
 IsFieldAt field bytes at x next = field.allows x × IsSpelled bytes at (field.spelling x) next
 
+-- The next place is behind this one and not behind the end.
+abbrev pub IsWithin : List ℕ → ℕ → ℕ → Type 0
+IsWithin bytes at next = (at < next) × (next ≤ length bytes)
+
 -- No two things of the kind are spelled alike, and no spelling begins another.
 abbrev pub HasOneSpelling : {A : Type 0} → Field A → Type 0
 HasOneSpelling {A} field =
@@ -125,3 +129,7 @@ ReadsField view field bytes at (Err fault) = IsFaultAt field bytes at fault
 -- The same, unless memory ran out.
 abbrev pub TakesField : {A X : Type 0} → (X → A) → Field A → List ℕ → ℕ → Result (X × ℕ) (OrMemory Unreadable) → Type 0
 TakesField view field bytes at result = UnlessMemory (λ x. IsFieldAt field bytes at (view x.0) x.1) (IsFaultAt field bytes at) result
+
+-- The same of a part of a record: a fault may name another place.
+abbrev pub TakesPart : {A X : Type 0} → (X → A) → Field A → List ℕ → ℕ → Result (X × ℕ) (OrMemory Unreadable) → Type 0
+TakesPart view field bytes at result = UnlessMemory (λ x. IsFieldAt field bytes at (view x.0) x.1) (λ fault. NoneIsAt field bytes at) result

@@ -1,14 +1,12 @@
 ghost use Rattle.std.specs.Prelude.{◌≡◌, ◌<◌, ◌≤◌, IfOk, length};
 ghost use Rattle.std.specs.Int.{w16, w32, w64};
-ghost use Rattle.wire.specs.Spellings.{ReadsField, byte_field, number_field, integer_field, bytes_field, choice_field};
-ghost use Rattle.wire.specs.Fields.{Reads, IsWithin, byte_at, number_at, integer_at, bytes_at, choice_at};
+ghost use Rattle.wire.specs.Spellings.{ReadsField, IsWithin, byte_field, number_field, integer_field, bytes_field, choice_field};
 
 use crate::fault::Unreadable;
 use script_tree::operation::Choice;
 
 pub fn read_u8(bytes: &[u8], at: usize) -> Result<(u8, usize), Unreadable>
     ensures field { ReadsField (λ x. x) byte_field bytes.now at result }
-    ensures reads { Reads (λ x. x) at result (byte_at bytes.now at) }
     ensures within { IfOk result (λ x. IsWithin bytes.now at x.1) }
 {
     match bytes.get(at) {
@@ -19,7 +17,6 @@ pub fn read_u8(bytes: &[u8], at: usize) -> Result<(u8, usize), Unreadable>
 
 pub fn read_u16(bytes: &[u8], at: usize) -> Result<(u16, usize), Unreadable>
     ensures field { ReadsField (λ x. x) (number_field w16) bytes.now at result }
-    ensures reads { Reads (λ x. x) at result (number_at w16 bytes.now at) }
     ensures within { IfOk result (λ x. IsWithin bytes.now at x.1) }
 {
     match bytes.get(at..) {
@@ -30,7 +27,6 @@ pub fn read_u16(bytes: &[u8], at: usize) -> Result<(u16, usize), Unreadable>
 
 pub fn read_u32(bytes: &[u8], at: usize) -> Result<(u32, usize), Unreadable>
     ensures field { ReadsField (λ x. x) (number_field w32) bytes.now at result }
-    ensures reads { Reads (λ x. x) at result (number_at w32 bytes.now at) }
     ensures within { IfOk result (λ x. IsWithin bytes.now at x.1) }
 {
     match bytes.get(at..) {
@@ -41,7 +37,6 @@ pub fn read_u32(bytes: &[u8], at: usize) -> Result<(u32, usize), Unreadable>
 
 pub fn read_u64(bytes: &[u8], at: usize) -> Result<(u64, usize), Unreadable>
     ensures field { ReadsField (λ x. x) (number_field w64) bytes.now at result }
-    ensures reads { Reads (λ x. x) at result (number_at w64 bytes.now at) }
     ensures within { IfOk result (λ x. IsWithin bytes.now at x.1) }
 {
     match bytes.get(at..) {
@@ -55,7 +50,6 @@ pub fn read_u64(bytes: &[u8], at: usize) -> Result<(u64, usize), Unreadable>
 
 pub fn read_i64(bytes: &[u8], at: usize) -> Result<(i64, usize), Unreadable>
     ensures field { ReadsField (λ x. x) integer_field bytes.now at result }
-    ensures reads { Reads (λ x. x) at result (integer_at bytes.now at) }
     ensures within { IfOk result (λ x. IsWithin bytes.now at x.1) }
 {
     let (number, next) = read_u64(bytes, at)?;
@@ -65,7 +59,6 @@ pub fn read_i64(bytes: &[u8], at: usize) -> Result<(i64, usize), Unreadable>
 /// The bytes are a part of the slice.
 pub fn read_bytes(bytes: &[u8], at: usize) -> Result<(&[u8], usize), Unreadable>
     ensures field { ReadsField (λ x. x.now) bytes_field bytes.now at result }
-    ensures reads { Reads (λ x. (x.0.now, x.1)) at result (bytes_at bytes.now at) }
     ensures within { IfOk result (λ x. IsWithin bytes.now at x.1) }
 {
     let (len, start) = read_u32(bytes, at)?;
@@ -79,7 +72,6 @@ pub fn read_bytes(bytes: &[u8], at: usize) -> Result<(&[u8], usize), Unreadable>
 /// The payload of the record at a place, a part of the slice, and the place of the next record.
 pub fn frame(bytes: &[u8], at: usize) -> Result<(&[u8], usize), Unreadable>
     ensures field { ReadsField (λ x. x.now) bytes_field bytes.now at result }
-    ensures reads { Reads (λ x. (x.0.now, x.1)) at result (bytes_at bytes.now at) }
     ensures within { IfOk result (λ x. IsWithin bytes.now at x.1) }
 {
     read_bytes(bytes, at)
@@ -87,7 +79,6 @@ pub fn frame(bytes: &[u8], at: usize) -> Result<(&[u8], usize), Unreadable>
 
 pub fn read_choice(bytes: &[u8], at: usize) -> Result<(Choice, usize), Unreadable>
     ensures field { ReadsField (λ x. x) choice_field bytes.now at result }
-    ensures reads { Reads (λ x. x) at result (choice_at bytes.now at) }
     ensures within { IfOk result (λ x. IsWithin bytes.now at x.1) }
 {
     match read_u8(bytes, at)? {

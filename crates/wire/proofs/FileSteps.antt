@@ -1,16 +1,20 @@
 -- One record more of a file, read or written.
-use Rattle.std.proofs.Common.{◌≡◌, ℕ, ◌+◌, ◌-◌, ◌<◌, ◌≤◌, ◌^◌, cond, eqb, List, [], ◌∷◌, ◌++◌, length, drop, take, get_or, Option, Some, None, Result, Ok, Err, inr, true, false, Bool, inl, ap, sym, ◌∙◌, refl, subst, append_assoc, arith}
+use Rattle.std.proofs.Common.{◌≡◌, ◌≢◌, ℕ, ◌+◌, ◌-◌, ◌<◌, ◌≤◌, ◌^◌, cond, eqb, List, [], ◌∷◌, ◌++◌, length, drop, take, get_or, Option, Some, None, Result, Ok, Err, inr, true, false, Bool, inl, ap, sym, ◌∙◌, refl, subst, append_assoc, arith}
 use Rattle.std.proofs.lemmas.Bool.{eqb-true, eq-eqb}
 use Rattle.std.proofs.lemmas.List.{append-nil, length-append, drop_all, take_more, drop_more, take-append-drop}
 use Rattle.std.proofs.lemmas.Option.{cond_some}
+use Rattle.std.specs.Prelude.{IsErrAnd}
 use Rattle.std.specs.List.{starts_with}
+use Rattle.basis.specs.declared.or_memory.OrMemory.{OrMemory}
+use Rattle.basis.specs.declared.or_memory.OrMemory.TheVariants.{Memory, Other}
+use Rattle.wire.specs.declared.fault.Unreadable.{Unreadable}
 use Rattle.std.proofs.lemmas.Bool.Decides.{Decides-eqb}
 use Rattle.std.proofs.lemmas.Slice.Eq.{starts_is}
 use Rattle.basis.proofs.Booleans.{true_false}
 use Rattle.basis.specs.Options.{◌>>=◌}
-use Rattle.wire.specs.Spellings.{Field, IsSpelled, IsFieldAt, HasOneSpelling, framed, bytes_spelling}
-use Rattle.wire.specs.Files.{Format, record_spelling, records_spelling, file_spelling, payload_field, record_field, MayFollow, IsBadRecord, IsFault, Decodes, IsBeyond}
-use Rattle.wire.proofs.Spelled.{joined, at_front, ends_inside}
+use Rattle.wire.specs.Spellings.{Field, IsSpelled, IsFieldAt, NoneIsAt, HasOneSpelling, TakesPart}
+use Rattle.wire.specs.Files.{Format, record_spelling, records_spelling, file_spelling, payload_field, record_field, MayFollow, IsBadRecord, IsFault, TakesPayload, IsBeyond}
+use Rattle.wire.proofs.Spelled.{joined, at_front, ends_inside, same_field}
 use Rattle.std.specs.Int.{w32, to_be_bytes}
 use Rattle.wire.proofs.FileLaws.{HasOnePayload}
 
@@ -94,3 +98,37 @@ beyond_here {A} format limit items whole i item at out same lt is so_far at_is w
       within = within;
       beyond = omega arith;
     }
+
+-- ---- whole payloads
+
+pub whole_there : {A : Type 0} (field : Field A) (bytes : List ℕ) (x : A) (next : ℕ) → IsFieldAt field bytes 0 x next → next ≡ length bytes → field.allows x × (bytes ≡ field.spelling x)
+whole_there field bytes x next p end' =
+    let rest : drop next bytes ≡ [] = drop_all next bytes (omega arith) in
+    (p.0, p.1.spells ∙ ap (λ (r : List ℕ). field.spelling x ++ r) rest ∙ append-nil (field.spelling x))
+
+-- what is the whole payload stands at its start
+start_there : {A : Type 0} (field : Field A) (bytes : List ℕ) (x : A) → field.allows x → bytes ≡ field.spelling x → IsFieldAt field bytes 0 x (length bytes)
+start_there field bytes x allowed e =
+    let whole : IsSpelled (field.spelling x ++ []) 0 (field.spelling x) (length (field.spelling x)) = at_front (field.spelling x) [] in
+    let Here : List ℕ → Type 0 = λ b. IsSpelled b 0 (field.spelling x) (length (field.spelling x)) in
+    let End : ℕ → Type 0 = λ n. IsSpelled bytes 0 (field.spelling x) n in
+    (allowed, subst End (sym (ap length e)) (subst Here (append-nil (field.spelling x) ∙ sym e) whole))
+
+pub none_whole : {A : Type 0} (field : Field A) (bytes : List ℕ) → NoneIsAt field bytes 0 → (x : A) → field.allows x → bytes ≡ field.spelling x → ⊥
+none_whole field bytes none x allowed e = none x (length bytes) (start_there field bytes x allowed e)
+
+-- where something ends before the payload does, nothing is the whole payload
+pub not_whole : {A : Type 0} (field : Field A) → HasOneSpelling field → (bytes : List ℕ) (x : A) (next : ℕ) → IsFieldAt field bytes 0 x next → next ≢ length bytes → (y : A) → field.allows y → bytes ≡ field.spelling y → ⊥
+not_whole field one bytes x next p more y allowed e =
+    more (same_field field one bytes 0 x y next (length bytes) p (start_there field bytes y allowed e)).1
+
+-- The fault of a reader of payloads is one of the record.
+pub no_payload : {A : Type 0} (format : Format A) (before : List A) (payload : List ℕ) (fault : OrMemory Unreadable) (r : Result A (OrMemory Unreadable)) → TakesPart {A = A} {X = A} (λ x. x) (payload_field format before) payload 0 (Err fault) → IsErrAnd r (λ e. e ≡ fault) → TakesPayload format before payload r
+no_payload format before payload fault (Ok x) missed is = absurd is
+no_payload {A} format before payload fault (Err e) missed is =
+    let P : OrMemory Unreadable → Type 0 = λ f. TakesPayload {A = A} format before payload (Err f) in
+    subst P (sym is) (go fault missed)
+  where
+    go : (f : OrMemory Unreadable) → TakesPart {A = A} {X = A} (λ x. x) (payload_field format before) payload 0 (Err f) → TakesPayload {A = A} format before payload (Err f)
+    go Memory m = tt
+    go (Other f) m = none_whole (payload_field format before) payload m

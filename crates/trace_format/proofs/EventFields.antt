@@ -10,7 +10,7 @@ use Rattle.script_tree.specs.declared.request.Response.{Response}
 use Rattle.script_tree.specs.declared.trace.TraceEvent.{TraceEvent}
 use Rattle.script_tree.specs.declared.trace.TraceEvent.TheVariants.{Asked, Answered}
 use Rattle.wire.specs.Spellings.{Field, IsSpelled, IsFieldAt, NoneIsAt, HasOneSpelling, TakesPart, byte_field, number_field}
-use Rattle.wire.specs.Files.{TakesPayload, IsExact}
+use Rattle.wire.specs.Files.{TakesPayload, SpellsNone, IsExact}
 use Rattle.wire.proofs.Spelled.{joined, first_part, second_part, same_field}
 use Rattle.wire.proofs.Sequences.{pair_field, both_there, no_first, no_second, pair_one}
 use Rattle.wire.proofs.OneSpelling.{byte_one, one_of_32}
@@ -116,7 +116,7 @@ no_event before asked payload fault r kept missed is =
     let Missed : ℕ → Type 0 = λ n. TakesPart {A = TraceEvent} {X = TraceEvent} (λ x. x) (event_field n) payload 0 (Err fault) in
     no_payload trace_format before payload fault r (subst Missed kept missed) is
 
-pub not_whole_event : (before : List TraceEvent) (asked : ℕ) (payload : List ℕ) (e : TraceEvent) (next : ℕ) → asked ≡ request_count before → IsFieldAt (event_field asked) payload 0 e next → next ≢ length payload → (x : TraceEvent) → IsEvent (request_count before) x → payload ≡ event_spelling x → ⊥
+pub not_whole_event : (before : List TraceEvent) (asked : ℕ) (payload : List ℕ) (e : TraceEvent) (next : ℕ) → asked ≡ request_count before → IsFieldAt (event_field asked) payload 0 e next → next ≢ length payload → SpellsNone trace_format before payload
 not_whole_event before asked payload e next kept here more =
     let Here : ℕ → Type 0 = λ n. IsFieldAt (event_field n) payload 0 e next in
     not_whole (event_field (request_count before)) (event_one (request_count before)) payload e next (subst Here kept here) more

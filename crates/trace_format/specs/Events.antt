@@ -45,7 +45,8 @@ AreParameters (p ∷ ps) = IsParameter p × AreParameters ps
 abbrev pub IsResponse : Response → Type 0
 IsResponse x = (x.status < 2 ^ 16) × (length x.body < 2 ^ 32)
 
--- Behind so many requests it may stand: its numbers have their widths, and a request is within its limits and not one more than a trace may have.
+-- Behind so many requests it may stand: its numbers have their widths, and a request is within its
+-- limits and not one more than a trace may have.
 abbrev pub IsEvent : ℕ → TraceEvent → Type 0
 IsEvent asked (Asked id q) = (id < 2 ^ 32) × (IsRequestWithinLimits q × (asked < MOST_REQUESTS))
 IsEvent asked (Answered id x) = (id < 2 ^ 32) × IsResponse x

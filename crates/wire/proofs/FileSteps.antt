@@ -114,13 +114,13 @@ start_there field bytes x allowed e =
     let End : ℕ → Type 0 = λ n. IsSpelled bytes 0 (field.spelling x) n in
     (allowed, subst End (sym (ap length e)) (subst Here (append-nil (field.spelling x) ∙ sym e) whole))
 
-pub none_whole : {A : Type 0} (field : Field A) (bytes : List ℕ) → NoneIsAt field bytes 0 → (x : A) → field.allows x → bytes ≡ field.spelling x → ⊥
-none_whole field bytes none x allowed e = none x (length bytes) (start_there field bytes x allowed e)
+pub none_whole : {A : Type 0} (field : Field A) (bytes : List ℕ) → NoneIsAt field bytes 0 → (x : A) → ¬ (field.allows x × (bytes ≡ field.spelling x))
+none_whole field bytes none x whole = none x (length bytes) (start_there field bytes x whole.0 whole.1)
 
 -- where something ends before the payload does, nothing is the whole payload
-pub not_whole : {A : Type 0} (field : Field A) → HasOneSpelling field → (bytes : List ℕ) (x : A) (next : ℕ) → IsFieldAt field bytes 0 x next → next ≢ length bytes → (y : A) → field.allows y → bytes ≡ field.spelling y → ⊥
-not_whole field one bytes x next p more y allowed e =
-    more (same_field field one bytes 0 x y next (length bytes) p (start_there field bytes y allowed e)).1
+pub not_whole : {A : Type 0} (field : Field A) → HasOneSpelling field → (bytes : List ℕ) (x : A) (next : ℕ) → IsFieldAt field bytes 0 x next → next ≢ length bytes → (y : A) → ¬ (field.allows y × (bytes ≡ field.spelling y))
+not_whole field one bytes x next p more y whole =
+    more (same_field field one bytes 0 x y next (length bytes) p (start_there field bytes y whole.0 whole.1)).1
 
 -- The fault of a reader of payloads is one of the record.
 pub no_payload : {A : Type 0} (format : Format A) (before : List A) (payload : List ℕ) (fault : OrMemory Unreadable) (r : Result A (OrMemory Unreadable)) → TakesPart {A = A} {X = A} (λ x. x) (payload_field format before) payload 0 (Err fault) → IsErrAnd r (λ e. e ≡ fault) → TakesPayload format before payload r

@@ -1,6 +1,6 @@
-ghost use Rattle.std.specs.Prelude.{List, ℕ, [], ◌∷◌, ◌++◌, ◌≡◌, ◌+◌, ◌≤◌, ◌<◌, ◌^◌, length, IfOk, OnOk};
-ghost use Rattle.wire.specs.Spellings.{TakesField};
-ghost use Rattle.wire.specs.Files.{Decodes, Encodes, LeavesRoom, HasLen, record_field, record_spelling, file_spelling};
+ghost use Rattle.std.specs.Prelude.{◌++◌, ◌≡◌, ◌≤◌, ◌<◌, ◌^◌, length, IfOk, OnOk};
+ghost use Rattle.wire.specs.Files.{TakesRecord, GoesOn, Decodes, Encodes, HasLen};
+ghost use Rattle.wire.specs.Files.{record_spelling, file_spelling};
 
 use crate::fault::{PastLimit, Unreadable};
 use crate::field::frame;
@@ -17,8 +17,8 @@ fn read_record<R: RecordReader>(
     bytes: &[u8],
     at: usize,
 ) -> Result<(R::Item, usize), OrMemory<Unreadable>>
-    ensures takes { (before : List R.Item) → R.HasRead reader.old before → TakesField (λ x. x) (record_field R.format before) bytes.now at result }
-    ensures goes_on { (before : List R.Item) → R.HasRead reader.old before → IfOk result (λ x. R.HasRead reader.new (before ++ x.0 ∷ [])) }
+    ensures takes { TakesRecord R.format R.HasRead reader.old bytes.now at result }
+    ensures goes_on { GoesOn (λ x. x.0) R.HasRead reader.old reader.new result }
 {
     let (payload, next) = frame(bytes, at)?;
     match reader.read(alloc, payload) {

@@ -1,5 +1,5 @@
-ghost use Rattle.std.specs.Prelude.{List, [], ◌∷◌, ◌++◌, ◌≡◌, ◌<◌, ◌^◌, length, IfOk, OnOk};
-ghost use Rattle.wire.specs.Files.{Format, TakesPayload, LeavesRoom};
+ghost use Rattle.std.specs.Prelude.{List, [], ◌++◌, ◌≡◌, ◌<◌, ◌^◌, length, OnOk};
+ghost use Rattle.wire.specs.Files.{Format, TakesNext, GoesOn, LeavesRoom};
 
 use crate::fault::Unreadable;
 use basis::OrMemory;
@@ -25,8 +25,8 @@ pub trait RecordReader: RecordFormat + Drop {
 
     /// The item whose payload this is. It doesn't matter which place a fault names.
     fn read(&mut self, alloc: Global, payload: &[u8]) -> Result<Self::Item, OrMemory<Unreadable>>
-        ensures takes { (before : List Self.Item) → HasRead self.old before → TakesPayload Self.format before payload.now result }
-        ensures goes_on { (before : List Self.Item) → HasRead self.old before → IfOk result (λ x. HasRead self.new (before ++ x ∷ [])) };
+        ensures takes { TakesNext Self.format HasRead self.old payload.now result }
+        ensures goes_on { GoesOn (λ x. x) HasRead self.old self.new result };
 }
 
 /// A writer of the records of a file.

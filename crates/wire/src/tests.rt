@@ -1,5 +1,4 @@
 use crate::fault::Unreadable;
-use basis::OrMemory;
 use crate::field::{
     frame, read_bytes, read_choice, read_i64, read_u8, read_u16, read_u32, read_u64,
 };
@@ -8,6 +7,7 @@ use crate::value_writing::write_value;
 use crate::writing::{
     write_bytes, write_choice, write_i64, write_u8, write_u16, write_u32, write_u64,
 };
+use basis::OrMemory;
 use script_tree::operation::Choice;
 use script_tree::value::{Value, Values};
 use std::test::Fail;

@@ -19,7 +19,11 @@ struct Part {
 }
 
 /// It reads no deeper and no further than the limits of a value, whatever counts are there.
-pub fn read_value(alloc: Global, bytes: &[u8], at: usize) -> Result<(Value, usize), OrMemory<Unreadable>>
+pub fn read_value(
+    alloc: Global,
+    bytes: &[u8],
+    at: usize,
+) -> Result<(Value, usize), OrMemory<Unreadable>>
     ensures { TakesField (λ d. d) value_field bytes.now at result }
 {
     match read_any(alloc, bytes, at, MOST_VALUE_NESTING, MOST_VALUE_SIZE) {
@@ -81,7 +85,12 @@ fn read_number(bytes: &[u8], at: usize, room: u64) -> Result<Part, OrMemory<Unre
 }
 
 /// The text behind its tag.
-fn read_text(alloc: Global, bytes: &[u8], at: usize, room: u64) -> Result<Part, OrMemory<Unreadable>>
+fn read_text(
+    alloc: Global,
+    bytes: &[u8],
+    at: usize,
+    room: u64,
+) -> Result<Part, OrMemory<Unreadable>>
     requires { room ≤ MOST_VALUE_SIZE }
     ensures { (depth : ℕ) → GivesTail 4 depth (room + 1) bytes.now at result }
 {

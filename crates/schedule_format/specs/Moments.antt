@@ -23,4 +23,8 @@ moment_field = record { allows = λ m. IsMoment m; spelling = λ m. moment_spell
 
 -- any moments, in any order
 abbrev pub schedule_format : Format Moment
-schedule_format = record { magic = codes "SSCOSCH1"; payload = λ m. moment_spelling m; allows = λ before m. IsMoment m }
+schedule_format = record {
+  magic = codes "SSCOSCH1";
+  payload = λ m. moment_spelling m;
+  allows = λ before m. IsMoment m;
+}

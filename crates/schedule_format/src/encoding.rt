@@ -1,15 +1,17 @@
-ghost use Rattle.std.specs.Prelude.{◌≡◌, ◌++◌, ◌<◌, ◌^◌, length, OnOk, IfOk};
-ghost use Rattle.wire.specs.Files.{file_spelling, record_spelling};
+ghost use Rattle.std.specs.Prelude.{◌≡◌, ◌++◌, length, OnOk, IfOk};
+ghost use Rattle.wire.specs.Files.{file_spelling};
 ghost use Rattle.schedule_format.specs.Moments.{schedule_format, moment_spelling};
 
-use crate::decoding::MAGIC;
+use crate::format::Moments;
 use script_tree::operation::Choice;
 use script_tree::schedule::{Moment, Schedule};
 use std::alloc::{AllocError, Global};
+use wire::file::write_file;
+use wire::record::RecordWriter;
 use wire::writing::{write_choice, write_u8, write_u32};
 
 /// How many bytes the payload of a moment's record has.
-fn payload_len(moment: Moment) -> u32
+fn payload_len(moment: Moment) -> usize
     ensures { result ≡ length (moment_spelling moment) }
 {
     match moment {
@@ -39,21 +41,19 @@ fn write_moment(out: &mut Vec<u8>, moment: Moment) -> Result<(), AllocError>
     }
 }
 
-fn write_record(out: &mut Vec<u8>, moment: Moment) -> Result<(), AllocError>
-    ensures { OnOk result (out.new.items ≡ out.old.items ++ record_spelling schedule_format moment) }
-{
-    write_u32(out, payload_len(moment))?;
-    write_moment(out, moment)
+impl RecordWriter for Moments {
+    fn room_behind(room: usize, moment: &Moment) -> Option<usize> {
+        room.checked_sub(payload_len(*moment))
+    }
+
+    fn write(out: &mut Vec<u8>, moment: &Moment) -> Result<(), AllocError> {
+        write_moment(out, *moment)
+    }
 }
 
 /// The file that spells the schedule.
 pub fn encode(alloc: Global, schedule: &Schedule) -> Result<Vec<u8>, AllocError>
     ensures { IfOk result (λ bytes. bytes.items ≡ file_spelling schedule_format schedule.now) }
 {
-    let moments = schedule.as_slice();
-    let mut out = Vec::from_slice(alloc, MAGIC)?;
-    for moment in moments {
-        write_record(&mut out, *moment)?;
-    }
-    Ok(out)
+    write_file::<Moments>(alloc, schedule)
 }

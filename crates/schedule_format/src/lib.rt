@@ -3,5 +3,6 @@
 
 pub mod decoding;
 pub mod encoding;
+mod format;
 #[cfg(test)]
 mod tests;

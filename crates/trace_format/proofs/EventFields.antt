@@ -1,92 +1,125 @@
--- An event is found where it is spelled.
-use Rattle.std.proofs.Common.{◌≡◌, ℕ, ◌+◌, true, cond, eqb, ltb, List, [], ◌∷◌, ◌++◌, Option, Some, None, refl, sym, subst, inl, inr}
-use Rattle.std.specs.Int.{w32, to_be_bytes}
-use Rattle.std.proofs.lemmas.Bool.{eqb-true, ltb-true, lt-ltb}
+-- Events at a place: no two are spelled alike, and none stands where a part of it is missed.
+use Rattle.std.proofs.Common.{◌≡◌, ◌≢◌, ℕ, ◌+◌, ◌<◌, ◌^◌, List, Result, Err, ◌∷◌, ◌++◌, length, refl, sym, ap, subst, ◌∙◌, arith}
+use Rattle.std.specs.Int.{w32}
+use Rattle.std.specs.Prelude.{IsErrAnd}
+use Rattle.basis.specs.declared.or_memory.OrMemory.{OrMemory}
+use Rattle.wire.specs.declared.fault.Unreadable.{Unreadable}
+use Rattle.script_tree.specs.declared.limits.TheConstants.{MOST_REQUESTS}
 use Rattle.script_tree.specs.Requests.{Request}
 use Rattle.script_tree.specs.declared.request.Response.{Response}
 use Rattle.script_tree.specs.declared.trace.TraceEvent.{TraceEvent}
 use Rattle.script_tree.specs.declared.trace.TraceEvent.TheVariants.{Asked, Answered}
-use Rattle.basis.specs.Options.{◌>>=◌}
-use Rattle.wire.specs.Fields.{byte_at, number_at, whole_of, record_at}
-use Rattle.wire.specs.Readers.{IsBytes, IsReader}
-use Rattle.wire.specs.Spellings.{IsSpelled, IsFieldAt, number_field, framed}
-use Rattle.wire.specs.Files.{IsExact, record_field}
-use Rattle.wire.proofs.Spelled.{joined, first_part, second_part, has_one}
-use Rattle.wire.proofs.NumberFields.{bind_some, some_one, wide32, number_found, number_only}
-use Rattle.wire.proofs.ChoiceFields.{byte_found, byte_only, behind_byte, chosen}
+use Rattle.wire.specs.Spellings.{Field, IsSpelled, IsFieldAt, NoneIsAt, HasOneSpelling, TakesPart, byte_field, number_field}
+use Rattle.wire.specs.Files.{TakesPayload, SpellsNone, IsExact}
+use Rattle.wire.proofs.Spelled.{joined, first_part, second_part, same_field}
+use Rattle.wire.proofs.Sequences.{pair_field, both_there, no_first, no_second, pair_one}
+use Rattle.wire.proofs.OneSpelling.{byte_one, one_of_32}
 use Rattle.wire.proofs.FileLaws.{file_is_exact}
-use Rattle.wire.proofs.FileSteps.{one_payload, framed_reader}
-use Rattle.trace_format.specs.Events.{event_field, request_spelling, response_spelling, request_count, trace_format}
-use Rattle.trace_format.specs.Readings.{event_at, asked_at, answered_at, request_at, response_at}
-use Rattle.trace_format.proofs.RequestParts.{request_found, request_only, response_found, response_only}
+use Rattle.wire.proofs.FileSteps.{one_payload, no_payload, not_whole}
+use Rattle.trace_format.specs.Events.{IsEvent, event_field, event_spelling, request_field, request_spelling, response_field, response_spelling, request_count, trace_format}
+use Rattle.trace_format.proofs.RequestFields.{request_one, response_one}
 
--- a tag, the id behind it, and the rest
-tagged : (bytes rest : List ℕ) (at tag t mid id behind next : ℕ) → tag ≡ t → IsSpelled bytes at (tag ∷ []) mid → IsSpelled bytes mid (to_be_bytes w32 id) behind → IsSpelled bytes behind rest next → IsSpelled bytes at (t ∷ (to_be_bytes w32 id ++ rest)) next
-tagged bytes rest at tag t mid id behind next e p q r =
-    let Tag : ℕ → Type 0 = λ n. IsSpelled bytes at (n ∷ []) mid in
-    joined bytes (t ∷ []) (to_be_bytes w32 id ++ rest) at mid next (subst Tag e p) (joined bytes (to_be_bytes w32 id) rest mid behind next q r)
+-- ---- an event's tag, its id, and what stands behind them
 
--- what is read behind a tag and an id
-abbrev behind : ℕ → List ℕ → ℕ → ℕ → ℕ → Option (TraceEvent × ℕ)
-behind asked bytes tag id at =
-    cond (eqb tag 1) (cond (ltb asked 65536) (asked_at bytes id at) None) (cond (eqb tag 2) (answered_at bytes id at) None)
+tag_of : TraceEvent → ℕ
+tag_of (Asked id q) = 1
+tag_of (Answered id x) = 2
 
-behind_found : (asked : ℕ) (bytes : List ℕ) (at tag mid id place : ℕ) (x : TraceEvent) (next : ℕ) → IsBytes bytes → IsSpelled bytes at (tag ∷ []) mid → IsFieldAt (number_field w32) bytes mid id place → behind asked bytes tag id place ≡ Some (x, next) → IsFieldAt (event_field asked) bytes at x next
-behind_found asked bytes at tag mid id place x next fits first number e =
-    let wanted : TraceEvent × ℕ = (x, next) in
-    let Is : TraceEvent × ℕ → Type 0 = λ p. IsFieldAt (event_field asked) bytes at p.0 p.1 in
-    elim (chosen (eqb tag 1) (cond (ltb asked 65536) (asked_at bytes id place) None) (cond (eqb tag 2) (answered_at bytes id place) None) (Some wanted) e) [
-      | inl p ↦
-          elim (chosen (ltb asked 65536) (asked_at bytes id place) None (Some wanted) p.1) [
-            | inl q ↦
-                let c = bind_some (request_at bytes place) (λ (request : Request × ℕ). Some (Asked id request.0, request.1)) wanted q.1 in
-                let request = request_found bytes place c.0.0 c.0.1 fits c.1 in
-                let made : TraceEvent × ℕ = (Asked id c.0.0, c.0.1) in
-                subst Is (some_one made wanted c.2) ((number.0, (request.0, ltb-true asked 65536 q.0)), tagged bytes (request_spelling c.0.0) at tag 1 mid id place c.0.1 (eqb-true _ _ p.0) first number.1 request.1)
-            | inr q ↦ absurd (let none : None ≡ Some wanted = q.1 in cc)
-          ]
-      | inr p ↦
-          elim (chosen (eqb tag 2) (answered_at bytes id place) None (Some wanted) p.1) [
-            | inl q ↦
-                let c = bind_some (response_at bytes place) (λ (response : Response × ℕ). Some (Answered id response.0, response.1)) wanted q.1 in
-                let response = response_found bytes place c.0.0 c.0.1 fits c.1 in
-                let made : TraceEvent × ℕ = (Answered id c.0.0, c.0.1) in
-                subst Is (some_one made wanted c.2) ((number.0, response.0), tagged bytes (response_spelling c.0.0) at tag 2 mid id place c.0.1 (eqb-true _ _ q.0) first number.1 response.1)
-            | inr q ↦ absurd (let none : None ≡ Some wanted = q.1 in cc)
-          ]
-    ]
+id_of : TraceEvent → ℕ
+id_of (Asked id q) = id
+id_of (Answered id x) = id
 
-event_found : (asked : ℕ) (bytes : List ℕ) (at : ℕ) (x : TraceEvent) (next : ℕ) → IsBytes bytes → event_at asked bytes at ≡ Some (x, next) → IsFieldAt (event_field asked) bytes at x next
-event_found asked bytes at x next fits e =
-    let wanted : TraceEvent × ℕ = (x, next) in
-    let a = bind_some (byte_at bytes at) (λ (tag : ℕ × ℕ). number_at w32 bytes tag.1 >>= λ (id : ℕ × ℕ). behind asked bytes tag.0 id.0 id.1) wanted e in
-    let b = bind_some (number_at w32 bytes a.0.1) (λ (id : ℕ × ℕ). behind asked bytes a.0.0 id.0 id.1) wanted a.2 in
-    behind_found asked bytes at a.0.0 a.0.1 b.0.0 b.0.1 x next fits (byte_found bytes at a.0.0 a.0.1 a.1) (number_found w32 wide32 bytes a.0.1 b.0.0 b.0.1 fits b.1) b.2
+rest_of : TraceEvent → List ℕ
+rest_of (Asked id q) = request_spelling q
+rest_of (Answered id x) = response_spelling x
 
-event_only : (asked : ℕ) (bytes : List ℕ) (at : ℕ) (x : TraceEvent) (next : ℕ) → IsFieldAt (event_field asked) bytes at x next → event_at asked bytes at ≡ Some (x, next)
-event_only asked bytes at (Asked id q) next ((small, (limited, few)), p) =
-    let rest = behind_byte bytes at 1 (to_be_bytes w32 id ++ request_spelling q) next p in
-    let number = first_part bytes (to_be_bytes w32 id) (request_spelling q) (at + 1) next rest in
-    let behind = second_part bytes (to_be_bytes w32 id) (request_spelling q) (at + 1) next rest in
-    let first : ltb asked 65536 ≡ true = lt-ltb asked 65536 few in
-    rw (byte_only bytes at 1 (to_be_bytes w32 id ++ request_spelling q) next p, number_only w32 wide32 bytes (at + 1) id ((at + 1) + 4) (small, number), first, request_only bytes ((at + 1) + 4) q next limited behind) refl
-event_only asked bytes at (Answered id x) next ((small, (status, short)), p) =
-    let rest = behind_byte bytes at 2 (to_be_bytes w32 id ++ response_spelling x) next p in
-    let number = first_part bytes (to_be_bytes w32 id) (response_spelling x) (at + 1) next rest in
-    let behind = second_part bytes (to_be_bytes w32 id) (response_spelling x) (at + 1) next rest in
-    rw (byte_only bytes at 2 (to_be_bytes w32 id ++ response_spelling x) next p, number_only w32 wide32 bytes (at + 1) id ((at + 1) + 4) (small, number), response_only bytes ((at + 1) + 4) x next status short behind) refl
+abbrev pub head_field : Field (ℕ × ℕ)
+head_field = pair_field byte_field (λ tag. number_field w32)
 
-pub event_reader : (asked : ℕ) → IsReader (event_field asked) (event_at asked)
-event_reader asked = record { found = event_found asked; only = event_only asked }
+head_one : HasOneSpelling head_field
+head_one = pair_one byte_field (λ tag. number_field w32) byte_one (λ tag. one_of_32)
 
-pub record_reader : (asked : ℕ) → IsReader (framed (event_field asked)) (record_at (whole_of (event_at asked)))
-record_reader asked = framed_reader (event_field asked) (event_at asked) (event_reader asked)
+abbrev head_of : TraceEvent → ℕ × ℕ
+head_of e = (tag_of e, id_of e)
+
+by_head : (e : TraceEvent) → event_spelling e ≡ head_field.spelling (head_of e) ++ rest_of e
+unfolding tag_of id_of rest_of
+by_head (Asked id q) = refl
+by_head (Answered id x) = refl
+
+head_allowed : (asked : ℕ) (e : TraceEvent) → IsEvent asked e → head_field.allows (head_of e)
+unfolding tag_of id_of
+head_allowed asked (Asked id q) p = (omega arith, p.0)
+head_allowed asked (Answered id x) p = (omega arith, p.0)
+
+head_there : (asked : ℕ) (bytes : List ℕ) (at : ℕ) (e : TraceEvent) (next : ℕ) → IsFieldAt (event_field asked) bytes at e next → IsSpelled bytes at (head_field.spelling (head_of e) ++ rest_of e) next
+head_there asked bytes at e next p = let Here : List ℕ → Type 0 = λ s. IsSpelled bytes at s next in subst Here (by_head e) p.1
+
+-- what is left of the event that begins with a tag and an id
+behind_head : (asked : ℕ) (bytes : List ℕ) (at tag mid id place : ℕ) (e : TraceEvent) (next : ℕ) → IsFieldAt byte_field bytes at tag mid → IsFieldAt (number_field w32) bytes mid id place → IsFieldAt (event_field asked) bytes at e next → (tag ≡ tag_of e) × IsSpelled bytes place (rest_of e) next
+behind_head asked bytes at tag mid id place e next first second p =
+    let there = head_there asked bytes at e next p in
+    let ends : ℕ = at + length (head_field.spelling (head_of e)) in
+    let found : ℕ × ℕ = (tag, id) in
+    let head = both_there byte_field (λ t. number_field w32) bytes at tag mid id place first second in
+    let same = same_field head_field head_one bytes at found (head_of e) place ends head (head_allowed asked e p.0, first_part bytes (head_field.spelling (head_of e)) (rest_of e) at next there) in
+    let Behind : ℕ → Type 0 = λ n. IsSpelled bytes n (rest_of e) next in
+    (ap (λ (h : ℕ × ℕ). h.0) same.0, subst Behind (sym same.1) (second_part bytes (head_field.spelling (head_of e)) (rest_of e) at next there))
+
+-- ---- none
+
+no_head : (asked : ℕ) (bytes : List ℕ) (at : ℕ) → NoneIsAt head_field bytes at → NoneIsAt (event_field asked) bytes at
+no_head asked bytes at none e next p =
+    none (head_of e) (at + length (head_field.spelling (head_of e))) (head_allowed asked e p.0, first_part bytes (head_field.spelling (head_of e)) (rest_of e) at next (head_there asked bytes at e next p))
+
+pub no_tag : (asked : ℕ) (bytes : List ℕ) (at : ℕ) → NoneIsAt byte_field bytes at → NoneIsAt (event_field asked) bytes at
+no_tag asked bytes at none = no_head asked bytes at (no_first byte_field (λ tag. number_field w32) bytes at none)
+
+pub no_id : (asked : ℕ) (bytes : List ℕ) (at tag mid : ℕ) → IsFieldAt byte_field bytes at tag mid → NoneIsAt (number_field w32) bytes mid → NoneIsAt (event_field asked) bytes at
+no_id asked bytes at tag mid here none = no_head asked bytes at (no_second byte_field (λ t. number_field w32) byte_one bytes at tag mid here none)
+
+pub no_request : (asked : ℕ) (bytes : List ℕ) (at tag mid id place : ℕ) → IsFieldAt byte_field bytes at tag mid → IsFieldAt (number_field w32) bytes mid id place → tag ≡ 1 → NoneIsAt request_field bytes place → NoneIsAt (event_field asked) bytes at
+unfolding tag_of rest_of
+no_request asked bytes at tag mid id place first second is none e next p = go e p.0 (behind_head asked bytes at tag mid id place e next first second p)
+  where
+    go : (e : TraceEvent) → IsEvent asked e → (tag ≡ tag_of e) × IsSpelled bytes place (rest_of e) next → ⊥
+    go (Asked i q) allowed h = none q next (allowed.1.0, h.1)
+    go (Answered i x) allowed h = omega (arith, h.0)
+
+pub no_response : (asked : ℕ) (bytes : List ℕ) (at tag mid id place : ℕ) → IsFieldAt byte_field bytes at tag mid → IsFieldAt (number_field w32) bytes mid id place → tag ≡ 2 → NoneIsAt response_field bytes place → NoneIsAt (event_field asked) bytes at
+unfolding tag_of rest_of
+no_response asked bytes at tag mid id place first second is none e next p = go e p.0 (behind_head asked bytes at tag mid id place e next first second p)
+  where
+    go : (e : TraceEvent) → IsEvent asked e → (tag ≡ tag_of e) × IsSpelled bytes place (rest_of e) next → ⊥
+    go (Asked i q) allowed h = omega (arith, h.0)
+    go (Answered i x) allowed h = none x next (allowed.1, h.1)
+
+-- ---- the law
+
+pub event_one : (asked : ℕ) → HasOneSpelling (event_field asked)
+event_one asked (Asked i q) (Asked j p) r s a b e =
+    let same = head_one (1, i) (1, j) (request_spelling q ++ r) (request_spelling p ++ s) (omega arith, a.0) (omega arith, b.0) e in
+    let rest = request_one q p r s a.1.0 b.1.0 same.1 in
+    (ap (λ (h : ℕ × ℕ). Asked h.1 q) same.0 ∙ ap (λ (x : Request). Asked j x) rest.0, rest.1)
+event_one asked (Answered i x) (Answered j y) r s a b e =
+    let same = head_one (2, i) (2, j) (response_spelling x ++ r) (response_spelling y ++ s) (omega arith, a.0) (omega arith, b.0) e in
+    let rest = response_one x y r s a.1 b.1 same.1 in
+    (ap (λ (h : ℕ × ℕ). Answered h.1 x) same.0 ∙ ap (λ (z : Response). Answered j z) rest.0, rest.1)
+event_one asked (Asked i q) (Answered j y) r s a b e = absurd (cc)
+event_one asked (Answered i x) (Asked j p) r s a b e = absurd (cc)
+
+-- ---- payloads
+
+-- behind events with so many requests, no payload is one of an event where none begins, or ends, as the payload does
+pub no_event : (before : List TraceEvent) (asked : ℕ) (payload : List ℕ) (fault : OrMemory Unreadable) (r : Result TraceEvent (OrMemory Unreadable)) → asked ≡ request_count before → TakesPart {A = TraceEvent} {X = TraceEvent} (λ x. x) (event_field asked) payload 0 (Err fault) → IsErrAnd r (λ e. e ≡ fault) → TakesPayload trace_format before payload r
+no_event before asked payload fault r kept missed is =
+    let Missed : ℕ → Type 0 = λ n. TakesPart {A = TraceEvent} {X = TraceEvent} (λ x. x) (event_field n) payload 0 (Err fault) in
+    no_payload trace_format before payload fault r (subst Missed kept missed) is
+
+pub not_whole_event : (before : List TraceEvent) (asked : ℕ) (payload : List ℕ) (e : TraceEvent) (next : ℕ) → asked ≡ request_count before → IsFieldAt (event_field asked) payload 0 e next → next ≢ length payload → SpellsNone trace_format before payload
+not_whole_event before asked payload e next kept here more =
+    let Here : ℕ → Type 0 = λ n. IsFieldAt (event_field n) payload 0 e next in
+    not_whole (event_field (request_count before)) (event_one (request_count before)) payload e next (subst Here kept here) more
 
 pub trace_is_exact : IsExact trace_format
-trace_is_exact = file_is_exact trace_format (one_payload trace_format (λ before. has_one (event_field (request_count before)) (event_at (request_count before)) (event_reader (request_count before))))
-
--- the same, behind these events
-pub reader_behind : (events : List TraceEvent) (asked : ℕ) → asked ≡ request_count events → IsReader (record_field trace_format events) (record_at (whole_of (event_at asked)))
-reader_behind events asked e =
-    let Reads : ℕ → Type 0 = λ n. IsReader (record_field trace_format events) (record_at (whole_of (event_at n))) in
-    subst Reads (sym e) (record_reader (request_count events))
+trace_is_exact = file_is_exact trace_format (one_payload trace_format (λ before. event_one (request_count before)))

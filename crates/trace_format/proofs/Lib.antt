@@ -1,8 +1,6 @@
 pub mod EventFields
 pub mod Lengths
 pub mod OneFault
-pub mod ParameterCounts
-pub mod ParameterSteps
-pub mod RequestParts
+pub mod RequestFields
 pub mod StageSteps
 pub mod Verdicts

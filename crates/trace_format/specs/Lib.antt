@@ -1,4 +1,3 @@
 pub mod Balance
 pub mod Events
-pub mod Readings
 pub mod Stages

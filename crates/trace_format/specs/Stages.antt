@@ -1,6 +1,7 @@
--- What is known of the ids of a trace that was read up to a place: nothing, that the request is open, or that it was answered.
+-- What is known of the ids of a trace that was read up to a place: nothing, that the request is open,
+-- or that it was answered.
 use Rattle.std.specs.Prelude.{◌≡◌, ◌≢◌, ℕ, ◌<◌, Bool, true, false, List, length, Option, Some, None}
-use Rattle.basis.specs.Lists.{nth}
+use Rattle.trace_format.specs.Balance.{AsksAt}
 use Rattle.script_tree.specs.Requests.{Request}
 use Rattle.script_tree.specs.declared.trace.TraceEvent.{TraceEvent}
 use Rattle.script_tree.specs.declared.trace.TraceEvent.TheVariants.{Asked, Answered}
@@ -26,10 +27,15 @@ stage_after (Answered id x) = Closed
 
 -- before the place, no request is one of an open id
 abbrev pub NoneOpen : (ℕ → Option Stage) → List TraceEvent → ℕ → Type 0
-NoneOpen stage trace place = (k s : ℕ) (q : Request) → k < place → nth trace k ≡ Some (Asked s q) → stage s ≢ Some Open
+NoneOpen stage trace place =
+    (k s : ℕ) (q : Request) → k < place → AsksAt trace k s q → stage s ≢ Some Open
 
 -- the first request of an open id, if any
 abbrev pub IsFirstOpen : (ℕ → Option Stage) → List TraceEvent → Option ℕ → Type 0
 IsFirstOpen stage trace None = NoneOpen stage trace (length trace)
 IsFirstOpen stage trace (Some r) =
-    (place : ℕ) × (q : Request) × (nth trace place ≡ Some (Asked r q)) × (stage r ≡ Some Open) × NoneOpen stage trace place
+    (place : ℕ)
+        × (q : Request)
+        × AsksAt trace place r q
+        × (stage r ≡ Some Open)
+        × NoneOpen stage trace place

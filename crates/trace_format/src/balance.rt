@@ -17,10 +17,11 @@ pub enum Stage {
     Closed,
 }
 
-/// Notes how the id of an event stands behind it. Tells whether the event fits what was known of its id.
+/// Notes how the id of an event stands behind it. Tells whether the event fits what was known of its
+/// id.
 fn note(stages: &mut BTreeMap<u32, Stage>, event: &TraceEvent) -> Result<bool, AllocError>
-    ensures fits { IfOk result (λ b. b ≡ fits event.now (get nat_cmp stages.old (id_of event.now))) }
-    ensures noted { OnOk result (Updates nat_cmp stages.old stages.new (id_of event.now) (Some (stage_after event.now))) }
+    ensures fits { IfOk result (λ b. b ≡ fits event.now (stage_of stages.old (id_of event.now))) }
+    ensures noted { OnOk result (IsNoted event.now stages.old stages.new) }
 {
     match event {
         TraceEvent::Asked(id, _) => Ok(stages.insert(*id, Stage::Open)?.is_none()),

@@ -1,35 +1,37 @@
-ghost use Rattle.std.specs.Prelude.{◌≡◌, ◌+◌, ◌++◌, ◌<◌, ◌≤◌, ◌^◌, length, OnOk, MatchOption};
+ghost use Rattle.std.specs.Prelude.{◌≡◌, ◌++◌, ◌<◌, ◌^◌, length, OnOk};
 ghost use Rattle.wire.specs.Spellings.{bytes_spelling};
-ghost use Rattle.wire.specs.Files.{Encodes, record_spelling};
-ghost use Rattle.trace_format.specs.Events.{trace_format, parameter_spelling, parameters_spelling, request_spelling, response_spelling, event_spelling};
+ghost use Rattle.wire.specs.Files.{Encodes, LeavesRoom};
+ghost use Rattle.trace_format.specs.Events.{trace_format, parameter_spelling, parameters_spelling};
+ghost use Rattle.trace_format.specs.Events.{request_spelling, response_spelling, event_spelling};
 
-use crate::decoding::MAGIC;
+use crate::format::Events;
+use basis::OrMemory;
 use script_tree::request::{Parameter, Request, Response};
 use script_tree::text::Text;
 use script_tree::trace::{Trace, TraceEvent};
 use std::alloc::{AllocError, Global};
-use wire::fault::FileFault;
+use wire::fault::PastLimit;
+use wire::file::write_file_within;
+use wire::limits::MOST_FILE_BYTES;
+use wire::record::RecordWriter;
 use wire::writing::{write_bytes, write_u8, write_u16, write_u32};
-
-/// The most bytes that a file may have.
-pub const MOST_BYTES: usize = 1_073_741_824;
 
 /// What is left of so much room behind the text's spelling, or `None` where it has more bytes.
 fn room_behind_text(room: usize, text: &Text) -> Option<usize>
-    ensures { MatchOption result (room < length (bytes_spelling text.now)) (λ left. left + length (bytes_spelling text.now) ≡ room) }
+    ensures { LeavesRoom room (bytes_spelling text.now) result }
 {
     room.checked_sub(4)?.checked_sub(text.len())
 }
 
 fn room_behind_parameter(room: usize, parameter: &Parameter) -> Option<usize>
-    ensures { MatchOption result (room < length (parameter_spelling parameter.now)) (λ left. left + length (parameter_spelling parameter.now) ≡ room) }
+    ensures { LeavesRoom room (parameter_spelling parameter.now) result }
 {
     let left = room_behind_text(room, &parameter.name)?;
     room_behind_text(left, &parameter.value)
 }
 
 fn room_behind_parameters(room: usize, parameters: &[Parameter]) -> Option<usize>
-    ensures { MatchOption result (room < length (parameters_spelling parameters.now)) (λ left. left + length (parameters_spelling parameters.now) ≡ room) }
+    ensures { LeavesRoom room (parameters_spelling parameters.now) result }
 {
     let mut left = room;
     for parameter in parameters {
@@ -39,7 +41,7 @@ fn room_behind_parameters(room: usize, parameters: &[Parameter]) -> Option<usize
 }
 
 fn room_behind_request(room: usize, request: &Request) -> Option<usize>
-    ensures { MatchOption result (room < length (request_spelling request.now)) (λ left. left + length (request_spelling request.now) ≡ room) }
+    ensures { LeavesRoom room (request_spelling request.now) result }
 {
     let left = room_behind_text(room, request.method())?;
     let left = room_behind_text(left, request.path())?;
@@ -49,14 +51,14 @@ fn room_behind_request(room: usize, request: &Request) -> Option<usize>
 }
 
 fn room_behind_response(room: usize, response: &Response) -> Option<usize>
-    ensures { MatchOption result (room < length (response_spelling response.now)) (λ left. left + length (response_spelling response.now) ≡ room) }
+    ensures { LeavesRoom room (response_spelling response.now) result }
 {
     let left = room.checked_sub(2)?;
     room_behind_text(left, &response.body)
 }
 
 fn room_behind_event(room: usize, event: &TraceEvent) -> Option<usize>
-    ensures { MatchOption result (room < length (event_spelling event.now)) (λ left. left + length (event_spelling event.now) ≡ room) }
+    ensures { LeavesRoom room (event_spelling event.now) result }
 {
     let left = room.checked_sub(5)?;
     match event {
@@ -121,38 +123,20 @@ fn write_event(out: &mut Vec<u8>, event: &TraceEvent) -> Result<(), AllocError>
     }
 }
 
-/// How many bytes the payload of the event's record has, or `None` where the record has more than
-/// there is room.
-fn payload_len(room: usize, event: &TraceEvent) -> Option<usize>
-    ensures { MatchOption result (room < length (record_spelling trace_format event.now)) (λ len. (len ≡ length (event_spelling event.now)) × (len + 4 ≤ room)) }
-{
-    let room = room.checked_sub(4)?;
-    let left = room_behind_event(room, event)?;
-    Some(room - left)
-}
+impl RecordWriter for Events {
+    fn room_behind(room: usize, event: &TraceEvent) -> Option<usize> {
+        room_behind_event(room, event)
+    }
 
-/// Writes the record of an event whose payload has so many bytes.
-fn write_record(out: &mut Vec<u8>, event: &TraceEvent, len: u32) -> Result<(), AllocError>
-    requires { len ≡ length (event_spelling event.now) }
-    ensures { OnOk result (out.new.items ≡ out.old.items ++ record_spelling trace_format event.now) }
-{
-    write_u32(out, len)?;
-    write_event(out, event)
+    fn write(out: &mut Vec<u8>, event: &TraceEvent) -> Result<(), AllocError> {
+        write_event(out, event)
+    }
 }
 
 /// The file that spells the trace, or the first record that would end past the limit of a file. A
 /// trace of more requests than a file may have is spelled too, and isn't read again.
-pub fn encode(alloc: Global, trace: &Trace) -> Result<Vec<u8>, FileFault>
-    ensures { Encodes (λ out. out.items) trace_format 1073741824 trace.now result }
+pub fn encode(alloc: Global, trace: &Trace) -> Result<Vec<u8>, OrMemory<PastLimit>>
+    ensures { Encodes (λ out. out.items) trace_format MOST_FILE_BYTES trace.now result }
 {
-    let events = trace.as_slice();
-    let mut out = Vec::from_slice(alloc, MAGIC)?;
-    for event in events {
-        let at = out.len();
-        let Some(len) = payload_len(MOST_BYTES - at, event) else {
-            return Err(FileFault::Unreadable { at });
-        };
-        write_record(&mut out, event, len as u32)?;
-    }
-    Ok(out)
+    write_file_within::<Events>(alloc, MOST_FILE_BYTES, trace)
 }

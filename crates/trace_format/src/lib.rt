@@ -4,6 +4,7 @@
 pub mod balance;
 pub mod decoding;
 pub mod encoding;
+mod format;
 mod request;
 #[cfg(test)]
 mod tests;

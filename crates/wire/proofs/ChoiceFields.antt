@@ -4,12 +4,13 @@ use Rattle.std.specs.Prelude.{slice_get}
 use Rattle.std.proofs.lemmas.Bool.{eqb-true}
 use Rattle.script_tree.specs.declared.operation.Choice.{Choice}
 use Rattle.script_tree.specs.declared.operation.Choice.TheVariants.{Nothing, Number}
+use Rattle.basis.proofs.Options.{bind_some, some_one}
 use Rattle.basis.specs.Options.{◌>>=◌}
-use Rattle.wire.specs.Fields.{byte_at, integer_at, choice_at}
-use Rattle.wire.specs.Readers.{IsBytes, IsReader}
-use Rattle.wire.specs.Spellings.{byte_field, IsSpelled, IsFieldAt, choice_field, integer_spelling}
-use Rattle.wire.proofs.Spelled.{joined, second_part}
-use Rattle.wire.proofs.NumberFields.{bind_some, some_one, integer_found, integer_only}
+use Rattle.wire.proofs.Readings.{byte_at, integer_at, choice_at}
+use Rattle.wire.proofs.Readings.{IsBytes, IsReader}
+use Rattle.wire.specs.Spellings.{byte_field, IsSpelled, IsFieldAt, NoneIsAt, choice_field, integer_spelling}
+use Rattle.wire.proofs.Spelled.{joined, first_part, second_part}
+use Rattle.wire.proofs.NumberFields.{integer_found, integer_only}
 
 at_list : (bytes : List ℕ) (at b : ℕ) → slice_get bytes at ≡ Some b → drop at bytes ≡ b ∷ drop (suc at) bytes
 at_list [] at b e = absurd (cc)
@@ -104,3 +105,8 @@ choice_only bytes at (Number z) next (wide, p) =
 
 pub choice_reader : IsReader choice_field choice_at
 choice_reader = record { found = choice_found; only = choice_only }
+
+-- a choice begins with a byte
+pub no_choice : (bytes : List ℕ) (at : ℕ) → NoneIsAt byte_field bytes at → NoneIsAt choice_field bytes at
+no_choice bytes at none Nothing next (wide, p) = none 0 (at + 1) (omega arith, first_part bytes (0 ∷ []) [] at next p)
+no_choice bytes at none (Number n) next (wide, p) = none 1 (at + 1) (omega arith, first_part bytes (1 ∷ []) (integer_spelling n) at next p)

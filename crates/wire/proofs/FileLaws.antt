@@ -1,13 +1,13 @@
 -- Why a file is read in one way, and one record more.
 use Rattle.std.proofs.Common.{◌≡◌, ℕ, ◌+◌, ◌-◌, ◌<◌, ◌^◌, List, [], ◌∷◌, ◌++◌, length, drop, Result, Ok, Err, inl, inr, ap, sym, ◌∙◌, refl, subst, append_assoc, arith}
 use Rattle.std.proofs.lemmas.List.{append-nil, length-append, length-drop, drop_at}
-use Rattle.wire.specs.Fields.{bytes_at}
-use Rattle.wire.specs.Spellings.{HasOneSpelling, bytes_field}
+use Rattle.wire.specs.Spellings.{HasOneSpelling}
 use Rattle.wire.specs.Files.{Format, record_spelling, records_spelling, file_spelling, record_field, MayFollow, Spells, HasMagic, IsBadRecord, IsFault, Decodes, GivesBack, IsExact}
-use Rattle.wire.specs.declared.fault.FileFault.{FileFault}
-use Rattle.wire.specs.declared.fault.FileFault.TheVariants.{Memory, Unreadable}
-use Rattle.wire.proofs.Spelled.{has_one, rest_behind}
-use Rattle.wire.proofs.NumberFields.{bytes_reader}
+use Rattle.basis.specs.declared.or_memory.OrMemory.{OrMemory}
+use Rattle.basis.specs.declared.or_memory.OrMemory.TheVariants.{Memory, Other}
+use Rattle.wire.specs.declared.fault.Unreadable.{Unreadable}
+use Rattle.wire.proofs.OneSpelling.{bytes_one}
+use Rattle.wire.proofs.Spelled.{rest_behind}
 
 -- Payloads that may stand behind the same records are told apart.
 abbrev pub HasOnePayload : {A : Type 0} → Format A → Type 0
@@ -15,7 +15,7 @@ HasOnePayload {A} format = (before : List A) (x y : A) → format.allows before 
 
 pub record_one : {A : Type 0} (format : Format A) → HasOnePayload format → (before : List A) → HasOneSpelling (record_field format before)
 record_one format one before x y r s p q e =
-    let same : (format.payload x ≡ format.payload y) × (r ≡ s) = has_one bytes_field bytes_at bytes_reader (format.payload x) (format.payload y) r s p.1 q.1 e in
+    let same : (format.payload x ≡ format.payload y) × (r ≡ s) = bytes_one (format.payload x) (format.payload y) r s p.1 q.1 e in
     (one before x y p.0 q.0 p.1 q.1 same.0, same.1)
 
 -- nothing that may stand behind these records begins so
@@ -108,10 +108,10 @@ fault_not_read format one bytes at xs (inr p) q =
 reading_one : {A : Type 0} (format : Format A) → HasOnePayload format → (bytes : List ℕ) (xs ys : List A) → Spells format bytes xs → Spells format bytes ys → xs ≡ ys
 reading_one format one bytes xs ys p q = (run_one format one bytes xs ys [] [] (run_of_file format bytes xs p) (run_of_file format bytes ys q)).0
 
-back : {A : Type 0} (format : Format A) → HasOnePayload format → (xs : List A) (r : Result (List A) FileFault) → MayFollow format [] xs → Decodes format (file_spelling format xs) r → GivesBack xs r
+back : {A : Type 0} (format : Format A) → HasOnePayload format → (xs : List A) (r : Result (List A) (OrMemory Unreadable)) → MayFollow format [] xs → Decodes format (file_spelling format xs) r → GivesBack xs r
 back format one xs (Ok found) allowed d = reading_one format one (file_spelling format xs) found xs d (record { spelled = refl; allowed = allowed })
 back format one xs (Err Memory) allowed d = tt
-back format one xs (Err (Unreadable at)) allowed d = fault_not_read format one (file_spelling format xs) at xs d (record { spelled = refl; allowed = allowed })
+back format one xs (Err (Other fault)) allowed d = fault_not_read format one (file_spelling format xs) (fault.at) xs d (record { spelled = refl; allowed = allowed })
 
 pub file_is_exact : {A : Type 0} (format : Format A) → HasOnePayload format → IsExact format
 file_is_exact format one = record {

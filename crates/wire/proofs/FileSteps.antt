@@ -1,69 +1,24 @@
 -- One record more of a file, read or written.
-use Rattle.std.proofs.Common.{◌≡◌, ℕ, ◌+◌, ◌-◌, ◌<◌, ◌≤◌, ◌^◌, cond, eqb, List, [], ◌∷◌, ◌++◌, length, drop, take, get_or, Option, Some, None, Result, Ok, Err, inr, true, ap, sym, ◌∙◌, refl, subst, append_assoc, arith}
+use Rattle.std.proofs.Common.{◌≡◌, ◌≢◌, ℕ, ◌+◌, ◌-◌, ◌<◌, ◌≤◌, ◌^◌, cond, eqb, List, [], ◌∷◌, ◌++◌, length, drop, take, get_or, Option, Some, None, Result, Ok, Err, inr, true, false, Bool, inl, ap, sym, ◌∙◌, refl, subst, append_assoc, arith}
 use Rattle.std.proofs.lemmas.Bool.{eqb-true, eq-eqb}
-use Rattle.std.proofs.lemmas.List.{append-nil, drop_all, take_more, drop_more, take-append-drop}
+use Rattle.std.proofs.lemmas.List.{append-nil, length-append, drop_all, take_more, drop_more, take-append-drop}
 use Rattle.std.proofs.lemmas.Option.{cond_some}
-use Rattle.basis.specs.Options.{◌>>=◌}
-use Rattle.wire.specs.Fields.{bytes_at, whole_of, record_at, TakesRecord}
-use Rattle.wire.specs.Readers.{IsBytes, IsReader}
-use Rattle.wire.specs.Spellings.{Field, IsSpelled, IsFieldAt, HasOneSpelling, framed, bytes_spelling}
-use Rattle.wire.specs.Files.{Format, record_spelling, records_spelling, file_spelling, payload_field, record_field, MayFollow, IsBadRecord, IsFault, Decodes, IsBeyond}
-use Rattle.wire.specs.declared.fault.FileFault.{FileFault}
-use Rattle.wire.specs.declared.fault.FileFault.TheVariants.{Memory, Unreadable}
 use Rattle.std.specs.Prelude.{IsErrAnd}
-use Rattle.wire.proofs.Spelled.{joined, at_front}
-use Rattle.wire.proofs.NumberFields.{bind_some, some_one, bytes_found, bytes_only, bytes_are_bytes}
+use Rattle.std.specs.List.{starts_with}
+use Rattle.basis.specs.declared.or_memory.OrMemory.{OrMemory}
+use Rattle.basis.specs.declared.or_memory.OrMemory.TheVariants.{Memory, Other}
+use Rattle.wire.specs.declared.fault.Unreadable.{Unreadable}
+use Rattle.std.proofs.lemmas.Bool.Decides.{Decides-eqb}
+use Rattle.std.proofs.lemmas.Slice.Eq.{starts_is}
+use Rattle.basis.proofs.Booleans.{true_false}
+use Rattle.basis.specs.Options.{◌>>=◌}
+use Rattle.wire.specs.Spellings.{Field, IsSpelled, IsFieldAt, NoneIsAt, HasOneSpelling, TakesPart}
+use Rattle.wire.specs.Files.{Format, record_spelling, records_spelling, file_spelling, payload_field, record_field, MayFollow, IsBadRecord, IsFault, TakesPayload, IsBeyond}
+use Rattle.wire.proofs.Spelled.{joined, at_front, ends_inside, same_field}
+use Rattle.std.specs.Int.{w32, to_be_bytes}
 use Rattle.wire.proofs.FileLaws.{HasOnePayload}
 
 -- ---- payloads
-
-whole_found : {A : Type 0} (field : Field A) (read : List ℕ → ℕ → Option (A × ℕ)) → IsReader field read → (bytes : List ℕ) (x : A) → IsBytes bytes → whole_of read bytes ≡ Some x → field.allows x × (bytes ≡ field.spelling x)
-whole_found {A} field read reader bytes x fits e =
-    let b = bind_some (read bytes 0) (λ (y : A × ℕ). cond (eqb y.1 (length bytes)) (Some y.0) None) x e in
-    let g = cond_some (eqb b.0.1 (length bytes)) b.0.0 x b.2 in
-    let here = reader.found bytes 0 b.0.0 b.0.1 fits b.1 in
-    let end' : drop b.0.1 bytes ≡ [] = drop_all b.0.1 bytes (omega (arith, eqb-true _ _ g.0)) in
-    let all : bytes ≡ field.spelling b.0.0 = here.1.spells ∙ ap (λ (r : List ℕ). field.spelling b.0.0 ++ r) end' ∙ append-nil (field.spelling b.0.0) in
-    subst (λ (y : A). field.allows y × (bytes ≡ field.spelling y)) g.1 (here.0, all)
-
-whole_only : {A : Type 0} (field : Field A) (read : List ℕ → ℕ → Option (A × ℕ)) → IsReader field read → (x : A) → field.allows x → whole_of read (field.spelling x) ≡ Some x
-whole_only {A} field read reader x allowed =
-    let s = field.spelling x in
-    let Here : List ℕ → Type 0 = λ b. IsSpelled b 0 s (length s) in
-    let found : read s 0 ≡ Some (x, length s) = reader.only s 0 x (length s) (allowed, subst Here (append-nil s) (at_front s [])) in
-    let ends : eqb (length s) (length s) ≡ true = eq-eqb (length s) (length s) refl in
-    rw (found, ends) refl
-
-framed_found : {A : Type 0} (field : Field A) (read : List ℕ → ℕ → Option (A × ℕ)) → IsReader field read → (bytes : List ℕ) (at : ℕ) (x : A) (next : ℕ) → IsBytes bytes → record_at (whole_of read) bytes at ≡ Some (x, next) → IsFieldAt (framed field) bytes at x next
-framed_found {A} field read reader bytes at x next fits e =
-    let b = bind_some (bytes_at bytes at) (λ (p : List ℕ × ℕ). whole_of read p.0 >>= λ (item : A). Some (item, p.1)) (x, next) e in
-    let c = bind_some (whole_of read b.0.0) (λ (item : A). Some (item, b.0.1)) (x, next) b.2 in
-    let made : A × ℕ = (c.0, b.0.1) in
-    let same : made ≡ (x, next) = some_one made (x, next) c.2 in
-    let outer = bytes_found bytes at b.0.0 b.0.1 fits b.1 in
-    let inner = whole_found field read reader b.0.0 c.0 (bytes_are_bytes bytes at b.0.0 b.0.1 fits b.1) c.1 in
-    let Here : List ℕ → Type 0 = λ p. (length p < 2 ^ 32) × IsSpelled bytes at (bytes_spelling p) b.0.1 in
-    let there = subst Here inner.1 outer in
-    subst (λ (p : A × ℕ). IsFieldAt (framed field) bytes at p.0 p.1) same ((inner.0, there.0), there.1)
-
-framed_only : {A : Type 0} (field : Field A) (read : List ℕ → ℕ → Option (A × ℕ)) → IsReader field read → (bytes : List ℕ) (at : ℕ) (x : A) (next : ℕ) → IsFieldAt (framed field) bytes at x next → record_at (whole_of read) bytes at ≡ Some (x, next)
-framed_only field read reader bytes at x next ((allowed, short), p) =
-    let outer : bytes_at bytes at ≡ Some (field.spelling x, next) = bytes_only bytes at (field.spelling x) next (short, p) in
-    let inner : whole_of read (field.spelling x) ≡ Some x = whole_only field read reader x allowed in
-    rw (outer, inner) refl
-
--- A record is read by the reader of its payload.
-pub framed_reader : {A : Type 0} (field : Field A) (read : List ℕ → ℕ → Option (A × ℕ)) → IsReader field read → IsReader (framed field) (record_at (whole_of read))
-framed_reader field read reader = record { found = framed_found field read reader; only = framed_only field read reader }
-
-not_both : {B : Type 0} (o : Option B) (x : B) → o ≡ None → o ≡ Some x → ⊥
-not_both o x p q = cc
-
--- where nothing is read, nothing of the kind stands
-pub none_there : {A : Type 0} (field : Field A) (read : List ℕ → ℕ → Option (A × ℕ)) → IsReader field read → (bytes : List ℕ) (at : ℕ) → read bytes at ≡ None → (x : A) (next : ℕ) → IsFieldAt field bytes at x next → ⊥
-none_there {A} field read reader bytes at none x next p =
-    let found : A × ℕ = (x, next) in
-    not_both (read bytes at) found none (reader.only bytes at x next p)
 
 pub one_payload : {A : Type 0} (format : Format A) → ((before : List A) → HasOneSpelling (payload_field format before)) → HasOnePayload format
 one_payload format one before x y p q _ _ e =
@@ -93,14 +48,33 @@ records_push format (y ∷ ys) x = ap (λ (s : List ℕ). record_spelling format
 pub file_push : {A : Type 0} (format : Format A) (xs : List A) (x : A) → file_spelling format (xs ++ x ∷ []) ≡ file_spelling format xs ++ record_spelling format x
 file_push format xs x = ap (λ (s : List ℕ). format.magic ++ s) (records_push format xs x) ∙ sym (append_assoc format.magic (records_spelling format xs) (record_spelling format x))
 
-pub one_more : {A : Type 0} (format : Format A) (bytes : List ℕ) (items : List A) (at : ℕ) (x : A) (next : ℕ) → IsReadUpTo format bytes items at → IsFieldAt (record_field format items) bytes at x next → next ≤ length bytes → IsReadUpTo format bytes (items ++ x ∷ []) next
-one_more format bytes items at x next p q within =
+pub one_more : {A : Type 0} (format : Format A) (bytes : List ℕ) (items : List A) (at : ℕ) (x : A) (next : ℕ) → IsReadUpTo format bytes items at → IsFieldAt (record_field format items) bytes at x next → IsReadUpTo format bytes (items ++ x ∷ []) next
+one_more format bytes items at x next p q =
+    let inside = ends_inside bytes (record_spelling format x) at next (omega (arith, length-append (to_be_bytes w32 (length (format.payload x))) (format.payload x))) q.1 in
     let Here : List ℕ → Type 0 = λ s. IsSpelled bytes 0 s next in
     record {
       allowed = allowed_push format [] items x p.allowed q.0;
       spelled = subst Here (sym (file_push format items x)) (joined bytes (file_spelling format items) (record_spelling format x) 0 at next p.spelled q.1);
-      within = within;
+      within = inside.1;
     }
+
+-- a file that doesn't begin with the magic
+pub no_magic : {A : Type 0} (format : Format A) (bytes m : List ℕ) (r : Bool) → r ≡ starts_with eqb bytes m → m ≡ format.magic → r ≡ false → IsFault format bytes 0
+no_magic format bytes m r says is missed =
+    let begins = (starts_is Decides-eqb bytes m r says).1 in
+    inl ((λ (rest, e). true_false r (begins rest (e ∙ ap (λ (x : List ℕ). x ++ rest) (sym is))) missed), refl)
+
+-- one that does, before its first record
+pub read_none : {A : Type 0} (format : Format A) (bytes m : List ℕ) (items : List A) (r : Bool) → r ≡ starts_with eqb bytes m → m ≡ format.magic → items ≡ [] → r ≡ true → length m ≤ length bytes → IsReadUpTo format bytes items (length m)
+read_none {A} format bytes m items r says is none begun within =
+    let begins = (starts_is Decides-eqb bytes m r says).0 begun in
+    let spelled : IsSpelled bytes 0 (m ++ []) (length m) = record {
+      spells = begins ∙ ap (λ (x : List ℕ). x ++ drop (length m) bytes) (sym (append-nil m));
+      next_is = omega (arith, ap length (append-nil m));
+    } in
+    let Here : List ℕ → Type 0 = λ x. IsSpelled bytes 0 (x ++ []) (length m) in
+    let Read : List A → Type 0 = λ xs. IsReadUpTo format bytes xs (length m) in
+    subst Read (sym none) (record { allowed = tt; spelled = subst Here is spelled; within = within })
 
 pub bad_record : {A : Type 0} (format : Format A) (bytes : List ℕ) (items : List A) (at : ℕ) → IsReadUpTo format bytes items at → at < length bytes → ((x : A) (next : ℕ) → IsFieldAt (record_field format items) bytes at x next → ⊥) → IsBadRecord format bytes at
 bad_record format bytes items at p inside bad = record { before = items; allowed = p.allowed; spelled = p.spelled; inside = inside; bad = bad }
@@ -109,18 +83,6 @@ pub written_more : {A : Type 0} (format : Format A) (xs : List A) (i : ℕ) (d :
 written_more {A} format xs i d old new lt so_far e =
     let more : take (i + 1) xs ≡ take i xs ++ get_or xs i d ∷ [] = take_more xs i d lt in
     e ∙ ap (λ (s : List ℕ). s ++ record_spelling format (get_or xs i d)) so_far ∙ sym (file_push format (take i xs) (get_or xs i d)) ∙ ap (λ (ys : List A). file_spelling format ys) (sym more)
-
-fault_there : {A : Type 0} (format : Format A) (reads : List ℕ → Option A) (bytes : List ℕ) (items : List A) (at : ℕ) (fault : FileFault) → IsReader (record_field format items) (record_at reads) → IsReadUpTo format bytes items at → at < length bytes → TakesRecord reads bytes at (Err fault) → Decodes format bytes (Err fault)
-fault_there format reads bytes items at Memory reader read inside takes = tt
-fault_there format reads bytes items at (Unreadable place) reader read inside takes =
-    subst (IsFault format bytes) (sym takes.1) (inr (bad_record format bytes items at read inside (none_there (record_field format items) (record_at reads) reader bytes at takes.0)))
-
--- The fault of a record's reader is one of the file.
-pub fault_handed_on : {A : Type 0} (format : Format A) (reads : List ℕ → Option A) (bytes : List ℕ) (items : List A) (at : ℕ) (fault : FileFault) (r : Result (List A) FileFault) → IsReader (record_field format items) (record_at reads) → IsReadUpTo format bytes items at → at < length bytes → TakesRecord reads bytes at (Err fault) → IsErrAnd r (λ e. e ≡ fault) → Decodes format bytes r
-fault_handed_on format reads bytes items at fault (Ok x) reader read inside takes e = absurd e
-fault_handed_on {A} format reads bytes items at fault (Err found) reader read inside takes e =
-    let P : FileFault → Type 0 = λ f. Decodes format bytes (Err f) in
-    subst P (sym e) (fault_there format reads bytes items at fault reader read inside takes)
 
 -- the item whose record would end behind the limit
 pub beyond_here : {A : Type 0} (format : Format A) (limit : ℕ) (items whole : List A) (i : ℕ) (item : A) (at : ℕ) (out : List ℕ) → items ≡ whole → i < length items → item ≡ get_or items i item → out ≡ file_spelling format (take i items) → at ≡ length out → at ≤ limit → limit - at < length (record_spelling format item) → IsBeyond format limit whole at
@@ -136,3 +98,37 @@ beyond_here {A} format limit items whole i item at out same lt is so_far at_is w
       within = within;
       beyond = omega arith;
     }
+
+-- ---- whole payloads
+
+pub whole_there : {A : Type 0} (field : Field A) (bytes : List ℕ) (x : A) (next : ℕ) → IsFieldAt field bytes 0 x next → next ≡ length bytes → field.allows x × (bytes ≡ field.spelling x)
+whole_there field bytes x next p end' =
+    let rest : drop next bytes ≡ [] = drop_all next bytes (omega arith) in
+    (p.0, p.1.spells ∙ ap (λ (r : List ℕ). field.spelling x ++ r) rest ∙ append-nil (field.spelling x))
+
+-- what is the whole payload stands at its start
+start_there : {A : Type 0} (field : Field A) (bytes : List ℕ) (x : A) → field.allows x → bytes ≡ field.spelling x → IsFieldAt field bytes 0 x (length bytes)
+start_there field bytes x allowed e =
+    let whole : IsSpelled (field.spelling x ++ []) 0 (field.spelling x) (length (field.spelling x)) = at_front (field.spelling x) [] in
+    let Here : List ℕ → Type 0 = λ b. IsSpelled b 0 (field.spelling x) (length (field.spelling x)) in
+    let End : ℕ → Type 0 = λ n. IsSpelled bytes 0 (field.spelling x) n in
+    (allowed, subst End (sym (ap length e)) (subst Here (append-nil (field.spelling x) ∙ sym e) whole))
+
+pub none_whole : {A : Type 0} (field : Field A) (bytes : List ℕ) → NoneIsAt field bytes 0 → (x : A) → ¬ (field.allows x × (bytes ≡ field.spelling x))
+none_whole field bytes none x whole = none x (length bytes) (start_there field bytes x whole.0 whole.1)
+
+-- where something ends before the payload does, nothing is the whole payload
+pub not_whole : {A : Type 0} (field : Field A) → HasOneSpelling field → (bytes : List ℕ) (x : A) (next : ℕ) → IsFieldAt field bytes 0 x next → next ≢ length bytes → (y : A) → ¬ (field.allows y × (bytes ≡ field.spelling y))
+not_whole field one bytes x next p more y whole =
+    more (same_field field one bytes 0 x y next (length bytes) p (start_there field bytes y whole.0 whole.1)).1
+
+-- The fault of a reader of payloads is one of the record.
+pub no_payload : {A : Type 0} (format : Format A) (before : List A) (payload : List ℕ) (fault : OrMemory Unreadable) (r : Result A (OrMemory Unreadable)) → TakesPart {A = A} {X = A} (λ x. x) (payload_field format before) payload 0 (Err fault) → IsErrAnd r (λ e. e ≡ fault) → TakesPayload format before payload r
+no_payload format before payload fault (Ok x) missed is = absurd is
+no_payload {A} format before payload fault (Err e) missed is =
+    let P : OrMemory Unreadable → Type 0 = λ f. TakesPayload {A = A} format before payload (Err f) in
+    subst P (sym is) (go fault missed)
+  where
+    go : (f : OrMemory Unreadable) → TakesPart {A = A} {X = A} (λ x. x) (payload_field format before) payload 0 (Err f) → TakesPayload {A = A} format before payload (Err f)
+    go Memory m = tt
+    go (Other f) m = none_whole (payload_field format before) payload m

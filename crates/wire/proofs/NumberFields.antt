@@ -9,19 +9,12 @@ use Rattle.std.proofs.lemmas.List.{take_at, drop-drop, length-append, length-dro
 use Rattle.std.proofs.lemmas.Nat.{be_bytes_2, be_bytes_4, be_bytes_8, from_be_bytes-to_be_bytes_2, from_be_bytes-to_be_bytes_4, from_be_bytes-to_be_bytes_8}
 use mir.ValLaws as laws
 use borrow.Author.Differences.{fits_in, read_fits}
+use Rattle.basis.proofs.Options.{bind_some, some_one}
 use Rattle.basis.specs.Options.{◌>>=◌}
-use Rattle.wire.specs.Fields.{number_at, integer_at, bytes_at}
-use Rattle.wire.specs.Readers.{IsBytes, IsReader}
+use Rattle.wire.proofs.Readings.{number_at, integer_at, bytes_at}
+use Rattle.wire.proofs.Readings.{IsBytes, IsReader}
 use Rattle.wire.specs.Spellings.{IsSpelled, IsFieldAt, number_field, integer_field, integer_spelling, bytes_field, bytes_spelling}
 use Rattle.wire.proofs.Spelled.{IsBytes-drop, IsBytes-take, joined, first_part, second_part, ends_inside}
-
--- the value of a step that found something
-pub bind_some : {A B : Type 0} (o : Option A) (f : A → Option B) (y : B) → (o >>= f) ≡ Some y → (x : A) × (o ≡ Some x) × (f x ≡ Some y)
-bind_some (Some x) f y e = (x, refl, e)
-bind_some None f y e = absurd cc
-
-pub some_one : {A : Type 0} (x y : A) → Some x ≡ Some y → x ≡ y
-some_one x y e = cc
 
 -- a width whose numbers are spelled and read again
 pub record IsWide (w : Width) : Type 0 where
@@ -136,16 +129,6 @@ bytes_found bytes at x next fits e =
     let both = joined bytes (to_be_bytes w32 n) (take n (drop start bytes)) at start (start + n) first.1 (taken bytes start n within) in
     let Len : ℕ → Type 0 = λ k. IsSpelled bytes at (to_be_bytes w32 k ++ take n (drop start bytes)) (start + n) in
     subst (λ (p : List ℕ × ℕ). IsFieldAt bytes_field bytes at p.0 p.1) g.1 (omega (arith, first.0, len), subst Len (sym len) both)
-
--- the bytes that are read are bytes
-pub bytes_are_bytes : (bytes : List ℕ) (at : ℕ) (x : List ℕ) (next : ℕ) → IsBytes bytes → bytes_at bytes at ≡ Some (x, next) → IsBytes x
-bytes_are_bytes bytes at x next fits e =
-    let rest : ℕ × ℕ → Option (List ℕ × ℕ) = λ len. cond (leb (len.1 + len.0) (length bytes)) (Some (take len.0 (drop len.1 bytes), len.1 + len.0)) None in
-    let b = bind_some (number_at w32 bytes at) rest (x, next) e in
-    let made : List ℕ × ℕ = (take b.0.0 (drop b.0.1 bytes), b.0.1 + b.0.0) in
-    let g = cond_some (leb (b.0.1 + b.0.0) (length bytes)) made (x, next) b.2 in
-    let same : take b.0.0 (drop b.0.1 bytes) ≡ x = ap (λ (p : List ℕ × ℕ). p.0) g.1 in
-    subst IsBytes same (IsBytes-take b.0.0 (drop b.0.1 bytes) (IsBytes-drop b.0.1 bytes fits))
 
 pub bytes_only : (bytes : List ℕ) (at : ℕ) (x : List ℕ) (next : ℕ) → IsFieldAt bytes_field bytes at x next → bytes_at bytes at ≡ Some (x, next)
 bytes_only bytes at x next (small, p) =

@@ -2,8 +2,9 @@
 use Rattle.std.proofs.Common.{◌≡◌, ℕ, ◌+◌, ◌-◌, ◌<◌, ◌≤◌, List, ◌++◌, length, take, drop, Option, Some, refl, sym, ap, subst, ◌∙◌, append_assoc, arith, inl, inr}
 use Rattle.std.proofs.lemmas.Bool.{cases_lt}
 use Rattle.std.proofs.lemmas.List.{drop_at, drop-drop, length-append, length-drop, length-take, get_or-drop, get_or-take, get_or_past}
-use Rattle.wire.specs.Readers.{IsBytes, IsReader}
-use Rattle.wire.specs.Spellings.{Field, IsSpelled, HasOneSpelling}
+use Rattle.basis.proofs.Options.{some_once}
+use Rattle.wire.proofs.Readings.{IsBytes, IsReader}
+use Rattle.wire.specs.Spellings.{Field, IsSpelled, IsFieldAt, HasOneSpelling}
 
 pub IsBytes-drop : (n : ℕ) (bytes : List ℕ) → IsBytes bytes → IsBytes (drop n bytes)
 IsBytes-drop n bytes h i = rw get_or-drop (h (n + i))
@@ -44,15 +45,12 @@ ends_inside bytes s at next some p =
     let next-is : next ≡ at + length s = p.next_is in
     (omega arith, omega arith)
 
-some_is : {B : Type 0} (o : Option B) (x y : B) → o ≡ Some x → o ≡ Some y → x ≡ y
-some_is o x y p q = cc
-
 -- what a reading function finds is one thing
-pub pair_is : {A : Type 0} (o : Option (A × ℕ)) (x y : A) (m n : ℕ) → o ≡ Some (x, m) → o ≡ Some (y, n) → (x ≡ y) × (m ≡ n)
+pair_is : {A : Type 0} (o : Option (A × ℕ)) (x y : A) (m n : ℕ) → o ≡ Some (x, m) → o ≡ Some (y, n) → (x ≡ y) × (m ≡ n)
 pair_is {A} o x y m n p q =
     let first : A × ℕ = (x, m) in
     let second : A × ℕ = (y, n) in
-    let one : first ≡ second = some_is o first second p q in
+    let one : first ≡ second = some_once o first second p q in
     (ap (λ (z : A × ℕ). z.0) one, ap (λ (z : A × ℕ). z.1) one)
 
 pub at_front : (s r : List ℕ) → IsSpelled (s ++ r) 0 s (length s)
@@ -67,3 +65,10 @@ has_one {A} field read reader x y r s p q e =
     let second : read bytes 0 ≡ Some (y, length (field.spelling y)) = reader.only bytes 0 y (length (field.spelling y)) (q, subst Here (sym e) (at_front (field.spelling y) s)) in
     let same : (x ≡ y) × (length (field.spelling x) ≡ length (field.spelling y)) = pair_is (read bytes 0) x y (length (field.spelling x)) (length (field.spelling y)) first second in
     (same.0, sym (drop_at (field.spelling x) r (length (field.spelling x)) refl) ∙ ap (drop (length (field.spelling x))) e ∙ drop_at (field.spelling y) s (length (field.spelling x)) (sym same.1))
+
+-- What stands at a place is one thing.
+pub same_field : {A : Type 0} (field : Field A) → HasOneSpelling field → (bytes : List ℕ) (at : ℕ) (x y : A) (m n : ℕ) → IsFieldAt field bytes at x m → IsFieldAt field bytes at y n → (x ≡ y) × (m ≡ n)
+same_field {A} field one bytes at x y m n p q =
+    let same : x ≡ y = (one x y (drop m bytes) (drop n bytes) p.0 q.0 (sym p.1.spells ∙ q.1.spells)).0 in
+    let len : length (field.spelling x) ≡ length (field.spelling y) = ap (λ (z : A). length (field.spelling z)) same in
+    (same, omega (arith, p.1.next_is, q.1.next_is))

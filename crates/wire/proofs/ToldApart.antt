@@ -1,32 +1,39 @@
--- The fields of each kind are told apart by their spellings.
+-- The fields of each kind are told apart by their spellings, and found where they are spelled.
+use Rattle.std.proofs.Common.{◌≡◌, ℕ, List, Result, Ok, Err, ap, sym, ◌∙◌}
 use Rattle.std.specs.Int.{w16, w32, w64}
-use Rattle.wire.specs.Fields.{byte_at, number_at, integer_at, bytes_at, choice_at}
-use Rattle.wire.specs.Spellings.{AreToldApart, byte_field, number_field, integer_field, bytes_field, choice_field}
-use Rattle.wire.specs.Readers.{FindFields}
-use Rattle.wire.proofs.Spelled.{has_one}
-use Rattle.wire.proofs.NumberFields.{wide16, wide32, wide64, number_reader, integer_reader, bytes_reader}
-use Rattle.wire.proofs.ChoiceFields.{byte_reader, choice_reader}
-use Rattle.wire.proofs.ValueSpellings.{value_has_one}
+use Rattle.wire.specs.Readers.{IsFound, FindFields}
+use Rattle.wire.specs.Spellings.{Field, IsFieldAt, ReadsField, HasOneSpelling, AreToldApart, byte_field, number_field, integer_field, bytes_field, choice_field}
+use Rattle.wire.specs.declared.fault.Unreadable.{Unreadable}
+use Rattle.wire.proofs.OneSpelling.{byte_one, one_of_16, one_of_32, one_of_64, integer_one, bytes_one, choice_one}
+use Rattle.wire.proofs.Spelled.{same_field}
+use Rattle.wire.proofs.ValueSpellings.{value_one}
 
 pub all_apart : AreToldApart
 all_apart = record {
-  bytes = has_one byte_field byte_at byte_reader;
-  numbers_16 = has_one (number_field w16) (number_at w16) (number_reader w16 wide16);
-  numbers_32 = has_one (number_field w32) (number_at w32) (number_reader w32 wide32);
-  numbers_64 = has_one (number_field w64) (number_at w64) (number_reader w64 wide64);
-  integers = has_one integer_field integer_at integer_reader;
-  byte_strings = has_one bytes_field bytes_at bytes_reader;
-  choices = has_one choice_field choice_at choice_reader;
-  values = value_has_one;
+  bytes = byte_one;
+  numbers_16 = one_of_16;
+  numbers_32 = one_of_32;
+  numbers_64 = one_of_64;
+  integers = integer_one;
+  byte_strings = bytes_one;
+  choices = choice_one;
+  values = value_one;
 }
+
+found : {A : Type 0} (field : Field A) → HasOneSpelling field → IsFound field
+found {A} field one bytes at x next (Ok y) here reads =
+    let same = same_field field one bytes at y.0 x y.1 next reads here in
+    let pair : A → ℕ → Result (A × ℕ) Unreadable = λ a n. Ok (a, n) in
+    ap (λ (a : A). pair a y.1) same.0 ∙ ap (pair x) same.1
+found field one bytes at x next (Err fault) here reads = absurd (reads.1 x next here)
 
 pub all_found : FindFields
 all_found = record {
-  bytes = byte_reader;
-  numbers_16 = number_reader w16 wide16;
-  numbers_32 = number_reader w32 wide32;
-  numbers_64 = number_reader w64 wide64;
-  integers = integer_reader;
-  byte_strings = bytes_reader;
-  choices = choice_reader;
+  bytes = found byte_field byte_one;
+  numbers_16 = found (number_field w16) one_of_16;
+  numbers_32 = found (number_field w32) one_of_32;
+  numbers_64 = found (number_field w64) one_of_64;
+  integers = found integer_field integer_one;
+  byte_strings = found bytes_field bytes_one;
+  choices = found choice_field choice_one;
 }

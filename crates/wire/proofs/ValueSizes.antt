@@ -3,7 +3,7 @@ use Rattle.std.proofs.Common.{◌≡◌, ℕ, zero, suc, ◌<◌, ◌≤◌, Lis
 use Rattle.std.specs.Prelude.{OnOk}
 use Rattle.std.specs.Int.{w32, to_be_bytes}
 use Rattle.script_tree.specs.Datum.{Datum, null, bool, number, text, list, members-data_of, data_of, size, members_size}
-use Rattle.wire.specs.Spellings.{value_spelling, values_spelling}
+use Rattle.wire.specs.Spellings.{value_spelling, values_spelling, list_spelling}
 
 pub size_some : (d : Datum) → 0 < size d
 size_some null = omega arith
@@ -21,11 +21,11 @@ member_size [] i d lt e = absurd (omega arith)
 member_size (x ∷ xs) zero d lt e = let same : size d ≡ size x = ap size e in omega arith
 member_size (x ∷ xs) (suc i) d lt e = let rest = member_size xs i d (omega arith) e in omega arith
 
-pub list_spelled : (vs : List Datum) → value_spelling (list (data_of vs)) ≡ 5 ∷ (to_be_bytes w32 (length vs) ++ values_spelling (data_of vs))
+pub list_spelled : (vs : List Datum) → value_spelling (list (data_of vs)) ≡ 5 ∷ list_spelling vs
 list_spelled vs = ap (λ (ds : List Datum). 5 ∷ (to_be_bytes w32 (length ds) ++ values_spelling (data_of vs))) (members-data_of vs)
 
-pub list_written : {T E : Type 0} (r : Result T E) (vs us : List Datum) (old mid new : List ℕ) → us ≡ vs → mid ≡ old ++ 5 ∷ [] → OnOk r (new ≡ mid ++ (to_be_bytes w32 (length us) ++ values_spelling (data_of us))) → OnOk r (new ≡ old ++ value_spelling (list (data_of vs)))
+pub list_written : {T E : Type 0} (r : Result T E) (vs us : List Datum) (old mid new : List ℕ) → us ≡ vs → mid ≡ old ++ 5 ∷ [] → OnOk r (new ≡ mid ++ list_spelling us) → OnOk r (new ≡ old ++ value_spelling (list (data_of vs)))
 list_written (Ok x) vs us old mid new same front h =
-    let rest : List Datum → List ℕ = λ ws. to_be_bytes w32 (length ws) ++ values_spelling (data_of ws) in
+    let rest : List Datum → List ℕ = list_spelling in
     h ∙ ap (λ (m : List ℕ). m ++ rest us) front ∙ append_assoc old (5 ∷ []) (rest us) ∙ ap (λ (ws : List Datum). old ++ 5 ∷ rest ws) same ∙ ap (λ (s : List ℕ). old ++ s) (sym (list_spelled vs))
 list_written (Err x) vs us old mid new same front h = tt

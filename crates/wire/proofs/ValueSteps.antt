@@ -4,16 +4,16 @@ use Rattle.std.proofs.lemmas.List.{append-nil}
 use Rattle.std.specs.Int.{w32, to_be_bytes}
 use Rattle.std.specs.Prelude.{IsErrAnd}
 use Rattle.script_tree.specs.Datum.{Datum, Data, none, more, members, members-data_of, data_of, list, size, nesting, members_size, members_nesting}
-use Rattle.wire.specs.Fields.{number_at}
-use Rattle.wire.specs.Readers.{IsBytes}
-use Rattle.wire.specs.Spellings.{IsSpelled, value_spelling, values_spelling, HasWideNumbers, HaveWideNumbers}
-use Rattle.wire.specs.ValueReadings.{tag_of, tail_of, IsBounded, GivesValue, GivesTail}
-use Rattle.wire.specs.declared.fault.FileFault.{FileFault}
-use Rattle.wire.specs.declared.fault.FileFault.TheVariants.{Memory, Unreadable}
+use Rattle.script_tree.specs.declared.limits.TheConstants.{MOST_VALUE_SIZE}
+use Rattle.wire.specs.Spellings.{IsSpelled, IsFieldAt, NoneIsAt, number_field, value_spelling, values_spelling, HasWideNumbers, HaveWideNumbers}
+use Rattle.wire.specs.ValueReadings.{tag_of, tail_of, IsBounded, HasValue, HasTail, LacksValue, LacksTail, GivesValue, GivesTail}
+use Rattle.basis.specs.declared.or_memory.OrMemory.{OrMemory}
+use Rattle.basis.specs.declared.or_memory.OrMemory.TheVariants.{Memory, Other}
+use Rattle.wire.specs.declared.fault.Unreadable.{Unreadable}
 use Rattle.wire.specs.declared.value_reading.Part.{Part}
-use Rattle.wire.proofs.Spelled.{joined, first_part, second_part, pair_is}
-use Rattle.wire.proofs.NumberFields.{wide32, number_found, number_only}
-use Rattle.wire.proofs.ValueSpellings.{value_one, members_few}
+use Rattle.wire.proofs.Spelled.{joined, first_part, second_part, same_field}
+use Rattle.wire.proofs.OneSpelling.{one_of_32}
+use Rattle.wire.proofs.ValueSpellings.{value_apart, members_few}
 use Rattle.wire.proofs.ValueTags.{as_list}
 
 -- These values stand from a place to another one; what is left of the room, and their size, are the room.
@@ -41,7 +41,7 @@ wide_push : (vs : List Datum) (v : Datum) → HaveWideNumbers (data_of vs) → H
 wide_push [] v p q = (q, tt)
 wide_push (x ∷ xs) v p q = (p.0, wide_push xs v p.1 q)
 
-pub one_read : (depth room : ℕ) (bytes : List ℕ) (from : ℕ) (vs : List Datum) (to left : ℕ) (part : Part) → AreRead depth room bytes from vs to left → GivesValue depth left bytes to (Ok part) → AreRead depth room bytes from (vs ++ part.value ∷ []) part.next part.room
+pub one_read : (depth room : ℕ) (bytes : List ℕ) (from : ℕ) (vs : List Datum) (to left : ℕ) (part : Part) → AreRead depth room bytes from vs to left → HasValue depth left bytes to part → AreRead depth room bytes from (vs ++ part.value ∷ []) part.next part.room
 one_read depth room bytes from vs to left part read (here, bound) =
     let Here : List ℕ → Type 0 = λ s. IsSpelled bytes from s part.next in
     let sum : part.room + size part.value ≡ left = bound.sized in
@@ -55,15 +55,14 @@ one_read depth room bytes from vs to left part read (here, bound) =
 
 -- ---- the whole list
 
-pub list_given : (bytes : List ℕ) (at count next depth below room : ℕ) (vs : List Datum) (to left : ℕ) (d : Datum) → IsBytes bytes → number_at w32 bytes at ≡ Some (count, next) → length vs ≡ count → below + 1 ≡ depth → AreRead below room bytes next vs to left → d ≡ list (data_of vs) → GivesTail 5 depth (room + 1) bytes at (Ok (record { value = d; next = to; room = left }))
-list_given bytes at count next depth below room vs to left d fits e len under read is =
-    let number = (number_found w32 wide32 bytes at count next fits e).1 in
+pub list_given : (bytes : List ℕ) (at count next depth below room : ℕ) (vs : List Datum) (to left : ℕ) (d : Datum) → IsFieldAt (number_field w32) bytes at count next → length vs ≡ count → below + 1 ≡ depth → AreRead below room bytes next vs to left → d ≡ list (data_of vs) → HasTail 5 depth (room + 1) bytes at (record { value = d; next = to; room = left })
+list_given bytes at count next depth below room vs to left d here len under read is =
     let Count : ℕ → Type 0 = λ n. IsSpelled bytes at (to_be_bytes w32 n) next in
     let counted : length (members (data_of vs)) ≡ count = ap length (members-data_of vs) ∙ len in
-    let both = joined bytes (to_be_bytes w32 (length (members (data_of vs)))) (values_spelling (data_of vs)) at next to (subst Count (sym counted) number) read.spelled in
+    let both = joined bytes (to_be_bytes w32 (length (members (data_of vs)))) (values_spelling (data_of vs)) at next to (subst Count (sym counted) here.1) read.spelled in
     let nested : members_nesting (data_of vs) ≤ below = read.nested in
     let sized : left + members_size (data_of vs) ≡ room = read.sized in
-    let Given : Datum → Type 0 = λ x. GivesTail 5 depth (room + 1) bytes at (Ok (record { value = x; next = to; room = left })) in
+    let Given : Datum → Type 0 = λ x. HasTail 5 depth (room + 1) bytes at (record { value = x; next = to; room = left }) in
     subst Given (sym is) (refl, (both, record { wide = read.wide; nested = omega arith; sized = omega arith }))
 
 -- ---- no list
@@ -73,10 +72,10 @@ pub record IsListThere (below room : ℕ) (bytes : List ℕ) (at : ℕ) (ds : Da
   pub wide : HaveWideNumbers ds
   pub nested : members_nesting ds ≤ below
   pub sized : members_size ds ≤ room
-  pub count : number_at w32 bytes at ≡ Some (length (members ds), at + 4)
+  pub count : IsFieldAt (number_field w32) bytes at (length (members ds)) (at + 4)
   pub spelled : IsSpelled bytes (at + 4) (values_spelling ds) end'
 
-list_there : (depth below room : ℕ) (bytes : List ℕ) (at : ℕ) (d : Datum) (end' : ℕ) → room ≤ 65536 → below + 1 ≡ depth → 5 ≡ tag_of d → IsBounded depth (room + 1) d → IsSpelled bytes at (tail_of d) end' → (ds : Data) × IsListThere below room bytes at ds end'
+list_there : (depth below room : ℕ) (bytes : List ℕ) (at : ℕ) (d : Datum) (end' : ℕ) → room ≤ MOST_VALUE_SIZE → below + 1 ≡ depth → 5 ≡ tag_of d → IsBounded depth (room + 1) d → IsSpelled bytes at (tail_of d) end' → (ds : Data) × IsListThere below room bytes at ds end'
 list_there depth below room bytes at d end' small under tag bound p =
     let ds = as_list d tag in
     let P : Datum → Type 0 = λ x. IsBounded depth (room + 1) x × IsSpelled bytes at (tail_of x) end' in
@@ -90,30 +89,26 @@ list_there depth below room bytes at d end' small under tag bound p =
         wide = here.0.wide;
         nested = omega arith;
         sized = omega arith;
-        count = number_only w32 wide32 bytes at (length (members ds.0)) (at + 4) (few, first);
+        count = (few, first);
         spelled = second_part bytes (to_be_bytes w32 (length (members ds.0))) (values_spelling ds.0) at end' here.1;
       },
     )
 
-pub no_depth : (depth room : ℕ) (bytes : List ℕ) (at : ℕ) (d : Datum) (end' : ℕ) → depth < 1 → 5 ≡ tag_of d → IsBounded depth room d → IsSpelled bytes at (tail_of d) end' → ⊥
-no_depth depth room bytes at d end' none' tag bound p =
+pub no_depth : (depth room : ℕ) (bytes : List ℕ) (at : ℕ) → depth < 1 → LacksTail 5 depth room bytes at
+no_depth depth room bytes at flat d end' tag bound p =
     let ds = as_list d tag in
     let P : Datum → Type 0 = λ x. IsBounded depth room x in
     let here : P (list ds.0) = subst P ds.1 bound in
     let nested : 1 + members_nesting ds.0 ≤ depth = here.nested in
     omega arith
 
-not_both : {B : Type 0} (o : Option B) (x : B) → o ≡ None → o ≡ Some x → ⊥
-not_both o x p q = cc
-
-pub no_count : (depth below room : ℕ) (bytes : List ℕ) (at : ℕ) (d : Datum) (end' : ℕ) → room ≤ 65536 → below + 1 ≡ depth → number_at w32 bytes at ≡ None → 5 ≡ tag_of d → IsBounded depth (room + 1) d → IsSpelled bytes at (tail_of d) end' → ⊥
-no_count depth below room bytes at d end' small under none' tag bound p =
+pub no_count : (depth below room : ℕ) (bytes : List ℕ) (at : ℕ) → room ≤ MOST_VALUE_SIZE → below + 1 ≡ depth → NoneIsAt (number_field w32) bytes at → LacksTail 5 depth (room + 1) bytes at
+no_count depth below room bytes at small under none' d end' tag bound p =
     let there = list_there depth below room bytes at d end' small under tag bound p in
-    let found : ℕ × ℕ = (length (members there.0), at + 4) in
-    not_both (number_at w32 bytes at) found none' there.1.count
+    none' (length (members there.0)) (at + 4) there.1.count
 
 -- a list with more members than were read has one where the next is missed
-missing : (below left : ℕ) (bytes : List ℕ) (from : ℕ) (vs : List Datum) (to : ℕ) (ds : Data) (end' room : ℕ) → room ≤ 65536 → IsSpelled bytes from (values_spelling (data_of vs)) to → HaveWideNumbers (data_of vs) → left + members_size (data_of vs) ≡ room → HaveWideNumbers ds → members_nesting ds ≤ below → members_size ds ≤ room → IsSpelled bytes from (values_spelling ds) end' → length vs < length (members ds) → ((d : Datum) (next : ℕ) → IsBounded below left d → IsSpelled bytes to (value_spelling d) next → ⊥) → ⊥
+missing : (below left : ℕ) (bytes : List ℕ) (from : ℕ) (vs : List Datum) (to : ℕ) (ds : Data) (end' room : ℕ) → room ≤ MOST_VALUE_SIZE → IsSpelled bytes from (values_spelling (data_of vs)) to → HaveWideNumbers (data_of vs) → left + members_size (data_of vs) ≡ room → HaveWideNumbers ds → members_nesting ds ≤ below → members_size ds ≤ room → IsSpelled bytes from (values_spelling ds) end' → length vs < length (members ds) → LacksValue below left bytes to → ⊥
 missing below left bytes from [] to none end' room small read wide sum wide' nested sized there fewer not = absurd (omega arith)
 missing below left bytes from (v ∷ vs) to none end' room small read wide sum wide' nested sized there fewer not = absurd (omega arith)
 missing below left bytes from [] to (more d ds) end' room small read wide sum wide' nested sized there fewer not =
@@ -125,28 +120,28 @@ missing below left bytes from (v ∷ vs) to (more d ds) end' room small read wid
     let next' : ℕ = from + length (value_spelling d) in
     let first = first_part bytes (value_spelling v) (values_spelling (data_of vs)) from to read in
     let first' = first_part bytes (value_spelling d) (values_spelling ds) from end' there in
-    let same : v ≡ d = (value_one v d (drop next bytes) (drop next' bytes) (omega arith) (omega arith) wide.0 wide'.0 (sym first.spells ∙ first'.spells)).0 in
+    let same : v ≡ d = (value_apart v d (drop next bytes) (drop next' bytes) (omega arith) (omega arith) wide.0 wide'.0 (sym first.spells ∙ first'.spells)).0 in
     let places : next' ≡ next = ap (λ (x : Datum). from + length (value_spelling x)) (sym same) in
     let sizes : size v ≡ size d = ap size same in
     let Here : ℕ → Type 0 = λ n. IsSpelled bytes n (values_spelling ds) end' in
     let rest = subst Here places (second_part bytes (value_spelling d) (values_spelling ds) from end' there) in
     missing below left bytes next vs to ds end' (left + members_size (data_of vs)) (omega arith) (second_part bytes (value_spelling v) (values_spelling (data_of vs)) from to read) wide.1 refl wide'.1 (omega arith) (omega arith) rest (omega arith) not
 
-pub no_member : (depth below room : ℕ) (bytes : List ℕ) (at count next : ℕ) (vs : List Datum) (to left : ℕ) (d : Datum) (end' : ℕ) → room ≤ 65536 → below + 1 ≡ depth → number_at w32 bytes at ≡ Some (count, next) → length vs < count → AreRead below room bytes next vs to left → ((x : Datum) (n : ℕ) → IsBounded below left x → IsSpelled bytes to (value_spelling x) n → ⊥) → 5 ≡ tag_of d → IsBounded depth (room + 1) d → IsSpelled bytes at (tail_of d) end' → ⊥
-no_member depth below room bytes at count next vs to left d end' small under e fewer read not tag bound p =
+no_member : (depth below room : ℕ) (bytes : List ℕ) (at count next : ℕ) (vs : List Datum) (to left : ℕ) → room ≤ MOST_VALUE_SIZE → below + 1 ≡ depth → IsFieldAt (number_field w32) bytes at count next → length vs < count → AreRead below room bytes next vs to left → LacksValue below left bytes to → LacksTail 5 depth (room + 1) bytes at
+no_member depth below room bytes at count next vs to left small under here fewer read not d end' tag bound p =
     let there = list_there depth below room bytes at d end' small under tag bound p in
-    let same : (count ≡ length (members there.0)) × (next ≡ at + 4) = pair_is (number_at w32 bytes at) count (length (members there.0)) next (at + 4) e there.1.count in
+    let same = same_field (number_field w32) one_of_32 bytes at count (length (members there.0)) next (at + 4) here there.1.count in
     let Here : ℕ → Type 0 = λ n. IsSpelled bytes n (values_spelling there.0) end' in
     missing below left bytes next vs to there.0 end' room small read.spelled read.wide read.sized there.1.wide there.1.nested there.1.sized (subst Here (sym same.1) there.1.spelled) (omega (arith, same.0)) not
 
 -- the fault of a member's reader is one of the list
-fault_there : (depth below room : ℕ) (bytes : List ℕ) (at count next : ℕ) (vs : List Datum) (to left : ℕ) (fault : FileFault) → room ≤ 65536 → below + 1 ≡ depth → number_at w32 bytes at ≡ Some (count, next) → length vs < count → AreRead below room bytes next vs to left → GivesValue below left bytes to (Err fault) → GivesTail 5 depth (room + 1) bytes at (Err fault)
-fault_there depth below room bytes at count next vs to left Memory small under e fewer read gives = tt
-fault_there depth below room bytes at count next vs to left (Unreadable place) small under e fewer read gives =
-    λ d end' tag bound p. no_member depth below room bytes at count next vs to left d end' small under e fewer read gives tag bound p
+fault_there : (depth below room : ℕ) (bytes : List ℕ) (at count next : ℕ) (vs : List Datum) (to left : ℕ) (fault : OrMemory Unreadable) → room ≤ MOST_VALUE_SIZE → below + 1 ≡ depth → IsFieldAt (number_field w32) bytes at count next → length vs < count → AreRead below room bytes next vs to left → GivesValue below left bytes to (Err fault) → GivesTail 5 depth (room + 1) bytes at (Err fault)
+fault_there depth below room bytes at count next vs to left Memory small under here fewer read gives = tt
+fault_there depth below room bytes at count next vs to left (Other fault) small under here fewer read gives =
+    no_member depth below room bytes at count next vs to left small under here fewer read gives
 
-pub member_fault : (depth below room : ℕ) (bytes : List ℕ) (at count next : ℕ) (vs : List Datum) (to left : ℕ) (fault : FileFault) (r : Result Part FileFault) → room ≤ 65536 → below + 1 ≡ depth → number_at w32 bytes at ≡ Some (count, next) → length vs < count → AreRead below room bytes next vs to left → GivesValue below left bytes to (Err fault) → IsErrAnd r (λ e. e ≡ fault) → GivesTail 5 depth (room + 1) bytes at r
-member_fault depth below room bytes at count next vs to left fault (Ok part) small under e fewer read gives is = absurd is
-member_fault depth below room bytes at count next vs to left fault (Err found) small under e fewer read gives is =
-    let P : FileFault → Type 0 = λ f. GivesTail 5 depth (room + 1) bytes at (Err f) in
-    subst P (sym is) (fault_there depth below room bytes at count next vs to left fault small under e fewer read gives)
+pub member_fault : (depth below room : ℕ) (bytes : List ℕ) (at count next : ℕ) (vs : List Datum) (to left : ℕ) (fault : OrMemory Unreadable) (r : Result Part (OrMemory Unreadable)) → room ≤ MOST_VALUE_SIZE → below + 1 ≡ depth → IsFieldAt (number_field w32) bytes at count next → length vs < count → AreRead below room bytes next vs to left → GivesValue below left bytes to (Err fault) → IsErrAnd r (λ e. e ≡ fault) → GivesTail 5 depth (room + 1) bytes at r
+member_fault depth below room bytes at count next vs to left fault (Ok part) small under here fewer read gives is = absurd is
+member_fault depth below room bytes at count next vs to left fault (Err found) small under here fewer read gives is =
+    let P : OrMemory Unreadable → Type 0 = λ f. GivesTail 5 depth (room + 1) bytes at (Err f) in
+    subst P (sym is) (fault_there depth below room bytes at count next vs to left fault small under here fewer read gives)

@@ -1,4 +1,3 @@
-pub mod Fields
 pub mod Files
 pub mod Readers
 pub mod Spellings

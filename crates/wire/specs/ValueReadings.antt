@@ -1,10 +1,9 @@
 -- What the reader of values finds, by the limits that are left to it.
-use Rattle.std.specs.Prelude.{◌≡◌, ℕ, ◌+◌, ◌≤◌, List, [], ◌++◌, length, true, false, Result, Ok, Err}
+use Rattle.std.specs.Prelude.{◌≡◌, ℕ, ◌+◌, ◌≤◌, List, [], ◌++◌, length, true, false}
 use Rattle.std.specs.Int.{w32, to_be_bytes}
 use Rattle.script_tree.specs.Datum.{Datum, null, bool, number, text, list, members, size, nesting}
-use Rattle.wire.specs.Spellings.{IsSpelled, value_spelling, values_spelling, integer_spelling, bytes_spelling, HasWideNumbers}
-use Rattle.wire.specs.declared.fault.FileFault.{FileFault}
-use Rattle.wire.specs.declared.fault.FileFault.TheVariants.{Memory, Unreadable}
+use Rattle.wire.specs.Spellings.{IsSpelled, value_spelling, values_spelling, integer_spelling, bytes_spelling, HasWideNumbers, Reading}
+use Rattle.basis.specs.UnlessMemory.{UnlessMemory}
 use Rattle.wire.specs.declared.value_reading.Part.{Part}
 
 -- the first byte of a value's spelling, and what stands behind it
@@ -35,14 +34,35 @@ pub record IsWithinRoom (depth room : ℕ) (part : Part) : Type 0 where
   pub nested : nesting part.value ≤ depth
   pub sized : part.room + size part.value ≡ room
 
--- the value at a place, or none of these bounds stands there
-abbrev pub GivesValue : ℕ → ℕ → List ℕ → ℕ → Result Part FileFault → Type 0
-GivesValue depth room bytes at (Ok part) = IsSpelled bytes at (value_spelling part.value) part.next × IsWithinRoom depth room part
-GivesValue depth room bytes at (Err Memory) = Unit {0}
-GivesValue depth room bytes at (Err (Unreadable place)) = (d : Datum) (next : ℕ) → IsBounded depth room d → IsSpelled bytes at (value_spelling d) next → ⊥
+-- No value of these bounds stands at the place; and none with this tag behind it.
+abbrev pub LacksValue : ℕ → ℕ → List ℕ → ℕ → Type 0
+LacksValue depth room bytes at =
+    (d : Datum) (next : ℕ) → IsBounded depth room d → IsSpelled bytes at (value_spelling d) next → ⊥
+
+abbrev pub LacksTail : ℕ → ℕ → ℕ → List ℕ → ℕ → Type 0
+LacksTail tag depth room bytes at =
+    (d : Datum) (next : ℕ) →
+    tag ≡ tag_of d → IsBounded depth room d → IsSpelled bytes at (tail_of d) next → ⊥
+
+-- This value stands at the place, within these bounds; and, behind the tag, what is behind it.
+abbrev pub HasValue : ℕ → ℕ → List ℕ → ℕ → Part → Type 0
+HasValue depth room bytes at part =
+    IsSpelled bytes at (value_spelling part.value) part.next × IsWithinRoom depth room part
+
+abbrev pub HasTail : ℕ → ℕ → ℕ → List ℕ → ℕ → Part → Type 0
+HasTail tag depth room bytes at part =
+    (tag ≡ tag_of part.value)
+    × (IsSpelled bytes at (tail_of part.value) part.next × IsWithinRoom depth room part)
+
+-- the value at a place, or none of these bounds stands there, unless memory ran out
+abbrev pub GivesValue : ℕ → ℕ → List ℕ → ℕ → Reading Part → Type 0
+GivesValue depth room bytes at result =
+    UnlessMemory (HasValue depth room bytes at) (λ fault. LacksValue depth room bytes at) result
 
 -- the same behind the value's tag
-abbrev pub GivesTail : ℕ → ℕ → ℕ → List ℕ → ℕ → Result Part FileFault → Type 0
-GivesTail tag depth room bytes at (Ok part) = (tag ≡ tag_of part.value) × (IsSpelled bytes at (tail_of part.value) part.next × IsWithinRoom depth room part)
-GivesTail tag depth room bytes at (Err Memory) = Unit {0}
-GivesTail tag depth room bytes at (Err (Unreadable place)) = (d : Datum) (next : ℕ) → tag ≡ tag_of d → IsBounded depth room d → IsSpelled bytes at (tail_of d) next → ⊥
+abbrev pub GivesTail : ℕ → ℕ → ℕ → List ℕ → ℕ → Reading Part → Type 0
+GivesTail tag depth room bytes at result =
+    UnlessMemory
+    (HasTail tag depth room bytes at)
+    (λ fault. LacksTail tag depth room bytes at)
+    result

@@ -1,49 +1,25 @@
-use std::alloc::{AllocError, AllocFailed};
+ghost use Rattle.std.specs.Prelude.{◌≡◌};
+ghost use Rattle.basis.specs.declared.or_memory.OrMemory.TheVariants.{Other};
 
-/// No spelling of the field begins at this place.
+use basis::OrMemory;
+
+/// No spelling of the field begins at this place, or none of a record that may stand there. Of a
+/// file without its magic, the place is 0.
 #[derive(Clone, Copy, Debug, PartialEq, Eq)]
-pub struct WireFault {
+pub struct Unreadable {
     pub at: usize,
 }
 
-/// Why a file isn't read.
+/// The first record that would end past the limit of the file would begin at this place.
 #[derive(Clone, Copy, Debug, PartialEq, Eq)]
-pub enum FileFault {
-    /// Memory ran out.
-    Memory,
-    /// The first record that isn't whole and well spelled begins here; 0 where the magic isn't there.
-    Unreadable { at: usize },
+pub struct PastLimit {
+    pub at: usize,
 }
 
-impl From<AllocError> for FileFault {
-    ghost use Rattle.std.specs.Prelude.{◌≡◌};
-    ghost use Rattle.wire.specs.declared.fault.FileFault.TheVariants.{Memory};
+impl From<Unreadable> for OrMemory<Unreadable> {
+    ghost from_gives = { λ fault error. error ≡ Other fault };
 
-    ghost from_gives = { λ _ fault. fault ≡ Memory };
-
-    fn from(_error: AllocError) -> FileFault {
-        FileFault::Memory
-    }
-}
-
-impl From<WireFault> for FileFault {
-    ghost use Rattle.std.specs.Prelude.{◌≡◌};
-    ghost use Rattle.wire.specs.declared.fault.FileFault.TheVariants.{Unreadable};
-
-    ghost from_gives = { λ wire fault. fault ≡ Unreadable wire.at };
-
-    fn from(fault: WireFault) -> FileFault {
-        FileFault::Unreadable { at: fault.at }
-    }
-}
-
-impl<T: Drop> From<AllocFailed<T>> for FileFault {
-    ghost use Rattle.std.specs.Prelude.{◌≡◌};
-    ghost use Rattle.wire.specs.declared.fault.FileFault.TheVariants.{Memory};
-
-    ghost from_gives = { λ _ fault. fault ≡ Memory };
-
-    fn from(_error: AllocFailed<T>) -> FileFault {
-        FileFault::Memory
+    fn from(fault: Unreadable) -> OrMemory<Unreadable> {
+        OrMemory::Other(fault)
     }
 }

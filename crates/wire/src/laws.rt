@@ -7,7 +7,7 @@ pub fn fields_are_told_apart()
     ensures { AreToldApart }
 {}
 
-/// What the readers' clauses say step by step is what is spelled.
+/// Where a field is spelled, its reader finds it, and the place behind it.
 pub fn readers_find_what_is_spelled()
     ensures { FindFields }
 {}

@@ -4,7 +4,10 @@
 
 pub mod fault;
 pub mod field;
+pub mod file;
 pub mod laws;
+pub mod limits;
+pub mod record;
 #[cfg(test)]
 mod tests;
 pub mod value_reading;

@@ -1,4 +1,4 @@
-use crate::fault::{FileFault, WireFault};
+use crate::fault::Unreadable;
 use crate::field::{
     frame, read_bytes, read_choice, read_i64, read_u8, read_u16, read_u32, read_u64,
 };
@@ -7,6 +7,7 @@ use crate::value_writing::write_value;
 use crate::writing::{
     write_bytes, write_choice, write_i64, write_u8, write_u16, write_u32, write_u64,
 };
+use basis::OrMemory;
 use script_tree::operation::Choice;
 use script_tree::value::{Value, Values};
 use std::test::Fail;
@@ -17,20 +18,20 @@ const RECORD: &[u8; 16] = b"\x00\x00\x00\x0c\x02\x00\x00\x00\x00\x00\xc8\x00\x00
 #[test]
 fn numbers(rt: HostRuntime) {
     assert_eq!(rt; read_u8(RECORD, 4), Ok((2, 5)));
-    assert_eq!(rt; read_u8(RECORD, 16), Err(WireFault { at: 16 }));
+    assert_eq!(rt; read_u8(RECORD, 16), Err(Unreadable { at: 16 }));
     assert_eq!(rt; read_u16(RECORD, 9), Ok((200, 11)));
-    assert_eq!(rt; read_u16(RECORD, 15), Err(WireFault { at: 15 }));
+    assert_eq!(rt; read_u16(RECORD, 15), Err(Unreadable { at: 15 }));
     assert_eq!(rt; read_u32(RECORD, 0), Ok((12, 4)));
     assert_eq!(rt;
         read_u32(RECORD, usize::MAX),
-        Err(WireFault { at: usize::MAX })
+        Err(Unreadable { at: usize::MAX })
     );
     let one = b"\x03\x00\x00\x00\x00\x00\x00\x00\x01";
     assert_eq!(rt; read_u64(one, 1), Ok((1, 9)));
     assert_eq!(rt; read_i64(one, 1), Ok((1, 9)));
     let minus_two = b"\xff\xff\xff\xff\xff\xff\xff\xfe";
     assert_eq!(rt; read_i64(minus_two, 0), Ok((-2, 8)));
-    assert_eq!(rt; read_i64(minus_two, 1), Err(WireFault { at: 1 }));
+    assert_eq!(rt; read_i64(minus_two, 1), Err(Unreadable { at: 1 }));
 }
 
 #[test]
@@ -40,7 +41,7 @@ fn parts(rt: HostRuntime) -> Result<(), Fail> {
     let (body, next) = read_bytes(payload, 7)?;
     assert!(rt; body == b"3".as_slice());
     assert_eq!(rt; next, 12);
-    assert_eq!(rt; read_bytes(RECORD, 1).err(), Some(WireFault { at: 1 }));
+    assert_eq!(rt; read_bytes(RECORD, 1).err(), Some(Unreadable { at: 1 }));
     Ok(())
 }
 
@@ -49,8 +50,8 @@ fn choices(rt: HostRuntime) {
     let choices = b"\x00\x01\x00\x00\x00\x00\x00\x00\x00\x05\x02\x01";
     assert_eq!(rt; read_choice(choices, 0), Ok((Choice::Nothing, 1)));
     assert_eq!(rt; read_choice(choices, 1), Ok((Choice::Number(5), 10)));
-    assert_eq!(rt; read_choice(choices, 10), Err(WireFault { at: 10 }));
-    assert_eq!(rt; read_choice(choices, 11), Err(WireFault { at: 11 }));
+    assert_eq!(rt; read_choice(choices, 10), Err(Unreadable { at: 10 }));
+    assert_eq!(rt; read_choice(choices, 11), Err(Unreadable { at: 11 }));
 }
 
 #[test]
@@ -77,7 +78,7 @@ fn written_fields(rt: HostRuntime) -> Result<(), Fail> {
 fn values(rt: HostRuntime) -> Result<(), Fail> {
     let mut items = Vec::new(rt.alloc());
     items.push(Value::null())?;
-    let list = Value::list(Values::from_vec(items));
+    let list = Value::list(Values::from_vec(items)?);
     let rows: [(&[u8], Value); 2] = [
         (b"\x03\x00\x00\x00\x00\x00\x00\x00\x01", Value::number(1)),
         (b"\x05\x00\x00\x00\x01\x00", list),
@@ -103,6 +104,6 @@ fn bad_values(rt: HostRuntime) {
     ];
     for bytes in rows {
         let found = read_value(rt.alloc(), bytes, 0).err();
-        assert_eq!(rt; found, Some(FileFault::Unreadable { at: 0 }));
+        assert_eq!(rt; found, Some(OrMemory::Other(Unreadable { at: 0 })));
     }
 }

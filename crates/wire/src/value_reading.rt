@@ -2,34 +2,34 @@ ghost use Rattle.std.specs.Prelude.{ℕ, ◌+◌, ◌≤◌};
 ghost use Rattle.wire.specs.Spellings.{TakesField, value_field};
 ghost use Rattle.wire.specs.ValueReadings.{GivesValue, GivesTail};
 
-use crate::fault::FileFault;
+use crate::fault::Unreadable;
 use crate::field::{read_bytes, read_i64, read_u8, read_u32};
+use basis::OrMemory;
+use script_tree::limits::{MOST_VALUE_NESTING, MOST_VALUE_SIZE};
 use script_tree::text::Text;
 use script_tree::value::{Value, Values};
 use std::alloc::Global;
-
-/// How deep the lists of a value may nest.
-const MOST_NESTING: usize = 16;
-
-/// How large a value may be.
-const MOST_SIZE: usize = 65_536;
 
 /// A value that was read, the place behind it, and how much larger it might have been.
 #[derive(Drop)]
 struct Part {
     value: Value,
     next: usize,
-    room: usize,
+    room: u64,
 }
 
 /// It reads no deeper and no further than the limits of a value, whatever counts are there.
-pub fn read_value(alloc: Global, bytes: &[u8], at: usize) -> Result<(Value, usize), FileFault>
+pub fn read_value(
+    alloc: Global,
+    bytes: &[u8],
+    at: usize,
+) -> Result<(Value, usize), OrMemory<Unreadable>>
     ensures { TakesField (λ d. d) value_field bytes.now at result }
 {
-    match read_any(alloc, bytes, at, MOST_NESTING, MOST_SIZE) {
+    match read_any(alloc, bytes, at, MOST_VALUE_NESTING, MOST_VALUE_SIZE) {
         Ok(part) => Ok((part.value, part.next)),
-        Err(FileFault::Memory) => Err(FileFault::Memory),
-        Err(FileFault::Unreadable { .. }) => Err(FileFault::Unreadable { at }),
+        Err(OrMemory::Memory) => Err(OrMemory::Memory),
+        Err(OrMemory::Other(_)) => Err(OrMemory::Other(Unreadable { at })),
     }
 }
 
@@ -39,15 +39,15 @@ fn read_any(
     alloc: Global,
     bytes: &[u8],
     at: usize,
-    depth: usize,
-    room: usize,
-) -> Result<Part, FileFault>
-    requires { room ≤ 65536 }
+    depth: u64,
+    room: u64,
+) -> Result<Part, OrMemory<Unreadable>>
+    requires { room ≤ MOST_VALUE_SIZE }
     ensures { GivesValue depth room bytes.now at result }
 {
     let (tag, next) = read_u8(bytes, at)?;
     let Some(left) = room.checked_sub(1) else {
-        return Err(FileFault::Unreadable { at });
+        return Err(OrMemory::Other(Unreadable { at }));
     };
     match tag {
         0 => Ok(Part {
@@ -68,12 +68,12 @@ fn read_any(
         3 => read_number(bytes, next, left),
         4 => read_text(alloc, bytes, next, left),
         5 => read_list(alloc, bytes, next, depth, left),
-        _ => Err(FileFault::Unreadable { at }),
+        _ => Err(OrMemory::Other(Unreadable { at })),
     }
 }
 
 /// The number behind its tag.
-fn read_number(bytes: &[u8], at: usize, room: usize) -> Result<Part, FileFault>
+fn read_number(bytes: &[u8], at: usize, room: u64) -> Result<Part, OrMemory<Unreadable>>
     ensures { (depth : ℕ) → GivesTail 3 depth (room + 1) bytes.now at result }
 {
     let (number, next) = read_i64(bytes, at)?;
@@ -85,17 +85,23 @@ fn read_number(bytes: &[u8], at: usize, room: usize) -> Result<Part, FileFault>
 }
 
 /// The text behind its tag.
-fn read_text(alloc: Global, bytes: &[u8], at: usize, room: usize) -> Result<Part, FileFault>
-    requires { room ≤ 65536 }
+fn read_text(
+    alloc: Global,
+    bytes: &[u8],
+    at: usize,
+    room: u64,
+) -> Result<Part, OrMemory<Unreadable>>
+    requires { room ≤ MOST_VALUE_SIZE }
     ensures { (depth : ℕ) → GivesTail 4 depth (room + 1) bytes.now at result }
 {
     let (text, next) = read_bytes(bytes, at)?;
-    let Some(left) = room.checked_sub(text.len()) else {
-        return Err(FileFault::Unreadable { at });
+    let Some(left) = room.checked_sub(text.len() as u64) else {
+        return Err(OrMemory::Other(Unreadable { at }));
     };
     let text = Text::from_vec(Vec::from_slice(alloc, text)?);
+    let value = Value::text(alloc, text)?;
     Ok(Part {
-        value: Value::text(text),
+        value,
         next,
         room: left,
     })
@@ -107,14 +113,14 @@ fn read_list(
     alloc: Global,
     bytes: &[u8],
     at: usize,
-    depth: usize,
-    room: usize,
-) -> Result<Part, FileFault>
-    requires { room ≤ 65536 }
+    depth: u64,
+    room: u64,
+) -> Result<Part, OrMemory<Unreadable>>
+    requires { room ≤ MOST_VALUE_SIZE }
     ensures { GivesTail 5 depth (room + 1) bytes.now at result }
 {
     let Some(below) = depth.checked_sub(1) else {
-        return Err(FileFault::Unreadable { at });
+        return Err(OrMemory::Other(Unreadable { at }));
     };
     let (count, next) = read_u32(bytes, at)?;
     let mut values = Vec::new(alloc);
@@ -126,8 +132,9 @@ fn read_list(
         place = part.next;
         left = part.room;
     }
+    let members = Values::from_vec(values)?;
     Ok(Part {
-        value: Value::list(Values::from_vec(values)),
+        value: Value::list(members),
         next: place,
         room: left,
     })

@@ -1,8 +1,7 @@
-ghost use Rattle.std.specs.Prelude.{◌≡◌, ◌++◌, ◌<◌, ◌^◌, length, OnOk, OnErr};
-ghost use Rattle.std.specs.Int.{w32, to_be_bytes};
+ghost use Rattle.std.specs.Prelude.{◌≡◌, ◌++◌, ◌<◌, ◌^◌, OnOk, OnErr};
 ghost use Rattle.script_tree.specs.Datum.{IsWithinLimits, size, members_size, data_of};
 ghost use Rattle.script_tree.specs.ValueView.{datum_of};
-ghost use Rattle.wire.specs.Spellings.{IsFront, value_spelling, values_spelling};
+ghost use Rattle.wire.specs.Spellings.{IsFront, value_spelling, list_spelling};
 
 use crate::writing::{write_bytes, write_i64, write_u8, write_u32};
 use script_tree::value::{Node, Value};
@@ -55,7 +54,7 @@ fn write_node(out: &mut Vec<u8>, node: &Node) -> Result<(), AllocError>
 #[cycle(write_any)]
 fn write_all(out: &mut Vec<u8>, values: &[Value]) -> Result<(), AllocError>
     requires { members_size (data_of values.now) < 2 ^ 32 }
-    ensures ok { OnOk result (out.new.items ≡ out.old.items ++ (to_be_bytes w32 (length values.now) ++ values_spelling (data_of values.now))) }
+    ensures ok { OnOk result (out.new.items ≡ out.old.items ++ list_spelling values.now) }
     ensures err { OnErr result (IsFront out.old.items out.new.items) }
 {
     write_u32(out, values.len() as u32)?;

@@ -1,18 +1,12 @@
-use Rattle.std.proofs.Common.{◌≡◌, ◌+◌, ◌-◌, suc, ◌∙◌, arith}
-use Rattle.wire.proofs.TakesLaws.{Takes-handed_on}
-use Rattle.trace_format.specs.Readings.{parameter_at, parameters_at}
-use Rattle.trace_format.proofs.ParameterSteps.{behind-more, behind-none}
+use Rattle.wire.proofs.Faults.{part_not_taken}
+use Rattle.trace_format.specs.Events.{parameter_field, parameters_field}
+use Rattle.trace_format.proofs.RequestFields.{parameter_more, no_parameter}
 use Rattle.trace_format.proofs.request.read_parameters.Goals as goal
 
 pub returns-in_err-parameter : goal.returns-in_err-parameter
 returns-in_err-parameter c =
-    let left : c.args.count - c.loop.counter ≡ suc (c.args.count - (c.loop.counter + 1)) = omega arith in
-    Takes-handed_on c.in_err-parameter.field-0.0 c.from_residual.result (parameter_at c.args.bytes.now c.loop.place) (parameters_at c.args.count c.args.bytes.now c.args.at)
-    c.in_err-parameter.ensures
-    c.from_residual.ensures.1
-    (λ none. c.loop.invariant ∙ behind-none _ _ c.args.bytes.now c.loop.parameters.items c.loop.place left none)
+    part_not_taken parameter_field (parameters_field c.args.count) (λ x. x) (λ x. x) c.args.bytes.now c.loop.place c.args.at c.in_err-parameter.field-0.0 c.from_residual.result c.in_err-parameter.ensures c.from_residual.ensures.1 (no_parameter c.args.count c.args.bytes.now c.args.at c.loop.parameters.items c.loop.place c.loop.counter c.loop.invariant c.loop-test.true)
 
 pub loop-preserved : goal.loop-preserved
 loop-preserved c =
-    let left : c.args.count - c.loop.counter ≡ suc (c.args.count - (c.loop.counter + 1)) = omega arith in
-    rw c.in_ok-push.ensures.items (c.loop.invariant ∙ behind-more _ _ c.args.bytes.now c.loop.parameters.items c.loop.place c.in_ok-parameter.next c.in_ok-parameter.parameter left c.in_ok-parameter.ensures)
+    rw c.in_ok-push.ensures.items (parameter_more c.loop.counter c.args.bytes.now c.args.at c.loop.parameters.items c.loop.place c.in_ok-parameter.parameter c.in_ok-parameter.next c.loop.invariant c.in_ok-parameter.ensures)

@@ -1,7 +1,6 @@
-use Rattle.std.proofs.Common.{◌≡◌, ◌-◌}
-use Rattle.trace_format.specs.Readings.{parameters_at}
-use Rattle.trace_format.proofs.ParameterSteps.{behind}
+use Rattle.wire.specs.Spellings.{IsFieldAt}
+use Rattle.trace_format.specs.Events.{parameters_field}
 use Rattle.trace_format.proofs.request.read_parameters.Given as goal
 
 abbrev pub invariant-loop : goal.invariant-loop
-invariant-loop l = parameters_at l.count l.bytes l.at ≡ behind l.parameters.items (parameters_at (l.count - l.counter) l.bytes l.place)
+invariant-loop l = IsFieldAt (parameters_field l.counter) l.bytes l.at l.parameters.items l.place

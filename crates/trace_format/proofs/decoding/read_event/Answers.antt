@@ -1,0 +1,13 @@
+use Rattle.wire.specs.Spellings.{bytes_field}
+use Rattle.wire.proofs.Faults.{part_missed, part_not_taken}
+use Rattle.trace_format.specs.Events.{event_field, request_field, response_field}
+use Rattle.trace_format.proofs.EventFields.{no_tag, no_id, no_request, no_response}
+use Rattle.trace_format.proofs.decoding.read_event.Goals as goal
+
+pub returns-in_err-tag : goal.returns-in_err-tag
+returns-in_err-tag c =
+    part_missed (event_field c.args.asked) (λ x. x) c.args.payload.now 0 c.in_err-tag.field-0.0 c.from_residual.result c.from_residual.ensures.1 (no_tag c.args.asked c.args.payload.now 0 c.in_err-tag.ensures.field.1)
+
+pub returns-in_err-id : goal.returns-in_err-id
+returns-in_err-id c =
+    part_missed (event_field c.args.asked) (λ x. x) c.args.payload.now 0 c.in_err-id.field-0.0 c.from_residual-in_err-id.result c.from_residual-in_err-id.ensures.1 (no_id c.args.asked c.args.payload.now 0 c.in_ok-tag.tag c.in_ok-tag.next c.in_ok-tag.ensures.field c.in_err-id.ensures.field.1)

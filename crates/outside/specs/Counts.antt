@@ -10,7 +10,8 @@ next_count n = max n (min (n + 1) LAST_COUNT)
 abbrev pub HasRisen : ℕ → ℕ → Type 0
 HasRisen before after = next_count before ≤ after
 
--- What calls do to a count of something: it never falls, has risen where that came about, and else is what it was.
+-- What calls do to a count of something: it never falls, has risen where that came about, and else
+-- is what it was.
 pub record RisesWhere (before after : ℕ) (so : Type 0) : Type 0 where
   pub no_fall : before ≤ after
   pub risen : so → HasRisen before after

@@ -16,8 +16,9 @@ abbrev pub next_door : List DoorToCome → DoorTold
 next_door [] = new_door [] true
 next_door (door ∷ doors) = new_door door.links door.never_fails
 
--- The doors that are still to come and those that were taken back, in that order, where that is told, how often the
--- house has failed or taken back a door that had, and whether it is told that the house itself never fails.
+-- The doors that are still to come and those that were taken back, in that order, where that is
+-- told, how often the house has failed or taken back a door that had, and whether it is told that
+-- the house itself never fails.
 pub record HouseTold : Type 0 where
   pub coming : Option (List DoorToCome)
   pub back : Option (List DoorTold)
@@ -26,11 +27,20 @@ pub record HouseTold : Type 0 where
 
 -- these doors to come, and nothing done yet
 abbrev pub new_house : List DoorToCome → Bool → HouseTold
-new_house doors never_fails = record { coming = Some doors; back = Some []; faults = 0; never_fails = never_fails }
+new_house doors never_fails = record {
+  coming = Some doors;
+  back = Some [];
+  faults = 0;
+  never_fails = never_fails;
+}
+
+-- one more fault
+abbrev pub with_fault : HouseTold → HouseTold
+with_fault told = record told { faults = next_count told.faults }
 
 -- A call that was refused hands out nothing.
 abbrev pub IsHouseRefused : HouseTold → HouseTold → Fault → Type 0
-IsHouseRefused old new Failed = (new ≡ record old { faults = next_count old.faults }) × (old.never_fails ≡ false)
+IsHouseRefused old new Failed = (new ≡ with_fault old) × (old.never_fails ≡ false)
 IsHouseRefused old new Memory = new ≡ old
 
 -- The house opened at an address.
@@ -39,7 +49,8 @@ IsOpened old new (Ok done) = new ≡ old
 IsOpened old new (Err fault) = IsHouseRefused old new fault
 
 -- A door handed out, which starts with no faults.
-abbrev pub IsHandedOut : {A : Type 0} → (A → DoorTold) → HouseTold → HouseTold → Result A Fault → Type 0
+abbrev pub IsHandedOut : {A : Type 0} → (A → DoorTold) → HouseTold → HouseTold → Result A Fault
+    → Type 0
 IsHandedOut told old new (Ok door) =
     (new ≡ record old { coming = option_map (drop 1) old.coming }) × ((told door).faults ≡ 0)
     × ForSome old.coming (λ doors. told door ≡ next_door doors)
@@ -52,4 +63,7 @@ faults_with door n = if door.faults == 0 then n else next_count n
 -- A door taken back.
 abbrev pub IsTakenBack : HouseTold → HouseTold → DoorTold → Type 0
 IsTakenBack old new door =
-    new ≡ record old { back = option_map (λ doors. doors ++ door ∷ []) old.back; faults = faults_with door old.faults }
+    new ≡ record old {
+      back = option_map (λ doors. doors ++ door ∷ []) old.back;
+      faults = faults_with door old.faults;
+    }

@@ -11,7 +11,10 @@ use Rattle.outside.specs.declared.memory.link.MemLink.{MemLink}
 
 -- the link of a plan
 abbrev pub link_to_come : LinkPlan → LinkToCome
-link_to_come plan = record { bytes = plan.bytes.items; never_fails = length plan.failing.items == 0 }
+link_to_come plan = record {
+  bytes = plan.bytes.items;
+  never_fails = length plan.failing.items == 0;
+}
 
 -- what is told of a door with these visits
 abbrev pub visits_told : Visits → DoorTold

@@ -11,7 +11,10 @@ use Rattle.outside.specs.declared.memory.house.MemHouse.{MemHouse}
 
 -- the door of a plan
 abbrev pub door_to_come : DoorPlan → DoorToCome
-door_to_come plan = record { links = map link_to_come plan.links.items; never_fails = length plan.failing.items == 0 }
+door_to_come plan = record {
+  links = map link_to_come plan.links.items;
+  never_fails = length plan.failing.items == 0;
+}
 
 abbrev pub house_told : MemHouse → HouseTold
 house_told house = record {

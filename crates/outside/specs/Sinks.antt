@@ -5,8 +5,8 @@ use Rattle.outside.specs.Streams.{IsTakenFrom, and_then, Extends}
 use Rattle.outside.specs.declared.fault.Fault.{Fault}
 use Rattle.outside.specs.declared.fault.Fault.TheVariants.{Failed, Memory}
 
--- The bytes written so far, where that is told, how often the sink has failed, and whether it is told that it never
--- fails.
+-- The bytes written so far, where that is told, how often the sink has failed, and whether it is
+-- told that it never fails.
 pub record SinkTold : Type 0 where
   pub written : Option (List ℕ)
   pub faults : ℕ
@@ -24,10 +24,15 @@ count_alone faults = record { written = None; faults = faults; never_fails = fal
 abbrev pub with_written : List ℕ → SinkTold → SinkTold
 with_written bytes told = record told { written = and_then told.written bytes }
 
+-- one more fault
+abbrev pub with_fault : SinkTold → SinkTold
+with_fault told = record told { faults = next_count told.faults }
+
 -- A write of bytes from the front of these. Refused, none is taken.
 abbrev pub IsSinkWrite : SinkTold → SinkTold → List ℕ → Result ℕ Fault → Type 0
-IsSinkWrite old new bytes (Ok count) = IsTakenFrom bytes count × (new ≡ with_written (take count bytes) old)
-IsSinkWrite old new bytes (Err Failed) = (new ≡ record old { faults = next_count old.faults }) × (old.never_fails ≡ false)
+IsSinkWrite old new bytes (Ok count) =
+    IsTakenFrom bytes count × (new ≡ with_written (take count bytes) old)
+IsSinkWrite old new bytes (Err Failed) = (new ≡ with_fault old) × (old.never_fails ≡ false)
 IsSinkWrite old new bytes (Err Memory) = new ≡ old
 
 -- Any number of writes, of which one failed just where this holds.

@@ -1,10 +1,10 @@
 //! What the project asks of the world outside: files by name, streams, connections, a clock and a
 //! gate for tests, as traits. Memory implements them here; the operating system does elsewhere.
 //!
-//! What an object holds is told by its ghost member `told`, in parts that are optional: memory tells
-//! it, and the real world tells no more than counts. Each call of a method is one fact about what was
-//! told before and after it (`used`), and so is any number of reads or of writes (`UsesShelf`,
-//! `UsesSink`).
+//! What an object holds is told by its ghost member `told`, in parts that are optional: memory
+//! tells it, and the real world tells no more than counts. Each call of a method is one fact about
+//! what was told before and after it (`used`), and so is any number of reads or of writes
+//! (`UsesShelf`, `UsesSink`).
 #![tactic(auto)]
 
 pub mod clock;

@@ -13,7 +13,8 @@ pub trait Link {
     fn read(&mut self, into: &mut [u8]) -> Result<usize, Fault>
         ensures used { IsLinkRead (told self.old) (told self.new) into.old into.new result };
 
-    /// Writes bytes from the front of these, and answers how many: at least one, unless there is none.
+    /// Writes bytes from the front of these, and answers how many: at least one, unless there is
+    /// none.
     fn write(&mut self, bytes: &[u8]) -> Result<usize, Fault>
         ensures used { IsLinkWrite (told self.old) (told self.new) bytes.now result };
 }

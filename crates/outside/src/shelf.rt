@@ -8,10 +8,11 @@ pub trait Shelf {
     ghost told: { Self → ShelfTold };
 
     /// Reads from `offset` bytes into the file on, at most as much as `into` takes, and answers how
-    /// many bytes were read: 0 into a piece that isn't empty is the end of the file. Where the read is
-    /// refused, nothing is said of what is in `into`.
+    /// many bytes were read: 0 into a piece that isn't empty is the end of the file. Where the read
+    /// is refused, nothing is said of what is in `into`.
     fn read_at(&mut self, name: &str, offset: u64, into: &mut [u8]) -> Result<usize, ShelfFault>
-        ensures used { IsReadAt (told self.old) (told self.new) name.now offset into.old into.new result };
+        ensures used { IsReadAt (told self.old) (told self.new) name.now offset into.old
+            into.new result };
 
     /// Puts these bytes under the name, in place of what was there.
     fn write(&mut self, name: &str, bytes: &[u8]) -> Result<(), Fault>

@@ -15,8 +15,8 @@ use crate::memory::link::MemLink;
 use std::alloc::{AllocError, Global};
 use std::num::NonZeroUsize;
 
-/// A link that is to come: what is read from it, which of its calls fail, and the most bytes that it
-/// takes or gives at a time, where there is a bound.
+/// A link that is to come: what is read from it, which of its calls fail, and the most bytes that
+/// it takes or gives at a time, where there is a bound.
 #[derive(Drop)]
 pub struct LinkPlan {
     pub bytes: Vec<u8>,
@@ -58,7 +58,8 @@ impl MemDoor {
         failing: Vec<u64>,
         room: Box<Kept>,
     ) -> Self
-        ensures told { door_told result ≡ new_door (map link_to_come links.items) (vec_len failing == 0) }
+        ensures told { door_told result
+            ≡ new_door (map link_to_come links.items) (vec_len failing == 0) }
         ensures planned { IsPlanned failing.items (door_failing result) }
     {
         MemDoor {

@@ -2,8 +2,8 @@ ghost use Rattle.std.specs.Prelude.{◌≡◌, true, false, if◌then◌else◌}
 ghost use Rattle.outside.specs.Counts.{next_count};
 ghost use Rattle.outside.specs.Failing.{fault_count, is_sure, IsPlanned, GoesAsPlanned, SamePlan};
 
-/// Which calls of an object fail, by their numbers. The calls that can fail are numbered from 0, over
-/// all of the object's methods. The numbers stay at the last one of 64 bits.
+/// Which calls of an object fail, by their numbers. The calls that can fail are numbered from 0,
+/// over all of the object's methods. The numbers stay at the last one of 64 bits.
 #[derive(Drop)]
 pub struct Failing {
     calls: Vec<u64>,

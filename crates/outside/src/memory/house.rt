@@ -35,7 +35,8 @@ impl MemHouse {
 
     /// A house that hands out these doors, in order.
     pub fn new(alloc: Global, doors: Vec<DoorPlan>, failing: Vec<u64>) -> Self
-        ensures told { house_told result ≡ new_house (map door_to_come doors.items) (vec_len failing == 0) }
+        ensures told { house_told result
+            ≡ new_house (map door_to_come doors.items) (vec_len failing == 0) }
         ensures planned { IsPlanned failing.items (house_failing result) }
     {
         MemHouse {
@@ -48,7 +49,8 @@ impl MemHouse {
 
     /// The doors that came back, the last one first.
     pub fn back(&self) -> Back<'_>
-        ensures { (house_told self.now).back ≡ Some (reverse (map visits_told (visits_left result))) }
+        ensures { (house_told self.now).back
+            ≡ Some (reverse (map visits_told (visits_left result))) }
     {
         Back { kept: &self.back }
     }

@@ -79,7 +79,8 @@ impl Link for MemLink {
 
     /// It gives as much as its bound lets it.
     fn read(&mut self, into: &mut [u8]) -> Result<usize, Fault>
-        ensures used { IsLinkRead (link_told self.old) (link_told self.new) into.old into.new result }
+        ensures used { IsLinkRead (link_told self.old) (link_told self.new) into.old
+            into.new result }
         ensures planned { GoesAsPlanned (link_failing self.old) (link_failing self.new)
             (result ≡ Err Fault.Failed) }
         ensures count { IfOk result (λ count.
@@ -101,7 +102,8 @@ impl Link for MemLink {
         ensures used { IsLinkWrite (link_told self.old) (link_told self.new) bytes.now result }
         ensures planned { GoesAsPlanned (link_failing self.old) (link_failing self.new)
             (result ≡ Err Fault.Failed) }
-        ensures count { IfOk result (λ count. count ≡ piece_len (link_bound self.old) (length bytes.now)) }
+        ensures count { IfOk result (λ count.
+            count ≡ piece_len (link_bound self.old) (length bytes.now)) }
         ensures bound { link_bound self.new ≡ link_bound self.old }
     {
         if self.failing.next_fails() {

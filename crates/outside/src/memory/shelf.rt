@@ -35,10 +35,11 @@ impl MemShelf {
         }
     }
 
-    /// Puts these bytes under the name. It is no call of the shelf, so it is not counted and doesn't
-    /// fail as one.
+    /// Puts these bytes under the name. It is no call of the shelf, so it is not counted and
+    /// doesn't fail as one.
     pub fn put(&mut self, name: &str, bytes: &[u8]) -> Result<(), AllocError>
-        ensures ok { OnOk result (shelf_told self.new ≡ with_file name.now bytes.now (shelf_told self.old)) }
+        ensures ok { OnOk result (shelf_told self.new
+            ≡ with_file name.now bytes.now (shelf_told self.old)) }
         ensures err { OnErr result (shelf_told self.new ≡ shelf_told self.old) }
         ensures planned { SamePlan (shelf_failing self.old) (shelf_failing self.new) }
     {
@@ -47,7 +48,8 @@ impl MemShelf {
 
     /// The bytes under the name.
     pub fn get(&self, name: &str) -> Option<&[u8]>
-        ensures { IfSome (shelf_told self.now).files (λ files. option_copied result ≡ get files name.now) }
+        ensures { IfSome (shelf_told self.now).files
+            (λ files. option_copied result ≡ get files name.now) }
     {
         file_in(&self.files, name)
     }
@@ -91,8 +93,8 @@ impl Shelf for MemShelf {
     ghost told = { shelf_told };
 
     fn read_at(&mut self, name: &str, offset: u64, into: &mut [u8]) -> Result<usize, ShelfFault>
-        ensures used { IsReadAt (shelf_told self.old) (shelf_told self.new) name.now offset into.old into.new
-            result }
+        ensures used { IsReadAt (shelf_told self.old) (shelf_told self.new) name.now offset
+            into.old into.new result }
         ensures planned { GoesAsPlanned (shelf_failing self.old) (shelf_failing self.new)
             (result ≡ Err ShelfFault.Failed) }
         ensures no_memory { result ≢ Err ShelfFault.Memory }

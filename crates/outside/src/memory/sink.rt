@@ -56,7 +56,8 @@ impl Sink for MemSink {
         ensures used { IsSinkWrite (sink_told self.old) (sink_told self.new) bytes.now result }
         ensures planned { GoesAsPlanned (sink_failing self.old) (sink_failing self.new)
             (result ≡ Err Fault.Failed) }
-        ensures count { IfOk result (λ count. count ≡ piece_len (sink_bound self.old) (length bytes.now)) }
+        ensures count { IfOk result (λ count.
+            count ≡ piece_len (sink_bound self.old) (length bytes.now)) }
         ensures bound { sink_bound self.new ≡ sink_bound self.old }
     {
         if self.failing.next_fails() {

@@ -1,5 +1,5 @@
-//! Each object in memory through its trait's bound: that its calls succeed where there is memory, and
-//! how a caller of many calls carries one fact.
+//! Each object in memory through its trait's bound: that its calls succeed where there is memory,
+//! and how a caller of many calls carries one fact.
 ghost use Rattle.std.specs.Prelude.{◌≡◌, Err};
 ghost use Rattle.outside.specs.Shelves.{UsesShelf};
 ghost use Rattle.outside.specs.Sinks.{UsesSink};

@@ -2,6 +2,7 @@
 //! or a stream, does is for the system to say.
 #![tactic(auto)]
 
+mod fault;
 pub mod shelf;
 pub mod sink;
 #[cfg(test)]

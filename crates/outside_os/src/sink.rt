@@ -1,5 +1,7 @@
-ghost use Rattle.std.specs.Prelude.{◌≡◌, None, false};
+ghost use Rattle.std.specs.Prelude.{◌≡◌};
+ghost use Rattle.outside.specs.Sinks.{count_alone};
 
+use crate::fault::fault_of;
 use outside::{Fault, Sink};
 use std::io::{ErrorKind, Stdout, Write};
 
@@ -22,20 +24,19 @@ impl<W: Write + Drop> StreamSink<W> {
 }
 
 impl<W: Write + Drop> Sink for StreamSink<W> {
-    ghost written = { λ _. None };
+    ghost told = { λ sink. count_alone sink.faults };
 
-    ghost faults = { λ sink. sink.faults };
-
-    ghost never_fails = { λ _. false };
-
+    /// A write that takes none of some bytes has failed.
     fn write(&mut self, bytes: &[u8]) -> Result<usize, Fault> {
-        match self.stream.write(bytes) {
-            Ok(count) if count > 0 || bytes.is_empty() => Ok(count),
-            Err(error) if error.kind() == ErrorKind::OutOfMemory => Err(Fault::Memory),
-            Ok(_) | Err(_) => {
-                self.faults = self.faults.saturating_add(1);
-                Err(Fault::Failed)
-            }
+        let kind = match self.stream.write(bytes) {
+            Ok(count) if count > 0 || bytes.is_empty() => return Ok(count),
+            Ok(_) => ErrorKind::WriteZero,
+            Err(error) => error.kind(),
+        };
+        let fault = fault_of(kind);
+        if fault == Fault::Failed {
+            self.faults = self.faults.saturating_add(1);
         }
+        Err(fault)
     }
 }

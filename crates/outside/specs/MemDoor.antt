@@ -1,5 +1,5 @@
 -- What a door in memory tells.
-use Rattle.std.specs.Prelude.{◌≡◌, ◌==◌, List, [], ◌∷◌, length, map, Some}
+use Rattle.std.specs.Prelude.{◌≡◌, ◌==◌, List, [], ◌∷◌, length, map, None, Some}
 use Rattle.outside.specs.Doors.{LinkToCome, DoorTold}
 use Rattle.outside.specs.Failing.{fault_count, is_sure, IsPlanned}
 use Rattle.outside.specs.MemLink.{link_failing, link_bound}
@@ -41,7 +41,7 @@ pub record IsLinkOf (plan : LinkPlan) (link : MemLink) : Type 0 where
   pub failing : IsPlanned plan.failing.items (link_failing link)
   pub bound : link_bound link ≡ plan.at_most
 
--- So is the first of the links to come.
+-- So does the first of the links to come. After the last one no call fails, and there is no bound.
 abbrev pub IsFirstLink : List LinkPlan → MemLink → Type 0
-IsFirstLink [] link = IsPlanned [] (link_failing link)
+IsFirstLink [] link = IsPlanned [] (link_failing link) × (link_bound link ≡ None)
 IsFirstLink (plan ∷ plans) link = IsLinkOf plan link

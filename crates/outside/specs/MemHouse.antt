@@ -32,7 +32,7 @@ house_failing house = house.failing
 abbrev pub house_plans : MemHouse → List DoorPlan
 house_plans house = house.coming.items
 
--- The first of the doors to come fails as its plan says.
+-- The first of the doors to come fails as its plan says, and after the last one none does.
 abbrev pub IsFirstDoor : List DoorPlan → MemDoor → Type 0
 IsFirstDoor [] door = IsPlanned [] (door_failing door)
 IsFirstDoor (plan ∷ plans) door = IsPlanned plan.failing.items (door_failing door)

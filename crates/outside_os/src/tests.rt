@@ -85,16 +85,8 @@ fn pipe_as_a_file(rt: HostRuntime) -> Result<(), Fail> {
     Ok(())
 }
 
-/// Writes all of the bytes.
 fn writes<O: Sink>(rt: &impl Abort, out: &mut O, bytes: &[u8]) {
-    let mut rest = bytes;
-    while !rest.is_empty() {
-        let Ok(count) = out.write(rest) else {
-            break;
-        };
-        rest = &rest[count..];
-    }
-    assert_eq!(rt; rest.len(), 0);
+    assert_eq!(rt; out.write(bytes), Ok(bytes.len()));
 }
 
 #[test]

@@ -1,5 +1,5 @@
 -- What is told of a link, and what calls do to it.
-use Rattle.std.specs.Prelude.{◌≡◌, ℕ, ◌≤◌, Bool, true, false, List, [], length, take, drop, Option, Some, Result, Ok, Err}
+use Rattle.std.specs.Prelude.{◌≡◌, ℕ, ◌≤◌, Bool, false, List, [], length, take, drop, Option, Some, Result, Ok, Err}
 use Rattle.std.specs.Option.{option_map, ForSome}
 use Rattle.outside.specs.Counts.{next_count}
 use Rattle.outside.specs.Streams.{IsTakenFrom, IsGivenFrom, and_then}

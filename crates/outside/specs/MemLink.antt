@@ -1,7 +1,7 @@
 -- What a link in memory tells.
-use Rattle.std.specs.Prelude.{◌≡◌, ℕ, ◌-◌, drop, vec_len, Option, Some}
+use Rattle.std.specs.Prelude.{ℕ, ◌-◌, drop, vec_len, Option, Some}
 use Rattle.std.specs.declared.num.NonZeroUsize.{NonZeroUsize}
-use Rattle.outside.specs.Failing.{fault_count, is_sure, IsPlanned}
+use Rattle.outside.specs.Failing.{fault_count, is_sure}
 use Rattle.outside.specs.Links.{LinkTold}
 use Rattle.outside.specs.declared.memory.failing.Failing.{Failing}
 use Rattle.outside.specs.declared.memory.link.MemLink.{MemLink}

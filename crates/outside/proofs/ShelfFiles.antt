@@ -20,7 +20,8 @@ use Rattle.outside.specs.declared.fault.Fault.{Fault}
 use Rattle.outside.specs.declared.fault.Fault.TheVariants.{Failed, Memory}
 
 -- a map over a choice
-option_map-cond : {A B : Type 0} (f : A → B) (b : Bool) (x : A) (o : Option A) → option_map f (cond b (Some x) o) ≡ cond b (Some (f x)) (option_map f o)
+option_map-cond : {A B : Type 0} (f : A → B) (b : Bool) (x : A) (o : Option A)
+    → option_map f (cond b (Some x) o) ≡ cond b (Some (f x)) (option_map f o)
 option_map-cond f true x o = refl
 option_map-cond f false x o = refl
 
@@ -54,7 +55,8 @@ module _ {A B : Type 0} where
       ∙ sym (get-insert nat_list_cmp_total (files_of old) name bytes.items q))
 
 -- a file that is put leaves the others
-others_stay-insert : (files after : Files) (name bytes : List ℕ) → after ≡ insert files name bytes → OthersStay (Some files) (Some after) name
+others_stay-insert : (files after : Files) (name bytes : List ℕ)
+    → after ≡ insert files name bytes → OthersStay (Some files) (Some after) name
 others_stay-insert files after name bytes put = record {
   told = refl;
   others = λ old new at_first at_last other apart.

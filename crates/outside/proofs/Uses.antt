@@ -199,11 +199,14 @@ uses_sink-as to from used = record {
 pub uses_sink-next : {a b c : SinkTold} {failed failed' : Type 0} → UsesSink a b failed → ¬ failed
     → UsesSink b c failed' → UsesSink a c failed'
 uses_sink-next first sound next =
-    uses_sink-as (elim [ inl failed ↦ absurd (sound failed) | inr failed ↦ failed ]) inr (uses_sink-both first next)
+    uses_sink-as (elim [ inl failed ↦ absurd (sound failed) | inr failed ↦ failed ]) inr
+    (uses_sink-both first next)
 
 -- after it some bytes were taken
 pub uses_sink-more : {a b : SinkTold} {failed : Type 0} (c : SinkTold) (bytes : List ℕ) (count : ℕ)
     → UsesSink a b failed → ¬ failed → IsSinkWrite b c bytes (Ok count) → UsesSink a c failed
 uses_sink-more c bytes count first sound written =
     let failed : (Ok count ≡ Err Failed) → ⊥ = λ e. cc in
-    uses_sink-next first sound (uses_sink-as (λ e. absurd (failed e)) (λ f. absurd (sound f)) (uses_sink-write _ c bytes (Ok count) written))
+    uses_sink-next first sound
+    (uses_sink-as (λ e. absurd (failed e)) (λ f. absurd (sound f))
+    (uses_sink-write _ c bytes (Ok count) written))

@@ -7,8 +7,8 @@ use std::fs::File;
 use std::io::{Read, Seek, SeekFrom, Write};
 use std::{fs, io};
 
-/// Files of the file system, by their paths. The file that was read last stays open, so that reads one
-/// after the other neither open it again nor seek, and a pipe is read as a file is.
+/// Files of the file system, by their paths. The file that was read last stays open, so that reads
+/// one after the other neither open it again nor seek, and a pipe is read as a file is.
 #[derive(Drop)]
 pub struct FileShelf {
     rt: HostRuntime,
@@ -59,8 +59,8 @@ impl FileShelf {
         }
     }
 
-    /// The file of this name, opened unless it is the one that is kept. Where it can't be opened, that
-    /// one stays.
+    /// The file of this name, opened unless it is the one that is kept. Where it can't be opened,
+    /// that one stays.
     fn take_file(&mut self, name: &str) -> io::Result<OpenFile>
         ensures { ⟦<FileShelf as Shelf>⟧.told self.new ≡ ⟦<FileShelf as Shelf>⟧.told self.old }
     {
@@ -88,7 +88,7 @@ impl FileShelf {
     }
 
     /// Counts a read that was refused.
-    fn count(&mut self, fault: ShelfFault)
+    fn count_refusal(&mut self, fault: ShelfFault)
         ensures { (name : List ℕ) → IsReadRefused (⟦<FileShelf as Shelf>⟧.told self.old)
             (⟦<FileShelf as Shelf>⟧.told self.new) name fault }
     {
@@ -108,7 +108,7 @@ impl Shelf for FileShelf {
             Ok(count) => Ok(count),
             Err(error) => {
                 let fault = read_fault_of(error.kind());
-                self.count(fault);
+                self.count_refusal(fault);
                 Err(fault)
             }
         }

@@ -4,7 +4,7 @@ use Rattle.outside_os.proofs.shelf.FileShelfShelf.read_at.Goals as goal
 
 pub returns-in-Err : goal.returns-in-Err
 returns-in-Err c =
-    let counted = c.count.new.self in
+    let counted = c.count_refusal.new.self in
     let P : ShelfTold → Type 0 =
     λ told. IsReadRefused told (counts_alone counted.faults counted.absences) c.args.name.now c.read_fault_of-fault.result
-    in record { used = subst P c.in-Err.ensures.told (c.count.ensures c.args.name.now) }
+    in record { used = subst P c.in-Err.ensures.told (c.count_refusal.ensures c.args.name.now) }

@@ -1,1 +1,2 @@
 pub mod ShelfFiles
+pub mod Uses

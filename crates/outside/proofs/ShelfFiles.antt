@@ -1,5 +1,5 @@
 -- The files that a map keeps.
-use Rattle.std.proofs.Common.{◌≡◌, ℕ, Bool, true, false, cond, List, [], ◌∷◌, map, refl, sym, ap, ◌∙◌, Option, Some, String, string_bytes}
+use Rattle.std.proofs.Common.{◌≡◌, ℕ, Bool, true, false, cond, List, [], ◌∷◌, map, refl, sym, ap, ◌∙◌, Option, Some, None, Result, Ok, Err, String, string_bytes}
 use Rattle.std.specs.declared.vec.Vec.{Vec}
 use Rattle.std.specs.Ordering.{nat_cmp, eq_by_cmp, is_eq}
 use Rattle.std.specs.declared.cmp.Ordering.TheVariants.{Less, Equal, Greater}
@@ -15,9 +15,13 @@ use Rattle.std.proofs.lemmas.Option.{same_Some}
 use Rattle.std.proofs.lemmas.Map.Text.{btree_map_updates_text, is_eq-slice_cmp}
 use Rattle.outside.specs.Files.{Files, OthersStay}
 use Rattle.outside.specs.MemShelf.{file_of, files_of}
+use Rattle.outside.specs.Shelves.{ShelfTold, IsPut}
+use Rattle.outside.specs.declared.fault.Fault.{Fault}
+use Rattle.outside.specs.declared.fault.Fault.TheVariants.{Failed, Memory}
 
 -- a map over a choice
-option_map-cond : {A B : Type 0} (f : A → B) (b : Bool) (x : A) (o : Option A) → option_map f (cond b (Some x) o) ≡ cond b (Some (f x)) (option_map f o)
+option_map-cond : {A B : Type 0} (f : A → B) (b : Bool) (x : A) (o : Option A)
+    → option_map f (cond b (Some x) o) ≡ cond b (Some (f x)) (option_map f o)
 option_map-cond f true x o = refl
 option_map-cond f false x o = refl
 
@@ -51,7 +55,8 @@ module _ {A B : Type 0} where
       ∙ sym (get-insert nat_list_cmp_total (files_of old) name bytes.items q))
 
 -- a file that is put leaves the others
-pub others_stay-insert : (files after : Files) (name bytes : List ℕ) → after ≡ insert files name bytes → OthersStay (Some files) (Some after) name
+others_stay-insert : (files after : Files) (name bytes : List ℕ)
+    → after ≡ insert files name bytes → OthersStay (Some files) (Some after) name
 others_stay-insert files after name bytes put = record {
   told = refl;
   others = λ old new at_first at_last other apart.
@@ -60,3 +65,15 @@ others_stay-insert files after name bytes put = record {
       ∙ ap (λ b. cond b (Some bytes) (get files other)) (apart_names other name apart)
       ∙ ap (λ m. get m other) (same_Some _ _ at_first);
 }
+
+others_stay-put : (files : Option Files) (name bytes : List ℕ)
+    → OthersStay files (option_map (λ fs. insert fs name bytes) files) name
+others_stay-put None name bytes = record { told = refl; others = λ old new at_first at_last. cc }
+others_stay-put (Some files) name bytes = others_stay-insert files _ name bytes refl
+
+-- so does a write, refused or not
+pub put-others : {A : Type 0} (old new : ShelfTold) (name bytes : List ℕ) (result : Result A Fault)
+    → IsPut old new name bytes result → OthersStay old.files new.files name
+put-others old new name bytes (Ok done) put = rw put (others_stay-put old.files name bytes)
+put-others old new name bytes (Err Failed) put = put.1
+put-others old new name bytes (Err Memory) put = put.1

@@ -1,20 +1,18 @@
 -- Counts of 64 bits, which stay at their last number.
-use Rattle.std.specs.Prelude.{◌≡◌, ℕ, ◌<◌, ◌≤◌, ◌⊎◌, Bool, true}
+use Rattle.std.specs.Prelude.{◌≡◌, ℕ, ◌+◌, ◌≤◌, min, max}
+use Rattle.outside.specs.declared.TheConstants.{LAST_COUNT}
 
--- The count has risen, or stands at its last number.
+-- one more, up to the last number
+abbrev pub next_count : ℕ → ℕ
+next_count n = max n (min (n + 1) LAST_COUNT)
+
+-- The count is at least one more, or stands at the last number.
 abbrev pub HasRisen : ℕ → ℕ → Type 0
-HasRisen before after = (before < after) ⊎ (18446744073709551615 ≤ after)
+HasRisen before after = next_count before ≤ after
 
--- What a call does to its object's count of faults: it never falls, and has risen where the call failed.
--- Where it is told that the object never fails, that stays told, and the call doesn't fail and leaves the count.
-pub record CountsFaults (sure_before sure_after : Bool) (before after : ℕ) (failed : Type 0) : Type 0 where
+-- What calls do to a count of something: it never falls, has risen where that came about, and else
+-- is what it was.
+pub record RisesWhere (before after : ℕ) (so : Type 0) : Type 0 where
   pub no_fall : before ≤ after
-  pub risen : failed → HasRisen before after
-  pub as_told : sure_after ≡ sure_before
-  pub never_failed : sure_before ≡ true → ¬ failed
-  pub never_counted : sure_before ≡ true → after ≡ before
-
--- The same of a count of absences, of which nothing is told.
-pub record CountsAbsences (before after : ℕ) (absent : Type 0) : Type 0 where
-  pub no_fall : before ≤ after
-  pub risen : absent → HasRisen before after
+  pub risen : so → HasRisen before after
+  pub stays : ¬ so → after ≡ before

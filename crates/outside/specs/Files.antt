@@ -8,9 +8,10 @@ use Rattle.std.specs.FinMap.{FinMap, get}
 abbrev pub Files : Type 0
 Files = FinMap (slice_cmp nat_cmp) (List ℕ)
 
--- This many bytes of the named file, from the offset on, came into a piece, which keeps what is behind them. None came only
--- into an empty piece or at the file's end.
-pub record IsReadFrom (files : Files) (name : List ℕ) (offset : ℕ) (old new : List ℕ) (count : ℕ) : Type 0 where
+-- This many bytes of the named file, from the offset on, came into a piece, which keeps what is
+-- behind them. None came only into an empty piece or at the file's end.
+pub record IsReadFrom (files : Files) (name : List ℕ) (offset : ℕ) (old new : List ℕ) (count : ℕ)
+    : Type 0 where
   pub bytes : List ℕ
   pub there : get files name ≡ Some bytes
   pub within : count ≤ length bytes - offset
@@ -20,4 +21,5 @@ pub record IsReadFrom (files : Files) (name : List ℕ) (offset : ℕ) (old new 
 -- Told alike, with the same bytes under every other name.
 pub record OthersStay (before after : Option Files) (name : List ℕ) : Type 0 where
   pub told : is_some after ≡ is_some before
-  pub others : (old new : Files) → before ≡ Some old → after ≡ Some new → (other : List ℕ) → other ≢ name → get new other ≡ get old other
+  pub others : (old new : Files) → before ≡ Some old → after ≡ Some new
+      → (other : List ℕ) → other ≢ name → get new other ≡ get old other

@@ -1,9 +1,12 @@
--- What a map keeps, as files.
-use Rattle.std.specs.Prelude.{◌≡◌, ℕ, List, map, String, string_bytes}
+-- What a shelf in memory tells.
+use Rattle.std.specs.Prelude.{ℕ, List, map, Some, String, string_bytes}
 use Rattle.std.specs.declared.vec.Vec.{Vec}
 use Rattle.std.specs.BTreeMap.{BTreeMap}
 use Rattle.std.specs.FinMap.{from_entries}
+use Rattle.outside.specs.Failing.{fault_count, is_sure}
 use Rattle.outside.specs.Files.{Files}
+use Rattle.outside.specs.Shelves.{ShelfTold}
+use Rattle.outside.specs.declared.memory.failing.Failing.{Failing}
 use Rattle.outside.specs.declared.memory.shelf.MemShelf.{MemShelf}
 
 module _ {A B : Type 0} where
@@ -15,8 +18,14 @@ module _ {A B : Type 0} where
   abbrev pub files_of : BTreeMap (String A) (Vec ℕ B) → Files
   files_of kept = from_entries (map file_of kept.entries)
 
--- All but the files is the same.
-pub record SameButFiles (old new : MemShelf) : Type 0 where
-  pub alloc : new.alloc ≡ old.alloc
-  pub absences : new.absences ≡ old.absences
-  pub failing : new.failing ≡ old.failing
+abbrev pub shelf_told : MemShelf → ShelfTold
+shelf_told shelf = record {
+  files = Some (files_of shelf.files);
+  faults = fault_count shelf.failing;
+  absences = shelf.absences;
+  never_fails = is_sure shelf.failing;
+}
+
+-- its calls that fail
+abbrev pub shelf_failing : MemShelf → Failing
+shelf_failing shelf = shelf.failing

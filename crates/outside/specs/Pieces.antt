@@ -1,13 +1,8 @@
--- The most bytes at a time, where there is a bound.
-use Rattle.std.specs.Prelude.{Option}
+-- Streams that take and give a bounded number of bytes at a time.
+use Rattle.std.specs.Prelude.{ℕ, min, Option, Some, None}
 use Rattle.std.specs.declared.num.NonZeroUsize.{NonZeroUsize}
-use Rattle.outside.specs.declared.memory.link.MemLink.{MemLink}
-use Rattle.outside.specs.declared.memory.sink.MemSink.{MemSink}
 
--- what a link takes or gives at a time
-abbrev pub link_bound : MemLink → Option NonZeroUsize
-link_bound link = link.at_most
-
--- what a sink takes at a time
-abbrev pub sink_bound : MemSink → Option NonZeroUsize
-sink_bound sink = sink.at_most
+-- how many of so many bytes go into one piece
+abbrev pub piece_len : Option NonZeroUsize → ℕ → ℕ
+piece_len None len = len
+piece_len (Some most) len = min len most.value

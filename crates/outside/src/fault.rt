@@ -5,7 +5,7 @@ pub enum ShelfFault {
     Absent,
     /// The shelf failed, and its count of faults has risen.
     Failed,
-    /// There was no memory for it.
+    /// It ran out of memory.
     Memory,
 }
 
@@ -14,6 +14,6 @@ pub enum ShelfFault {
 pub enum Fault {
     /// The object failed, and its count of faults has risen.
     Failed,
-    /// There was no memory for it.
+    /// It ran out of memory.
     Memory,
 }

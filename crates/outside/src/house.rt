@@ -1,7 +1,4 @@
-ghost use Rattle.std.specs.Prelude.{◌≡◌, ◌≢◌, ◌≤◌, ◌++◌, ◌∷◌, [], ℕ, Bool, List, Option, Err, drop, IfOk, OnOk, OnErr};
-ghost use Rattle.std.specs.Option.{option_map, ForSome};
-ghost use Rattle.outside.specs.Counts.{CountsFaults, HasRisen};
-ghost use Rattle.outside.specs.Doors.{DoorToCome, DoorBack, IsNextDoor};
+ghost use Rattle.outside.specs.Houses.{HouseTold, IsOpened, IsHandedOut, IsTakenBack};
 
 use crate::door::Door;
 use crate::fault::Fault;
@@ -11,43 +8,18 @@ pub trait House {
     /// A door of the house.
     type Way: Door + Send + Drop;
 
-    /// The doors that are still to come, where that is told.
-    ghost coming: { Self → Option (List DoorToCome) };
-
-    /// The doors that were taken back, in that order, where that is told.
-    ghost back: { Self → Option (List DoorBack) };
-
-    /// How often the house has failed or taken back a door that had. The count stays at the last
-    /// number of 64 bits.
-    ghost faults: { Self → ℕ };
-
-    /// Whether it is told that the house itself never fails.
-    ghost never_fails: { Self → Bool };
+    /// What is told of the house.
+    ghost told: { Self → HouseTold };
 
     /// Opens the house at an address. This comes before the first door.
     fn open(&mut self, address: &str) -> Result<(), Fault>
-        ensures coming { coming self.new ≡ coming self.old }
-        ensures back { back self.new ≡ back self.old }
-        ensures faults { CountsFaults (never_fails self.old) (never_fails self.new) (faults self.old) (faults self.new) (result ≡ Err Fault.Failed) };
+        ensures used { IsOpened (told self.old) (told self.new) result };
 
-    /// Hands out the first door that is still to come. Where none is left, it is one without links. A
-    /// door starts with no faults.
+    /// Hands out the first door that is still to come. Where none is left, it is one without links.
     fn door(&mut self) -> Result<Self::Way, Fault>
-        ensures door { IfOk result (λ door. ForSome (coming self.old) (λ doors. IsNextDoor doors (Self.Way.coming door) (Self.Way.taken door) (Self.Way.never_fails door))) }
-        ensures no_faults { IfOk result (λ door. Self.Way.faults door ≡ 0) }
-        ensures coming { OnOk result (coming self.new ≡ option_map (drop 1) (coming self.old)) }
-        ensures refused { OnErr result (coming self.new ≡ coming self.old) }
-        ensures back { back self.new ≡ back self.old }
-        ensures faults { CountsFaults (never_fails self.old) (never_fails self.new) (faults self.old) (faults self.new) (result ≡ Err Fault.Failed) };
+        ensures used { IsHandedOut Self.Way.told (told self.old) (told self.new) result };
 
-    /// Takes a door back.
+    /// Takes a door back, and counts a fault where the door has failed.
     fn done(&mut self, way: Self::Way)
-        ensures back { back self.new ≡ option_map (λ doors. doors ++ record { coming = Self.Way.coming way; taken = Self.Way.taken way; faults = Self.Way.faults way } ∷ []) (back self.old) }
-        ensures coming { coming self.new ≡ coming self.old }
-        ensures never_fails { never_fails self.new ≡ never_fails self.old }
-
-        // The count rises exactly where the door has failed.
-        ensures no_fall { faults self.old ≤ faults self.new }
-        ensures failed { Self.Way.faults way ≢ 0 → HasRisen (faults self.old) (faults self.new) }
-        ensures sound { Self.Way.faults way ≡ 0 → faults self.new ≡ faults self.old };
+        ensures used { IsTakenBack (told self.old) (told self.new) (Self.Way.told way) };
 }

@@ -1,8 +1,10 @@
 //! What the project asks of the world outside: files by name, streams, connections, a clock and a
 //! gate for tests, as traits. Memory implements them here; the operating system does elsewhere.
 //!
-//! What an object holds is told by ghost members, which are optional: memory tells it, and the real
-//! world tells nothing. Clauses on content hold where it is told. Each object counts its faults.
+//! What an object holds is told by its ghost member `told`, in parts that are optional: memory
+//! tells it, and the real world tells no more than counts. Each call of a method is one fact about
+//! what was told before and after it (`used`), and so is any number of reads or of writes
+//! (`UsesShelf`, `UsesSink`).
 #![tactic(auto)]
 
 pub mod clock;
@@ -16,6 +18,9 @@ pub mod shelf;
 pub mod sink;
 #[cfg(test)]
 mod tests;
+
+/// Where a count stays.
+pub const LAST_COUNT: u64 = u64::MAX;
 
 pub use clock::Clock;
 pub use door::Door;

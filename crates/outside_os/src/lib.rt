@@ -1,7 +1,8 @@
-//! The world outside, as the operating system has it. It tells nothing of what it holds: what a file,
-//! or a stream, does is for the system to say.
+//! The world outside, as the operating system has it. It tells no more than counts: what a file, or
+//! a stream, holds is for the system to say.
 #![tactic(auto)]
 
+mod fault;
 pub mod shelf;
 pub mod sink;
 #[cfg(test)]

@@ -1,59 +1,107 @@
-//! The real files and the real standard output, each call through its trait's bound.
+//! The real files and the real streams, each call through its trait's bound.
 use crate::*;
 use outside::{Fault, Shelf, ShelfFault, Sink};
+use std::io::{Read, Write};
+use std::os::fd::AsRawFd;
 use std::process::Abort;
 use std::test::Fail;
 use std::{fs, io, process};
 
-fn use_shelf<S: Shelf>(rt: &impl Abort, shelf: &mut S, notes: &str) {
-    let mut piece = [b'.'; 4];
-    assert_eq!(rt; shelf.write(notes, b"abcdef"), Ok(()));
-    assert_eq!(rt; shelf.read_at(notes, 0, &mut piece), Ok(4));
-    assert_eq!(rt; piece.as_slice(), b"abcd".as_slice());
-    assert_eq!(rt; shelf.read_at(notes, 4, &mut piece), Ok(2));
-    assert_eq!(rt; piece.as_slice(), b"efcd".as_slice());
-    assert_eq!(rt; shelf.read_at(notes, 6, &mut piece), Ok(0));
-    assert_eq!(rt;
-        shelf.read_at("/tmp/missing/notes", 0, &mut piece),
-        Err(ShelfFault::Absent)
-    );
-    assert_eq!(rt;
-        shelf.read_at("/tmp", 0, &mut piece),
-        Err(ShelfFault::Failed)
-    );
-    assert_eq!(rt; shelf.write("/tmp", b"lost"), Err(Fault::Failed));
-    assert_eq!(rt; piece.as_slice(), b"efcd".as_slice());
+/// The most bytes that a pipe holds.
+const PIPE: usize = 65_536;
+
+/// Reads the file to its end, in pieces, and compares it with these bytes.
+fn reads<S: Shelf>(rt: &impl Abort, shelf: &mut S, name: &str, bytes: &[u8]) {
+    let mut piece = [0u8; 4_096];
+    let mut rest = bytes;
+    let mut done = 0u64;
+    while !rest.is_empty() {
+        let Ok(count) = shelf.read_at(name, done, &mut piece) else {
+            break;
+        };
+        assert!(rt; 0 < count && count <= rest.len(), "{count} bytes at {done}");
+        assert_eq!(rt; &piece[..count], &rest[..count]);
+        rest = &rest[count..];
+        done = done.saturating_add(count as u64);
+    }
+    assert_eq!(rt; shelf.read_at(name, done, &mut piece), Ok(0));
+}
+
+/// Writes these bytes, and reads them.
+fn keeps<S: Shelf>(rt: &impl Abort, shelf: &mut S, name: &str, bytes: &[u8]) {
+    assert_eq!(rt; shelf.write(name, bytes), Ok(()));
+    reads(rt, shelf, name, bytes);
+}
+
+fn refuses<S: Shelf>(rt: &impl Abort, shelf: &mut S, name: &str, fault: ShelfFault) {
+    assert_eq!(rt; shelf.read_at(name, 0, &mut [0]), Err(fault));
+    assert_eq!(rt; shelf.write(name, b"lost"), Err(Fault::Failed));
 }
 
 #[test]
 fn shelf(rt: HostRuntime) -> Result<(), Fail> {
+    let alloc = rt.alloc();
     let id = process::id(rt.process());
-    let notes = format!(in rt.alloc(); "/tmp/outside_os_notes_{id}")?;
+    let notes = format!(in alloc; "/tmp/outside_os_notes_{id}")?;
+    let mut bytes = Vec::new(alloc);
+    for at in 0..PIPE + 3 {
+        bytes.push((at % 251) as u8)?;
+    }
     let mut shelf = FileShelf::new(rt.clone()?);
-    use_shelf(&rt, &mut shelf, notes.as_str());
+    for len in [6, PIPE + 3, 4_096, 0, 7] {
+        let len = bytes.len().min(len);
+        keeps(&rt, &mut shelf, notes.as_str(), &bytes[..len]);
+    }
     fs::remove_file(&rt, notes.as_str())?;
-    assert_eq!(rt; (shelf.faults, shelf.absences), (2, 1));
+    assert_eq!(rt; (shelf.faults, shelf.absences), (0, 0));
+
+    let mut long_name = String::from_str(alloc, "/tmp/")?;
+    for _ in 0..300 {
+        long_name.push('x')?;
+    }
+    for (name, fault) in [
+        ("/tmp/missing/notes", ShelfFault::Absent),
+        ("/tmp", ShelfFault::Failed),
+        (long_name.as_str(), ShelfFault::Failed),
+    ] {
+        refuses(&rt, &mut shelf, name, fault);
+    }
+    assert_eq!(rt; (shelf.faults, shelf.absences), (5, 1));
     Ok(())
 }
 
-fn use_sink<O: Sink>(rt: &impl Abort, out: &mut O) {
-    assert_eq!(rt; out.write(b"written\n"), Ok(8));
-    assert_eq!(rt; out.write(b""), Ok(0));
+#[test]
+fn pipe_as_a_file(rt: HostRuntime) -> Result<(), Fail> {
+    let (reader, mut writer) = io::pipe(&rt)?;
+    let name = format!(in rt.alloc(); "/dev/fd/{}", reader.as_raw_fd())?;
+    writer.write_all(&[b'a'; 5_000])?;
+    drop(writer);
+    reads(
+        &rt,
+        &mut FileShelf::new(rt.clone()?),
+        name.as_str(),
+        &[b'a'; 5_000],
+    );
+    Ok(())
+}
+
+fn writes<O: Sink>(rt: &impl Abort, out: &mut O, bytes: &[u8]) {
+    assert_eq!(rt; out.write(bytes), Ok(bytes.len()));
 }
 
 #[test]
-fn sink(rt: HostRuntime) {
-    let mut out = StdSink::new(rt.stdout());
-    use_sink(&rt, &mut out);
-    assert_eq!(rt; out.faults, 0);
-}
-
-#[test]
-fn closed_pipe(rt: HostRuntime) -> Result<(), Fail> {
-    let (reader, writer) = io::pipe(&rt)?;
-    drop(reader);
+fn sinks(rt: HostRuntime) -> Result<(), Fail> {
+    let (mut reader, writer) = io::pipe(&rt)?;
     let mut out = StreamSink::new(writer);
+    for turn in 0..20u8 {
+        let mut piece = [0u8; 4_096];
+        writes(&rt, &mut out, &[turn; 4_096]);
+        reader.read_exact(&mut piece)?;
+        assert_eq!(rt; piece.as_slice(), [turn; 4_096].as_slice());
+    }
+    drop(reader);
     assert_eq!(rt; out.write(b"lost"), Err(Fault::Failed));
     assert_eq!(rt; out.faults, 1);
+    writes(&rt, &mut StdSink::new(rt.stdout()), b"written\n");
     Ok(())
 }

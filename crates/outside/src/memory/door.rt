@@ -1,7 +1,10 @@
-ghost use Rattle.std.specs.Prelude.{◌≡◌, ◌==◌, Some, [], IfOk, map, vec_len};
-ghost use Rattle.outside.specs.Failing.{fault_count, is_sure};
-ghost use Rattle.outside.specs.MemDoor.{link_to_come};
-ghost use Rattle.outside.specs.Pieces.{link_bound};
+ghost use Rattle.std.specs.Prelude.{◌≡◌, ◌≢◌, ◌==◌, Some, Err, IfOk, map, vec_len};
+ghost use Rattle.outside.specs.Doors.{new_door, IsAccepted};
+ghost use Rattle.outside.specs.Failing.{IsPlanned, GoesAsPlanned};
+ghost use Rattle.outside.specs.Links.{new_link};
+ghost use Rattle.outside.specs.MemDoor.{link_to_come, visits_told, door_told, door_failing, door_plans};
+ghost use Rattle.outside.specs.MemDoor.{IsLinkOf, IsFirstLink};
+ghost use Rattle.outside.specs.MemLink.{link_told, link_failing, link_bound};
 
 use crate::door::Door;
 use crate::fault::Fault;
@@ -12,8 +15,8 @@ use crate::memory::link::MemLink;
 use std::alloc::{AllocError, Global};
 use std::num::NonZeroUsize;
 
-/// A link that is to come: what is read from it, which of its calls fail, and the most bytes that it
-/// takes or gives at a time, where there is a bound.
+/// A link that is to come: what is read from it, which of its calls fail, and the most bytes that
+/// it takes or gives at a time, where there is a bound.
 #[derive(Drop)]
 pub struct LinkPlan {
     pub bytes: Vec<u8>,
@@ -32,14 +35,11 @@ pub struct MemDoor {
 }
 
 impl MemDoor {
-    ghost use Rattle.outside.specs.Kept.{door_back};
-
     /// A door at which these links come in, in order.
     pub fn new(alloc: Global, links: Vec<LinkPlan>, failing: Vec<u64>) -> Result<Self, AllocError>
-        ensures coming { IfOk result (λ door. ⟦<MemDoor as Door>⟧.coming door ≡ Some (map link_to_come links.items)) }
-        ensures taken { IfOk result (λ door. ⟦<MemDoor as Door>⟧.taken door ≡ Some 0) }
-        ensures faults { IfOk result (λ door. ⟦<MemDoor as Door>⟧.faults door ≡ 0) }
-        ensures never_fails { IfOk result (λ door. ⟦<MemDoor as Door>⟧.never_fails door ≡ (vec_len failing == 0)) }
+        ensures told { IfOk result (λ door.
+            door_told door ≡ new_door (map link_to_come links.items) (vec_len failing == 0)) }
+        ensures planned { IfOk result (λ door. IsPlanned failing.items (door_failing door)) }
     {
         let room = Kept::room(alloc)?;
         Ok(MemDoor::in_room(alloc, links, failing, room))
@@ -47,9 +47,7 @@ impl MemDoor {
 
     /// The links that are still to come, how many came, and how often the door failed.
     pub fn visits(&self) -> &Visits
-        ensures coming { (door_back result.now).coming ≡ ⟦<MemDoor as Door>⟧.coming self.now }
-        ensures taken { (door_back result.now).taken ≡ ⟦<MemDoor as Door>⟧.taken self.now }
-        ensures faults { (door_back result.now).faults ≡ ⟦<MemDoor as Door>⟧.faults self.now }
+        ensures { visits_told result.now ≡ door_told self.now }
     {
         &self.visits
     }
@@ -60,10 +58,9 @@ impl MemDoor {
         failing: Vec<u64>,
         room: Box<Kept>,
     ) -> Self
-        ensures coming { ⟦<MemDoor as Door>⟧.coming result ≡ Some (map link_to_come links.items) }
-        ensures taken { ⟦<MemDoor as Door>⟧.taken result ≡ Some 0 }
-        ensures faults { ⟦<MemDoor as Door>⟧.faults result ≡ 0 }
-        ensures never_fails { ⟦<MemDoor as Door>⟧.never_fails result ≡ (vec_len failing == 0) }
+        ensures told { door_told result
+            ≡ new_door (map link_to_come links.items) (vec_len failing == 0) }
+        ensures planned { IsPlanned failing.items (door_failing result) }
     {
         MemDoor {
             alloc,
@@ -80,20 +77,19 @@ impl MemDoor {
 impl Door for MemDoor {
     type End = MemLink;
 
-    ghost coming = { λ door. Some (map link_to_come door.visits.coming.items) };
+    ghost told = { door_told };
 
-    ghost taken = { λ door. Some door.visits.taken };
-
-    ghost faults = { λ door. fault_count door.visits.failing };
-
-    ghost never_fails = { λ door. is_sure door.visits.failing };
-
-    /// After the last number of 64 bits it is out of memory for its count.
-    fn accept(&mut self) -> Result<MemLink, Fault> {
+    fn accept(&mut self) -> Result<MemLink, Fault>
+        ensures used { IsAccepted link_told (door_told self.old) (door_told self.new) result }
+        ensures planned { GoesAsPlanned (door_failing self.old) (door_failing self.new)
+            (result ≡ Err Fault.Failed) }
+        ensures link { IfOk result (IsFirstLink (door_plans self.old)) }
+        ensures no_memory { result ≢ Err Fault.Memory }
+    {
         if self.visits.failing.next_fails() {
             return Err(Fault::Failed);
         }
-        self.visits.taken = self.visits.taken.checked_add(1).ok_or(Fault::Memory)?;
+        self.visits.taken = self.visits.taken.saturating_add(1);
         Ok(match self.visits.coming.pop_front() {
             Some(plan) => planned(self.alloc, plan),
             None => MemLink::new(self.alloc, Vec::new(self.alloc), Vec::new(self.alloc)),
@@ -103,10 +99,8 @@ impl Door for MemDoor {
 
 /// The link of a plan.
 fn planned(alloc: Global, plan: LinkPlan) -> MemLink
-    ensures left { ⟦<MemLink as Link>⟧.left result ≡ Some plan.bytes.items }
-    ensures written { ⟦<MemLink as Link>⟧.written result ≡ Some [] }
-    ensures bound { link_bound result ≡ plan.at_most }
-    ensures never_fails { ⟦<MemLink as Link>⟧.never_fails result ≡ (vec_len plan.failing == 0) }
+    ensures told { link_told result ≡ new_link plan.bytes.items (vec_len plan.failing == 0) }
+    ensures plan { IsLinkOf plan result }
 {
     let link = MemLink::new(alloc, plan.bytes, plan.failing);
     match plan.at_most {

@@ -1,9 +1,10 @@
-ghost use Rattle.std.specs.Prelude.{◌≡◌, ◌==◌, Some, [], map, reverse, vec_len};
-ghost use Rattle.outside.specs.Failing.{fault_count, is_sure};
-ghost use Rattle.outside.specs.MemHouse.{door_to_come};
-ghost use Rattle.outside.specs.Kept.{door_back, doors_back};
+ghost use Rattle.std.specs.Prelude.{◌≡◌, ◌≢◌, ◌==◌, Some, Err, IfOk, map, reverse, vec_len};
+ghost use Rattle.outside.specs.Failing.{IsPlanned, GoesAsPlanned, SamePlan};
+ghost use Rattle.outside.specs.Houses.{new_house, IsOpened, IsHandedOut, IsTakenBack};
+ghost use Rattle.outside.specs.MemDoor.{visits_told, door_told};
+ghost use Rattle.outside.specs.MemHouse.{door_to_come, house_told, house_failing, house_plans};
+ghost use Rattle.outside.specs.MemHouse.{IsFirstDoor};
 
-use crate::door::Door;
 use crate::fault::Fault;
 use crate::house::House;
 use crate::memory::door::{LinkPlan, MemDoor};
@@ -34,10 +35,9 @@ impl MemHouse {
 
     /// A house that hands out these doors, in order.
     pub fn new(alloc: Global, doors: Vec<DoorPlan>, failing: Vec<u64>) -> Self
-        ensures coming { ⟦<MemHouse as House>⟧.coming result ≡ Some (map door_to_come doors.items) }
-        ensures back { ⟦<MemHouse as House>⟧.back result ≡ Some [] }
-        ensures faults { ⟦<MemHouse as House>⟧.faults result ≡ 0 }
-        ensures never_fails { ⟦<MemHouse as House>⟧.never_fails result ≡ (vec_len failing == 0) }
+        ensures told { house_told result
+            ≡ new_house (map door_to_come doors.items) (vec_len failing == 0) }
+        ensures planned { IsPlanned failing.items (house_failing result) }
     {
         MemHouse {
             alloc,
@@ -49,14 +49,15 @@ impl MemHouse {
 
     /// The doors that came back, the last one first.
     pub fn back(&self) -> Back<'_>
-        ensures { ⟦<MemHouse as House>⟧.back self.now ≡ Some (reverse (map door_back (visits_left result))) }
+        ensures { (house_told self.now).back
+            ≡ Some (reverse (map visits_told (visits_left result))) }
     {
         Back { kept: &self.back }
     }
 
     /// How often the house has failed or taken back a door that had.
     pub fn faults(&self) -> u64
-        ensures { result ≡ ⟦<MemHouse as House>⟧.faults self.now }
+        ensures { result ≡ (house_told self.now).faults }
     {
         self.failing.faults()
     }
@@ -65,22 +66,26 @@ impl MemHouse {
 impl House for MemHouse {
     type Way = MemDoor;
 
-    ghost coming = { λ house. Some (map door_to_come house.coming.items) };
+    ghost told = { house_told };
 
-    ghost back = { λ house. Some (doors_back house.back) };
-
-    ghost faults = { λ house. fault_count house.failing };
-
-    ghost never_fails = { λ house. is_sure house.failing };
-
-    fn open(&mut self, _address: &str) -> Result<(), Fault> {
+    fn open(&mut self, _address: &str) -> Result<(), Fault>
+        ensures used { IsOpened (house_told self.old) (house_told self.new) result }
+        ensures planned { GoesAsPlanned (house_failing self.old) (house_failing self.new)
+            (result ≡ Err Fault.Failed) }
+        ensures no_memory { result ≢ Err Fault.Memory }
+    {
         if self.failing.next_fails() {
             return Err(Fault::Failed);
         }
         Ok(())
     }
 
-    fn door(&mut self) -> Result<MemDoor, Fault> {
+    fn door(&mut self) -> Result<MemDoor, Fault>
+        ensures used { IsHandedOut door_told (house_told self.old) (house_told self.new) result }
+        ensures planned { GoesAsPlanned (house_failing self.old) (house_failing self.new)
+            (result ≡ Err Fault.Failed) }
+        ensures door { IfOk result (IsFirstDoor (house_plans self.old)) }
+    {
         if self.failing.next_fails() {
             return Err(Fault::Failed);
         }
@@ -92,7 +97,10 @@ impl House for MemHouse {
         Ok(MemDoor::in_room(self.alloc, links, failing, room))
     }
 
-    fn done(&mut self, way: MemDoor) {
+    fn done(&mut self, way: MemDoor)
+        ensures used { IsTakenBack (house_told self.old) (house_told self.new) (door_told way) }
+        ensures planned { SamePlan (house_failing self.old) (house_failing self.new) }
+    {
         let MemDoor {
             visits,
             mut room,

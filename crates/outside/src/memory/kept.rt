@@ -15,25 +15,25 @@ pub struct Visits {
 }
 
 impl Visits {
-    ghost use Rattle.outside.specs.Kept.{door_back};
+    ghost use Rattle.outside.specs.MemDoor.{visits_told};
 
     /// How many links never came.
     pub fn left(&self) -> usize
-        ensures { IfSome (door_back self.now).coming (λ links. result ≡ length links) }
+        ensures { IfSome (visits_told self.now).coming (λ links. result ≡ length links) }
     {
         self.coming.len()
     }
 
     /// How many links came.
     pub fn taken(&self) -> u64
-        ensures { (door_back self.now).taken ≡ Some result }
+        ensures { (visits_told self.now).taken ≡ Some result }
     {
         self.taken
     }
 
     /// How often the door failed.
     pub fn faults(&self) -> u64
-        ensures { result ≡ (door_back self.now).faults }
+        ensures { result ≡ (visits_told self.now).faults }
     {
         self.failing.faults()
     }

@@ -1,5 +1,7 @@
-ghost use Rattle.std.specs.Prelude.{◌≡◌, ◌==◌, ◌≤◌, Some, [], drop, vec_len};
-ghost use Rattle.outside.specs.Failing.{fault_count, is_sure};
+ghost use Rattle.std.specs.Prelude.{◌≡◌, ◌≢◌, ◌==◌, ◌≤◌, Some, Err, IfOk, length, min, vec_len};
+ghost use Rattle.outside.specs.Failing.{IsPlanned, GoesAsPlanned};
+ghost use Rattle.outside.specs.Links.{new_link, IsLinkRead, IsLinkWrite};
+ghost use Rattle.outside.specs.Pieces.{piece_len};
 
 use crate::fault::Fault;
 use crate::link::Link;
@@ -20,15 +22,13 @@ pub struct MemLink {
 }
 
 impl MemLink {
-    ghost use Rattle.outside.specs.Pieces.{link_bound};
+    ghost use Rattle.outside.specs.MemLink.{link_told, link_failing, link_bound};
 
     /// A link that takes and gives as much at a time as fits.
     pub fn new(alloc: Global, bytes: Vec<u8>, failing: Vec<u64>) -> Self
-        ensures left { ⟦<MemLink as Link>⟧.left result ≡ Some bytes.items }
-        ensures written { ⟦<MemLink as Link>⟧.written result ≡ Some [] }
+        ensures told { link_told result ≡ new_link bytes.items (vec_len failing == 0) }
+        ensures planned { IsPlanned failing.items (link_failing result) }
         ensures bound { link_bound result ≡ None }
-        ensures faults { ⟦<MemLink as Link>⟧.faults result ≡ 0 }
-        ensures never_fails { ⟦<MemLink as Link>⟧.never_fails result ≡ (vec_len failing == 0) }
     {
         MemLink {
             bytes,
@@ -42,10 +42,8 @@ impl MemLink {
     /// The same link, which takes and gives at most so many bytes at a time.
     pub fn in_pieces(self, at_most: NonZeroUsize) -> Self
         ensures bound { link_bound result ≡ Some at_most }
-        ensures left { ⟦<MemLink as Link>⟧.left result ≡ ⟦<MemLink as Link>⟧.left self }
-        ensures written { ⟦<MemLink as Link>⟧.written result ≡ ⟦<MemLink as Link>⟧.written self }
-        ensures faults { ⟦<MemLink as Link>⟧.faults result ≡ ⟦<MemLink as Link>⟧.faults self }
-        ensures never_fails { ⟦<MemLink as Link>⟧.never_fails result ≡ ⟦<MemLink as Link>⟧.never_fails self }
+        ensures told { link_told result ≡ link_told self }
+        ensures failing { link_failing result ≡ link_failing self }
     {
         let mut link = self;
         link.at_most = Some(at_most);
@@ -54,36 +52,42 @@ impl MemLink {
 
     /// The bytes that are left to read.
     pub fn left(&self) -> &[u8]
-        ensures { ⟦<MemLink as Link>⟧.left self.now ≡ Some result.now }
+        ensures { (link_told self.now).left ≡ Some result.now }
     {
         &self.bytes[self.taken..]
     }
 
     /// The bytes written so far.
     pub fn written(&self) -> &[u8]
-        ensures { ⟦<MemLink as Link>⟧.written self.now ≡ Some result.now }
+        ensures { (link_told self.now).written ≡ Some result.now }
     {
         self.written.as_slice()
     }
 
     /// How often the link has failed.
     pub fn faults(&self) -> u64
-        ensures { result ≡ ⟦<MemLink as Link>⟧.faults self.now }
+        ensures { result ≡ (link_told self.now).faults }
     {
         self.failing.faults()
     }
 }
 
 impl Link for MemLink {
-    ghost left = { λ link. Some (drop link.taken link.bytes.items) };
+    ghost use Rattle.outside.specs.MemLink.{link_told, link_failing, link_bound, left_len};
 
-    ghost written = { λ link. Some link.written.items };
+    ghost told = { link_told };
 
-    ghost faults = { λ link. fault_count link.failing };
-
-    ghost never_fails = { λ link. is_sure link.failing };
-
-    fn read(&mut self, into: &mut [u8]) -> Result<usize, Fault> {
+    /// It gives as much as its bound lets it.
+    fn read(&mut self, into: &mut [u8]) -> Result<usize, Fault>
+        ensures used { IsLinkRead (link_told self.old) (link_told self.new) into.old
+            into.new result }
+        ensures planned { GoesAsPlanned (link_failing self.old) (link_failing self.new)
+            (result ≡ Err Fault.Failed) }
+        ensures count { IfOk result (λ count.
+            count ≡ min (piece_len (link_bound self.old) (left_len self.old)) (length into.old)) }
+        ensures bound { link_bound self.new ≡ link_bound self.old }
+        ensures no_memory { result ≢ Err Fault.Memory }
+    {
         if self.failing.next_fails() {
             return Err(Fault::Failed);
         }
@@ -93,7 +97,15 @@ impl Link for MemLink {
         Ok(count)
     }
 
-    fn write(&mut self, bytes: &[u8]) -> Result<usize, Fault> {
+    /// It takes as much as its bound lets it.
+    fn write(&mut self, bytes: &[u8]) -> Result<usize, Fault>
+        ensures used { IsLinkWrite (link_told self.old) (link_told self.new) bytes.now result }
+        ensures planned { GoesAsPlanned (link_failing self.old) (link_failing self.new)
+            (result ≡ Err Fault.Failed) }
+        ensures count { IfOk result (λ count.
+            count ≡ piece_len (link_bound self.old) (length bytes.now)) }
+        ensures bound { link_bound self.new ≡ link_bound self.old }
+    {
         if self.failing.next_fails() {
             return Err(Fault::Failed);
         }

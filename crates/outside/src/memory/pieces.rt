@@ -1,11 +1,11 @@
 ghost use Rattle.std.specs.Prelude.{◌≡◌, ◌++◌, ◌≤◌, ◌<◌, min, length, take, drop};
-ghost use Rattle.std.specs.Option.{option_map_or};
+ghost use Rattle.outside.specs.Pieces.{piece_len};
 
 use std::num::NonZeroUsize;
 
 /// How many of so many bytes go into one piece.
 pub(crate) fn piece_len(len: usize, at_most: Option<NonZeroUsize>) -> usize
-    ensures value { result ≡ option_map_or (λ most. min len most.value) at_most len }
+    ensures value { result ≡ piece_len at_most len }
     ensures within { result ≤ len }
     ensures some { 0 < len → 0 < result }
 {

@@ -1,8 +1,9 @@
-ghost use Rattle.std.specs.Prelude.{◌≡◌, ◌==◌, Some, IfSome, OnOk, OnErr, vec_len};
-ghost use Rattle.std.specs.Option.{option_copied, option_map};
-ghost use Rattle.std.specs.FinMap.{empty, get, insert};
-ghost use Rattle.outside.specs.Failing.{fault_count, is_sure};
-ghost use Rattle.outside.specs.MemShelf.{files_of};
+ghost use Rattle.std.specs.Prelude.{◌≡◌, ◌≢◌, ◌==◌, Err, IfSome, OnOk, OnErr, vec_len};
+ghost use Rattle.std.specs.Option.{option_copied};
+ghost use Rattle.std.specs.FinMap.{get, insert};
+ghost use Rattle.outside.specs.Failing.{IsPlanned, GoesAsPlanned, SamePlan};
+ghost use Rattle.outside.specs.MemShelf.{files_of, shelf_told, shelf_failing};
+ghost use Rattle.outside.specs.Shelves.{new_shelf, with_file, IsReadAt, IsPut};
 
 use crate::fault::{Fault, ShelfFault};
 use crate::memory::failing::Failing;
@@ -21,14 +22,10 @@ pub struct MemShelf {
 }
 
 impl MemShelf {
-    ghost use Rattle.outside.specs.MemShelf.{SameButFiles};
-
     /// A shelf without files.
     pub fn new(alloc: Global, failing: Vec<u64>) -> Self
-        ensures files { ⟦<MemShelf as Shelf>⟧.files result ≡ Some empty }
-        ensures faults { ⟦<MemShelf as Shelf>⟧.faults result ≡ 0 }
-        ensures absences { ⟦<MemShelf as Shelf>⟧.absences result ≡ 0 }
-        ensures never_fails { ⟦<MemShelf as Shelf>⟧.never_fails result ≡ (vec_len failing == 0) }
+        ensures told { shelf_told result ≡ new_shelf (vec_len failing == 0) }
+        ensures planned { IsPlanned failing.items (shelf_failing result) }
     {
         MemShelf {
             alloc,
@@ -38,33 +35,35 @@ impl MemShelf {
         }
     }
 
-    /// Puts these bytes under the name. It is no call of the shelf, so it is not counted and doesn't
-    /// fail as one.
+    /// Puts these bytes under the name. It is no call of the shelf, so it is not counted and
+    /// doesn't fail as one.
     pub fn put(&mut self, name: &str, bytes: &[u8]) -> Result<(), AllocError>
-        ensures ok { OnOk result (⟦<MemShelf as Shelf>⟧.files self.new ≡ option_map (λ files. insert files name.now bytes.now) (⟦<MemShelf as Shelf>⟧.files self.old)) }
-        ensures err { OnErr result (⟦<MemShelf as Shelf>⟧.files self.new ≡ ⟦<MemShelf as Shelf>⟧.files self.old) }
-        ensures rest { SameButFiles self.old self.new }
+        ensures ok { OnOk result (shelf_told self.new
+            ≡ with_file name.now bytes.now (shelf_told self.old)) }
+        ensures err { OnErr result (shelf_told self.new ≡ shelf_told self.old) }
+        ensures planned { SamePlan (shelf_failing self.old) (shelf_failing self.new) }
     {
         put_file(&mut self.files, self.alloc, name, bytes)
     }
 
     /// The bytes under the name.
     pub fn get(&self, name: &str) -> Option<&[u8]>
-        ensures { IfSome (⟦<MemShelf as Shelf>⟧.files self.now) (λ files. option_copied result ≡ get files name.now) }
+        ensures { IfSome (shelf_told self.now).files
+            (λ files. option_copied result ≡ get files name.now) }
     {
         file_in(&self.files, name)
     }
 
     /// How often the shelf has failed.
     pub fn faults(&self) -> u64
-        ensures { result ≡ ⟦<MemShelf as Shelf>⟧.faults self.now }
+        ensures { result ≡ (shelf_told self.now).faults }
     {
         self.failing.faults()
     }
 
     /// How often a name was not there.
     pub fn absences(&self) -> u64
-        ensures { result ≡ ⟦<MemShelf as Shelf>⟧.absences self.now }
+        ensures { result ≡ (shelf_told self.now).absences }
     {
         self.absences
     }
@@ -91,15 +90,15 @@ fn put_file(
 }
 
 impl Shelf for MemShelf {
-    ghost files = { λ shelf. Some (files_of shelf.files) };
+    ghost told = { shelf_told };
 
-    ghost faults = { λ shelf. fault_count shelf.failing };
-
-    ghost absences = { λ shelf. shelf.absences };
-
-    ghost never_fails = { λ shelf. is_sure shelf.failing };
-
-    fn read_at(&mut self, name: &str, offset: u64, into: &mut [u8]) -> Result<usize, ShelfFault> {
+    fn read_at(&mut self, name: &str, offset: u64, into: &mut [u8]) -> Result<usize, ShelfFault>
+        ensures used { IsReadAt (shelf_told self.old) (shelf_told self.new) name.now offset
+            into.old into.new result }
+        ensures planned { GoesAsPlanned (shelf_failing self.old) (shelf_failing self.new)
+            (result ≡ Err ShelfFault.Failed) }
+        ensures no_memory { result ≢ Err ShelfFault.Memory }
+    {
         if self.failing.next_fails() {
             return Err(ShelfFault::Failed);
         }
@@ -110,7 +109,13 @@ impl Shelf for MemShelf {
         Ok(copy_front(rest_from(bytes, offset), into))
     }
 
-    fn write(&mut self, name: &str, bytes: &[u8]) -> Result<(), Fault> {
+    /// Refused, it leaves what was under the name.
+    fn write(&mut self, name: &str, bytes: &[u8]) -> Result<(), Fault>
+        ensures used { IsPut (shelf_told self.old) (shelf_told self.new) name.now bytes.now result }
+        ensures refused { OnErr result ((shelf_told self.new).files ≡ (shelf_told self.old).files) }
+        ensures planned { GoesAsPlanned (shelf_failing self.old) (shelf_failing self.new)
+            (result ≡ Err Fault.Failed) }
+    {
         if self.failing.next_fails() {
             return Err(Fault::Failed);
         }

@@ -1,5 +1,8 @@
-ghost use Rattle.std.specs.Prelude.{◌≡◌, ◌==◌, Some, [], vec_len};
-ghost use Rattle.outside.specs.Failing.{fault_count, is_sure};
+ghost use Rattle.std.specs.Prelude.{◌≡◌, ◌==◌, Some, Err, IfOk, length, vec_len};
+ghost use Rattle.outside.specs.Failing.{IsPlanned, GoesAsPlanned};
+ghost use Rattle.outside.specs.MemSink.{sink_told, sink_failing, sink_bound};
+ghost use Rattle.outside.specs.Pieces.{piece_len};
+ghost use Rattle.outside.specs.Sinks.{new_sink, IsSinkWrite};
 
 use crate::fault::Fault;
 use crate::memory::failing::Failing;
@@ -17,14 +20,11 @@ pub struct MemSink {
 }
 
 impl MemSink {
-    ghost use Rattle.outside.specs.Pieces.{sink_bound};
-
     /// A sink that takes at most so many bytes at a time, where a bound is given.
     pub fn new(alloc: Global, failing: Vec<u64>, at_most: Option<NonZeroUsize>) -> Self
-        ensures written { ⟦<MemSink as Sink>⟧.written result ≡ Some [] }
+        ensures told { sink_told result ≡ new_sink (vec_len failing == 0) }
+        ensures planned { IsPlanned failing.items (sink_failing result) }
         ensures bound { sink_bound result ≡ at_most }
-        ensures faults { ⟦<MemSink as Sink>⟧.faults result ≡ 0 }
-        ensures never_fails { ⟦<MemSink as Sink>⟧.never_fails result ≡ (vec_len failing == 0) }
     {
         MemSink {
             written: Vec::new(alloc),
@@ -35,27 +35,31 @@ impl MemSink {
 
     /// The bytes written so far.
     pub fn written(&self) -> &[u8]
-        ensures { ⟦<MemSink as Sink>⟧.written self.now ≡ Some result.now }
+        ensures { (sink_told self.now).written ≡ Some result.now }
     {
         self.written.as_slice()
     }
 
     /// How often the sink has failed.
     pub fn faults(&self) -> u64
-        ensures { result ≡ ⟦<MemSink as Sink>⟧.faults self.now }
+        ensures { result ≡ (sink_told self.now).faults }
     {
         self.failing.faults()
     }
 }
 
 impl Sink for MemSink {
-    ghost written = { λ sink. Some sink.written.items };
+    ghost told = { sink_told };
 
-    ghost faults = { λ sink. fault_count sink.failing };
-
-    ghost never_fails = { λ sink. is_sure sink.failing };
-
-    fn write(&mut self, bytes: &[u8]) -> Result<usize, Fault> {
+    /// It takes as much as its bound lets it.
+    fn write(&mut self, bytes: &[u8]) -> Result<usize, Fault>
+        ensures used { IsSinkWrite (sink_told self.old) (sink_told self.new) bytes.now result }
+        ensures planned { GoesAsPlanned (sink_failing self.old) (sink_failing self.new)
+            (result ≡ Err Fault.Failed) }
+        ensures count { IfOk result (λ count.
+            count ≡ piece_len (sink_bound self.old) (length bytes.now)) }
+        ensures bound { sink_bound self.new ≡ sink_bound self.old }
+    {
         if self.failing.next_fails() {
             return Err(Fault::Failed);
         }

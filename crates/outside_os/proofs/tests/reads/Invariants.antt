@@ -1,6 +1,6 @@
 use Rattle.std.proofs.Common.{length}
-use Rattle.outside.proofs.tests.write_all.Given as goal
+use Rattle.outside_os.proofs.tests.reads.Given as goal
 
--- each write takes some
+-- each read gives some
 abbrev pub decreases-loop-rest : goal.decreases-loop-rest
 decreases-loop-rest g l = length l.rest

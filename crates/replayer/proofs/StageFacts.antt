@@ -24,15 +24,16 @@ use Rattle.script_tree.specs.Programs.{IsBuilt}
 use Rattle.script_meaning.specs.Conduct.{conduct, Ending, Wants, Ends, Undefined}
 use Rattle.replayer.proofs.StraightLineRuns.{defined_first, wanted_next}
 use Rattle.script_meaning.specs.Replay.{Scene, opening, with_request, after, after_act, and_answer, ending_of, ending_with, next_of}
-use Rattle.replayer.specs.Differences.{has_arrived, has_departed, is_arrival, is_departure, is_too_early, first_not_departed, act_fault, departure_fault, is_same_response, moment_fault, fault_of, difference_from}
+use Rattle.replayer.specs.Differences.{has_arrived, has_departed, is_arrival, is_departure, is_too_early, first_not_departed, act_fault, departure_fault, is_same_response, moment_fault, fault_of, difference_from, difference_of}
+use Rattle.replayer.specs.declared.reason.ReplayReason.{ReplayReason}
 use Rattle.replayer.specs.declared.reason.ReplayReason.TheVariants.{AtMoment, Open as LeftOpen}
 use Rattle.replayer.specs.declared.reason.Reason.TheVariants.{BadChoice, OtherResponse, UnknownRequest}
-use Rattle.replayer.specs.OnRegisters.{objects_of}
+use Rattle.replayer.specs.OnRegisters.{Held, objects_of}
 use Rattle.replayer.specs.Changes.{Does}
 use Rattle.replayer.specs.Places.{first_place, is_request, request_place, the_request}
 use Rattle.replayer.proofs.PlaceFacts.{request_place-once, request_found, request_absent, request_here}
 use Rattle.replayer.specs.Standings.{standing_at, standing_in, answers_in, is_away, departed_in, is_departed, Puts, waits, first_waiting, AreDefined}
-use Rattle.replayer.specs.Stages.{Kept, ShowsIn, Shows, IsStep, Steps}
+use Rattle.replayer.specs.Stages.{Kept, ShowsIn, Shows, IsStageOf, Opens, IsStep, Steps}
 use Rattle.replayer.specs.declared.stage.Stage.{Stage}
 use Rattle.std.specs.Option.{option_and_then}
 use Rattle.replayer.specs.declared.reason.Reason.{Reason}
@@ -363,3 +364,14 @@ left_over past d h (Answered id x ∷ es) = left_over past d h es
 pub ends_here : (program : Program) (trace : List TraceEvent) (past : List Moment) (scene : Scene) (d : ℕ → Bool) → ((x : ℕ) → has_departed past x ≡ d x) → difference_from program trace past scene [] ≡ first_not_departed d trace
 unfolding difference_from
 ends_here program trace past scene d h = left_over past d h trace
+
+-- a moment that is one of the trace leaves what differs to those after it
+pub steps_on : (all : Option ReplayReason) (old new : Stage) (past : List Moment) (scene : Scene) (m : Moment) (ms : List Moment) → all ≡ difference_from old.program.now old.trace past scene (m ∷ ms)
+    → IsStageOf old.program.now old.trace new → fault_of old.program.now old.trace past scene m ≡ None → all ≡ difference_from new.program.now new.trace (past ++ m ∷ []) (after old.program.now old.trace scene m) ms
+steps_on all old new past scene m ms e same f =
+    e ∙ goes_on old.program.now old.trace past scene m ms f ∙ sym (λ i. difference_from (same.program i) (same.trace i) (past ++ m ∷ []) (after old.program.now old.trace scene m) ms)
+
+-- what differs at all is what differs from the first stage on
+pub opens_with : (program : Program) (start : Held) (trace : List TraceEvent) (stage : Stage) (ms : List Moment) → Opens program start trace stage
+    → difference_of program (objects_of start) trace ms ≡ difference_from stage.program.now stage.trace [] (opening (objects_of start)) ms
+opens_with program start trace stage ms opens = sym (λ i. difference_from (opens.of.program i) (opens.of.trace i) [] (opening (objects_of start)) ms)

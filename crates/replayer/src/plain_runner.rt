@@ -1,9 +1,9 @@
 use crate::runner::{Next, Runner};
-use walker::{Walker, WalkerStep};
 use script_tree::request::Request;
 use script_tree::syntax::program::Program;
 use script_tree::value::Value;
 use std::alloc::{AllocError, Global};
+use walker::{Walker, WalkerStep};
 
 /// Runs requests by the plain walker.
 pub struct PlainRunner;
@@ -16,6 +16,8 @@ impl Runner for PlainRunner {
         request: &Request,
         answers: &[Value],
     ) -> Result<Next, AllocError> {
+        // That the program has no branches is known of its declarations.
+        let _declarations = program.declarations();
         let mut walker = Walker::new(program, request);
         match walker.next(alloc, answers)? {
             WalkerStep::Wants(op) => Ok(Next::Wants(op)),

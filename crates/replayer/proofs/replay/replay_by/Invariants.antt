@@ -2,13 +2,11 @@ use Rattle.std.proofs.Common.{◌≡◌, take, drop}
 use Rattle.script_meaning.specs.Replay.{Scene}
 use Rattle.replayer.specs.Differences.{difference_from, difference_of}
 use Rattle.replayer.specs.OnRegisters.{objects_of}
-use Rattle.replayer.specs.StandingWords.{AreReached}
 use Rattle.replayer.specs.Stages.{Shows}
 use Rattle.replayer.proofs.replay.replay_by.Given as goal
 
--- the moments so far led to a scene that the stage shows, and what differs from there on is what differs at all
+-- The moments so far led to a scene that the stage shows, and what differs from there on is what differs at all.
 abbrev pub invariant-loop-place : goal.invariant-loop-place
-invariant-loop-place g l = record {
-  shown : (scene : Scene) × (Shows l.events.events.now (take l.place l.moments) scene l.stage) × (difference_of l.program (objects_of l.fn.start.values) l.events.events.now l.moments ≡ difference_from l.program l.events.events.now (take l.place l.moments) scene (drop l.place l.moments));
-  reached : AreReached l.program l.events.events.now l.stage.standings.by_id;
-}
+invariant-loop-place g l =
+    (scene : Scene) × Shows (take l.place l.moments) scene l.stage
+    × (difference_of l.program (objects_of l.fn.start) l.trace l.moments ≡ difference_from l.stage.program.now l.stage.trace (take l.place l.moments) scene (drop l.place l.moments))

@@ -339,7 +339,7 @@ unknown_fault program trace past scene m h = fault_where program trace past scen
 
 -- and of one that stands at a place
 pub known_step : (old new : Stage) (m : Moment) (place : ℕ) (reason : Option Reason) → request_place old.trace (rid_of m) ≡ Some place
-    → ((past : List Moment) (scene : Scene) → Shows past scene old → IsStep past scene m (moment_fault old.program.now old.trace past scene m) reason old new) → Steps m reason old new
+    → ((past : List Moment) (scene : Scene) → Shows past scene old → IsStep past scene m (moment_fault old.program.now old.trace past scene m) reason old new) → Steps m old new reason
 known_step old new m place reason here step past scene h =
     let there = request_here (rid_of m) old.trace place here in
     let known : request_of old.trace (rid_of m) ≡ Some there.0 = sym (request_found (rid_of m) old.trace place here) ∙ ap (option_and_then the_request) there.1 in

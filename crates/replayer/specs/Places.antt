@@ -5,6 +5,7 @@ use Rattle.std.specs.List.{slice_get}
 use Rattle.std.specs.Option.{option_and_then}
 use Rattle.std.specs.Ordering.{nat_cmp}
 use Rattle.script_tree.specs.Requests.{Request}
+use Rattle.script_tree.specs.Traces.{request_of, response_of}
 use Rattle.script_tree.specs.declared.request.Response.{Response}
 use Rattle.script_tree.specs.declared.trace.TraceEvent.{TraceEvent}
 use Rattle.script_tree.specs.declared.trace.TraceEvent.TheVariants.{Asked, Answered}
@@ -40,12 +41,23 @@ abbrev pub partner_place : List TraceEvent → TraceEvent → Option ℕ
 partner_place es (Asked id q) = response_place es id
 partner_place es (Answered id x) = request_place es id
 
+-- what is found is the request, or the response, of the id whose request stands at a place
+abbrev pub IsRequestHere : List TraceEvent → ℕ → Option Request → Type 0
+IsRequestHere es place found = (r : ℕ) → request_place es r ≡ Some place → found ≡ request_of es r
+
+abbrev pub IsResponseHere : List TraceEvent → ℕ → Option Response → Type 0
+IsResponseHere es place found = (r : ℕ) → request_place es r ≡ Some place → found ≡ response_of es r
+
 -- The map has the place of each id's request, or response, among these events.
 abbrev pub TellsRequests : BTreeMap ℕ ℕ → ℕ → List TraceEvent → Type 0
 TellsRequests m i es = (r : ℕ) → get nat_cmp m r ≡ first_place (is_request r) i es
 
 abbrev pub TellsResponses : BTreeMap ℕ ℕ → ℕ → List TraceEvent → Type 0
 TellsResponses m i es = (r : ℕ) → get nat_cmp m r ≡ first_place (is_response r) i es
+
+-- what such maps give for an event is its partner's place
+abbrev pub FindsPartner : BTreeMap ℕ ℕ → BTreeMap ℕ ℕ → TraceEvent → Option ℕ → Type 0
+FindsPartner requests responses e place = (es : List TraceEvent) → TellsRequests requests 0 es → TellsResponses responses 0 es → place ≡ partner_place es e
 
 abbrev pub the_request : TraceEvent → Option Request
 the_request (Asked id q) = Some q

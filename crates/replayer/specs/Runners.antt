@@ -11,6 +11,9 @@ abbrev pub IsNext : Next → Ending → Type 0
 IsNext (told.Wants op) ending = (ending ≡ Wants op) × IsOnRegister op
 IsNext (told.Ends response) ending = (path : Path) × (ending ≡ Ends response path)
 
+abbrev pub IsToldAs : Ending → Next → Type 0
+IsToldAs ending next = IsNext next ending
+
 -- the same, of a request that may not be open
 abbrev pub IsNextIfOpen : Option Next → Option Ending → Type 0
 IsNextIfOpen None ending = ending ≡ None

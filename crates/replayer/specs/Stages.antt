@@ -61,14 +61,14 @@ pub record IsStep (past : List Moment) (scene : Scene) (m : Moment) (fault reaso
   pub shown : reason ≡ None → Shows (past ++ m ∷ []) (after old.program.now old.trace scene m) new
 
 -- The reason is why the moment fails in the scene that is shown.
-abbrev pub Steps : Moment → Option Reason → Stage → Stage → Type 0
-Steps m reason old new =
+abbrev pub Steps : Moment → Stage → Stage → Option Reason → Type 0
+Steps m old new reason =
     (past : List Moment) (scene : Scene) → Shows past scene old
     → IsStep past scene m (fault_of old.program.now old.trace past scene m) reason old new
 
 -- The same of a moment of the request that stands at a place.
-abbrev pub StepsAt : (place : ℕ) → (ℕ → Moment) → Option Reason → Stage → Stage → Type 0
-StepsAt place moment reason old new =
+abbrev pub StepsAt : (place : ℕ) → (ℕ → Moment) → Stage → Stage → Option Reason → Type 0
+StepsAt place moment old new reason =
     (r : ℕ) → request_place old.trace r ≡ Some place → (past : List Moment) (scene : Scene) → Shows past scene old
     → IsStep past scene (moment r) (moment_fault old.program.now old.trace past scene (moment r)) reason old new
 

@@ -1,5 +1,5 @@
 -- How the requests of a trace stand, each at its place in the trace.
-use Rattle.std.specs.Prelude.{◌≡◌, ◌≢◌, ℕ, suc, Bool, true, false, not, if◌then◌else◌, List, [], ◌∷◌, Option, Some, None, slice_index_or}
+use Rattle.std.specs.Prelude.{◌≡◌, ◌≢◌, ℕ, suc, ◌+◌, Bool, true, false, not, if◌then◌else◌, List, [], ◌∷◌, ◌++◌, drop, Option, Some, None, slice_get, slice_set, slice_index_or}
 use Rattle.script_tree.specs.Datum.{Datum}
 use Rattle.script_tree.specs.Programs.{Program}
 use Rattle.script_tree.specs.Requests.{Request}
@@ -43,6 +43,10 @@ pub record Puts (trace : List TraceEvent) (before after : List Standing) (r : �
   pub here : standing_in trace after r ≡ s
   pub others : (x : ℕ) → x ≢ r → standing_in trace after x ≡ standing_in trace before x
 
+-- An open request gets an answer at its place.
+abbrev pub PutsAnswer : List Standing → ℕ → Datum → List Standing → Type 0
+PutsAnswer before place d after = (ds : List Datum) → slice_index_or before place Away ≡ Open ds → after ≡ slice_set before place (Open (ds ++ d ∷ []))
+
 -- ---- responses that are waited for
 
 -- a response whose request hasn't departed
@@ -54,6 +58,14 @@ waits departed (Answered id x) = not (departed id)
 abbrev pub first_waiting : (ℕ → Bool) → List TraceEvent → ℕ
 first_waiting departed [] = 0
 first_waiting departed (e ∷ es) = if waits departed e then 0 else suc (first_waiting departed es)
+
+-- the same from a place on
+abbrev pub waiting_from : List TraceEvent → List Standing → ℕ → ℕ
+waiting_from trace ss from = from + first_waiting (departed_in trace ss) (drop from trace)
+
+-- whether such a response stands here
+abbrev pub IsWaiting : List TraceEvent → List Standing → ℕ → Bool → Type 0
+IsWaiting trace ss place b = (e : TraceEvent) → slice_get trace place ≡ Some e → b ≡ waits (departed_in trace ss) e
 
 -- ---- runs
 

@@ -1,10 +1,9 @@
-ghost use Rattle.std.specs.Prelude.{◌≡◌, ◌<◌, ℕ, List, Some, IfOk, IfSome, length, map};
+ghost use Rattle.std.specs.Prelude.{◌≡◌, ◌<◌, IfOk, IfSome, length, map};
 ghost use Rattle.std.specs.Prelude.{option_copied, slice_get};
-ghost use Rattle.script_tree.specs.Traces.{request_of, response_of};
-ghost use Rattle.script_tree.specs.declared.trace.TraceEvent.{TraceEvent as AnyEvent};
-ghost use Rattle.replayer.specs.Places.{TellsRequests, TellsResponses, partner_place};
-ghost use Rattle.replayer.specs.Places.{request_place, request_at, response_at};
 ghost use Rattle.std.specs.Option.{option_and_then};
+ghost use Rattle.replayer.specs.Places.{TellsRequests, TellsResponses, FindsPartner};
+ghost use Rattle.replayer.specs.Places.{request_place, partner_place, request_at, response_at};
+ghost use Rattle.replayer.specs.Places.{IsRequestHere, IsResponseHere};
 
 use script_tree::request::{Request, Response};
 use script_tree::trace::TraceEvent;
@@ -80,14 +79,14 @@ impl<'a> IndexedTrace<'a> {
 
     /// The request that stands here.
     pub fn request(&self, place: usize) -> Option<&'a Request>
-        ensures { (r : ℕ) → request_place self.now r ≡ Some place → option_copied result ≡ request_of self.now r }
+        ensures { IsRequestHere self.now place (option_copied result) }
     {
         request_at(self.events, place)
     }
 
     /// The response of the request that stands here.
     pub fn response(&self, place: usize) -> Option<&'a Response>
-        ensures { (r : ℕ) → request_place self.now r ≡ Some place → option_copied result ≡ response_of self.now r }
+        ensures { IsResponseHere self.now place (option_copied result) }
     {
         response_at(self.events, self.partner(place)?)
     }
@@ -124,8 +123,7 @@ fn partner_of(
     requests: &BTreeMap<u32, usize>,
     responses: &BTreeMap<u32, usize>,
 ) -> Option<usize>
-    ensures { (es : List AnyEvent) → TellsRequests requests.now 0 es → TellsResponses responses.now 0 es
-        → result ≡ partner_place es event.now }
+    ensures { FindsPartner requests.now responses.now event.now result }
 {
     match event {
         TraceEvent::Asked(rid, _) => responses.get(rid).copied(),

@@ -1,10 +1,9 @@
-ghost use Rattle.std.specs.Prelude.{◌≡◌, List, ℕ, Some, is_some, IfOk, OnOk, OnErr};
-ghost use Rattle.script_tree.specs.Objects.{acted, plausible, nothing_stored, or_null, Cell};
+ghost use Rattle.std.specs.Prelude.{◌≡◌, is_some, IfOk, OnOk, OnErr};
+ghost use Rattle.script_tree.specs.Objects.{nothing_stored, or_null};
 ghost use Rattle.script_tree.specs.declared.operation.Choice.{Choice as AnyChoice};
 ghost use Rattle.script_tree.specs.declared.operation.Object.{Object as AnyObject};
-ghost use Rattle.script_tree.specs.declared.operation.Op.{Op as AnyOp};
 ghost use Rattle.replayer.specs.OnRegisters.{objects_of, register_in, IsOnRegister};
-ghost use Rattle.replayer.specs.Changes.{Writes, Does};
+ghost use Rattle.replayer.specs.Changes.{Writes, Does, IsTaken};
 
 use script_tree::operation::{Act, Choice, Object, Op};
 use script_tree::text::Text;
@@ -43,7 +42,7 @@ impl Registers {
 
     /// Whether a read or a write of a register takes the choice.
     pub fn take(choice: Choice) -> bool
-        ensures { (op : AnyOp) (cell : Cell) → IsOnRegister op → plausible op.act choice cell ≡ result }
+        ensures { IsTaken choice result }
     {
         match choice {
             Choice::Nothing => true,

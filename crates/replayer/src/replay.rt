@@ -1,9 +1,6 @@
-ghost use Rattle.std.specs.Prelude.{◌≡◌, ◌↔◌, IfOk};
+ghost use Rattle.std.specs.Prelude.{IfOk};
 ghost use Rattle.script_tree.specs.Traces.{IsBalanced};
-ghost use Rattle.replayer.specs.Differences.{difference_of, replayed};
-ghost use Rattle.replayer.specs.Laws.{ExplainsIfRead, schedule_read};
-ghost use Rattle.replayer.specs.OnRegisters.{objects_of};
-ghost use Rattle.replayer.specs.declared.reason.Replayed.TheVariants.{Agrees};
+ghost use Rattle.replayer.specs.Laws.{IsDifference, IsFinding, AgreesWhereExplained, schedule_read};
 
 use crate::indexed_trace::IndexedTrace;
 use crate::law::agreement;
@@ -27,8 +24,7 @@ pub fn replay_by<R: Runner>(
     trace: &Trace,
     schedule: &Schedule,
 ) -> Result<Option<ReplayReason>, AllocError>
-    ensures { let objects = objects_of start in
-        IfOk result (λ d. d ≡ difference_of program.now objects trace.now schedule.now) }
+    ensures { IfOk result (IsDifference program.now start trace.now schedule.now) }
 {
     let events = IndexedTrace::new(alloc, trace.as_slice())?;
     let mut stage = Stage::new(alloc, program, start, events)?;
@@ -57,9 +53,9 @@ pub fn replay(
 ) -> Result<Replayed, AllocError>
     requires balanced { IsBalanced trace.now }
     ensures replayed { let read = schedule_read schedule.entry in
-        IfOk result (λ r. r ≡ replayed program.now (objects_of start) trace.now read) }
+        IfOk result (IsFinding program.now start trace.now read) }
     ensures agrees { let read = schedule_read schedule.entry in
-        IfOk result (λ r. (r ≡ Agrees) ↔ ExplainsIfRead program.now (objects_of start) trace.now read) }
+        IfOk result (AgreesWhereExplained program.now start trace.now read) }
 {
     agreement();
     let schedule = match schedule {

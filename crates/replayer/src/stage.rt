@@ -65,7 +65,7 @@ impl<'a> Stage<'a> {
         runner: &R,
         moment: Moment,
     ) -> Result<Option<Reason>, AllocError>
-        ensures step { IfOk result (λ reason. Steps moment reason self.old self.new) }
+        ensures step { IfOk result (Steps moment self.old self.new) }
         ensures same { IsStageOf self.old.program.now self.old.trace self.new }
     {
         let Some(place) = self.trace.place(rid_of(moment)) else {
@@ -80,7 +80,7 @@ impl<'a> Stage<'a> {
 
     fn arrive(&mut self, alloc: Global, place: usize) -> Option<Reason>
         requires { IsRequestPlace self.old.trace place }
-        ensures step { StepsAt place (λ r. Arrive r) result self.old self.new }
+        ensures step { StepsAt place (λ r. Arrive r) self.old self.new result }
         ensures same { IsStageOf self.old.program.now self.old.trace self.new }
     {
         let Standing::Away = &self.standings[place] else {
@@ -101,7 +101,7 @@ impl<'a> Stage<'a> {
         choice: Choice,
     ) -> Result<Option<Reason>, AllocError>
         requires { IsRequestPlace self.old.trace place }
-        ensures step { IfOk result (λ reason. StepsAt place (λ r. Act r choice) reason self.old self.new) }
+        ensures step { IfOk result (StepsAt place (λ r. Act r choice) self.old self.new) }
         ensures same { IsStageOf self.old.program.now self.old.trace self.new }
     {
         let op = match self.next_at(alloc, runner, place)? {
@@ -124,7 +124,7 @@ impl<'a> Stage<'a> {
         place: usize,
     ) -> Result<Option<Reason>, AllocError>
         requires { IsRequestPlace self.old.trace place }
-        ensures step { IfOk result (λ reason. StepsAt place (λ r. Depart r) reason self.old self.new) }
+        ensures step { IfOk result (StepsAt place (λ r. Depart r) self.old self.new) }
         ensures same { IsStageOf self.old.program.now self.old.trace self.new }
     {
         let response = match self.next_at(alloc, runner, place)? {

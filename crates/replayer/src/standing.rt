@@ -1,11 +1,8 @@
-ghost use Rattle.std.specs.Prelude.{◌≡◌, ◌+◌, ◌<◌, ◌++◌, ◌∷◌, [], ℕ, List, Some, length, drop};
-ghost use Rattle.std.specs.Prelude.{vec_len, slice_index_or, slice_get, slice_set, IfOk, OnOk, OnErr};
-ghost use Rattle.script_tree.specs.Datum.{Datum};
-ghost use Rattle.script_tree.specs.declared.trace.TraceEvent.{TraceEvent as AnyEvent};
+ghost use Rattle.std.specs.Prelude.{◌≡◌, ◌<◌, ℕ, length, vec_len, slice_index_or, IfOk, OnOk, OnErr};
 ghost use Rattle.replayer.specs.Differences.{left_open, first_not_departed};
-ghost use Rattle.replayer.specs.Standings.{standing_at, departed_in, is_departed, waits};
-ghost use Rattle.replayer.specs.Standings.{first_waiting};
-ghost use Rattle.replayer.specs.declared.standing.Standing.TheVariants.{Away, Open};
+ghost use Rattle.replayer.specs.Standings.{standing_at, departed_in, is_departed, waiting_from};
+ghost use Rattle.replayer.specs.Standings.{PutsAnswer, IsWaiting};
+ghost use Rattle.replayer.specs.declared.standing.Standing.TheVariants.{Away};
 
 use crate::indexed_trace::IndexedTrace;
 use crate::reason::ReplayReason;
@@ -47,8 +44,7 @@ pub fn put_answer(
     answer: Value,
 ) -> Result<(), AllocError>
     requires { place < vec_len standings.old }
-    ensures put { OnOk result ((ds : List Datum) → slice_index_or standings.old.items place Away ≡ Open ds
-        → standings.new.items ≡ slice_set standings.old.items place (Open (ds ++ answer ∷ []))) }
+    ensures put { OnOk result (PutsAnswer standings.old.items place answer standings.new.items) }
     ensures refused { OnErr result (standings.new.items ≡ standings.old.items) }
     ensures len { vec_len standings.new ≡ vec_len standings.old }
 {
@@ -71,8 +67,7 @@ fn is_departed(standings: &[Standing], place: Option<usize>) -> bool
 /// Whether a response stands here whose request has not departed.
 fn waits(trace: &IndexedTrace, standings: &[Standing], place: usize) -> bool
     requires { place < length trace.now }
-    ensures { (e : AnyEvent) → slice_get trace.now place ≡ Some e
-        → result ≡ waits (departed_in trace.now standings.now) e }
+    ensures { IsWaiting trace.now standings.now place result }
 {
     match &trace.events()[place] {
         TraceEvent::Asked(..) => false,
@@ -82,7 +77,7 @@ fn waits(trace: &IndexedTrace, standings: &[Standing], place: usize) -> bool
 
 /// The place of the first response from here on whose request has not departed.
 pub fn first_waiting(trace: &IndexedTrace, standings: &[Standing], from: usize) -> usize
-    ensures { result ≡ from + first_waiting (departed_in trace.now standings.now) (drop from trace.now) }
+    ensures { result ≡ waiting_from trace.now standings.now from }
 {
     let mut place = from;
     while place < trace.events().len() && !waits(trace, standings, place) {

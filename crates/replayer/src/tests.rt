@@ -26,19 +26,19 @@ fn empty(alloc: Global) -> Text {
     Text::from_vec(Vec::new(alloc))
 }
 
-fn asked(alloc: Global, id: u32) -> Result<TraceEvent, Fail> {
+fn asked(alloc: Global, rid: u32) -> Result<TraceEvent, Fail> {
     let request = Request::new(
         empty(alloc),
         empty(alloc),
         Parameters::from_vec(Vec::new(alloc)),
         empty(alloc),
     );
-    Ok(TraceEvent::Asked(id, request.ok_or("within the limits")?))
+    Ok(TraceEvent::Asked(rid, request.ok_or("within the limits")?))
 }
 
-fn answered(alloc: Global, id: u32) -> TraceEvent {
+fn answered(alloc: Global, rid: u32) -> TraceEvent {
     TraceEvent::Answered(
-        id,
+        rid,
         Response {
             status: 200,
             body: empty(alloc),
@@ -57,7 +57,7 @@ fn one_after_the_other(alloc: Global) -> Result<Trace, Fail> {
 }
 
 fn played(alloc: Global, moments: &[Moment]) -> Result<Option<ReplayReason>, Fail> {
-    let program = Program::from_tree(Tree::from_vec(Vec::new(alloc)));
+    let program = Program::from_tree(Tree::from_vec(Vec::new(alloc))).ok_or("too many pages")?;
     let trace = one_after_the_other(alloc)?;
     let schedule = Schedule::from_vec(Vec::from_slice(alloc, moments)?);
     Ok(replay_by(

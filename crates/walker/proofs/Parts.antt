@@ -26,7 +26,7 @@ use Rattle.walker.specs.PageParts.{page_later, page_value, page_values, register
 -- ---- runs
 
 -- a run that stops at its first part stops
-pub stops_first : {A B : Type 0} (e : Stopped) (p : Progress) (o : Outcome A) (f : A → Run B) → Stops e p o → Stops e p (after o f)
+stops_first : {A B : Type 0} (e : Stopped) (p : Progress) (o : Outcome A) (f : A → Run B) → Stops e p o → Stops e p (after o f)
 stops_first Memory p o f h = tt
 stops_first (Other e) p o f h = rw h refl
 
@@ -37,7 +37,7 @@ err_is : {A E : Type 0} (x y : E) → ◌≡◌ {A = Result A E} (Err x) (Err y)
 err_is x y e = cc
 
 -- what a function of values answers, a run gives
-pub gives_answer : {A : Type 0} (r : Result A ScriptFault) (result : Result A Stopped) (p : Progress) → Answers (λ x. x) (stopping r) result
+gives_answer : {A : Type 0} (r : Result A ScriptFault) (result : Result A Stopped) (p : Progress) → Answers (λ x. x) (stopping r) result
     → Gives (λ x. x) result p (unless_fault r p)
 gives_answer (Ok x) (Ok y) p h = ap (λ z. goes z p) (ok_is x y h)
 gives_answer (Err f) (Ok y) p h = absurd cc
@@ -58,7 +58,7 @@ operand_lighter (t ∷ es) (suc i) e h p = omega (arith, operand_lighter es i e 
 -- ---- calls
 
 -- what is done once the arguments are evaluated
-abbrev pub applied : List ℕ → List Datum → Run Datum
+abbrev applied : List ℕ → List Datum → Run Datum
 applied f ds = charge (taking ds) >> issue_unless_fault (register_op f ds)
 
 read_value : (w : Setting) (at : ℕ) (f : List ℕ) (es : List Expression) (p : Progress) → IsBuilt w.program → f ≡ codes "read"
@@ -99,18 +99,18 @@ module _ (f : List ℕ) (es : List Expression) (at : ℕ) (item : is_item (s.cal
   ]
 
   module _ (w : Setting) (h : IsBuilt w.program) (p new : Progress) where
-    pub call_value : page_value w (s.call at f (expressions_of es)) p ≡ after (page_values w es p) (applied f)
+    call_value : page_value w (s.call at f (expressions_of es)) p ≡ after (page_values w es p) (applied f)
     call_value = elim kinds [
       | inl a ↦ read_value w at f es p h ((bytes_eq-Decides f (codes "read")).0 (both-left _ _ a))
       | inr b ↦ write_value w at f es p h ((bytes_eq-Decides f (codes "write")).0 (both-left _ _ b))
     ]
 
-    module _ (ds : List Datum) (p1 : Progress) (a : page_values w es p ≡ goes ds p1) where
-      module _ (p2 : Progress) (c : charge (taking ds) p1 ≡ goes tt p2) where
-        -- its arguments are at fault
-        pub call_faults : (e : Stopped) → Answers (λ op. op) (stopping (register_op f ds)) (Err e) → Stops e p2 (page_value w (s.call at f (expressions_of es)) p)
-        call_faults e r = rw (call_value, a, c) (stops_first e p2 _ _ (gives_answer (register_op f ds) (Err e) p2 r))
+    module _ (ds : List Datum) (p1 p2 : Progress) (a : page_values w es p ≡ goes ds p1) (c : charge (taking ds) p1 ≡ goes tt p2) where
+      -- its arguments are at fault
+      pub call_faults : (e : Stopped) → Answers (λ op. op) (stopping (register_op f ds)) (Err e)
+          → Stops e p2 (page_value w (s.call at f (expressions_of es)) p)
+      call_faults e r = rw (call_value, a, c) (stops_first e p2 _ _ (gives_answer (register_op f ds) (Err e) p2 r))
 
-        pub call_issues : (op : Op) (r : Result Datum Stopped) → Answers (λ op. op) (stopping (register_op f ds)) (Ok op) → Gives (λ v. v) r new (issue op p2)
-            → Gives (λ v. v) r new (page_value w (s.call at f (expressions_of es)) p)
-        call_issues op r o g = rw (call_value, a, c, gives_answer (register_op f ds) (Ok op) p2 o) g
+      pub call_issues : (op : Op) (r : Result Datum Stopped) → Answers (λ op. op) (stopping (register_op f ds)) (Ok op)
+          → Gives (λ v. v) r new (issue op p2) → Gives (λ v. v) r new (page_value w (s.call at f (expressions_of es)) p)
+      call_issues op r o g = rw (call_value, a, c, gives_answer (register_op f ds) (Ok op) p2 o) g

@@ -1,5 +1,7 @@
 mod ConductRows
+mod CostRows
 mod HitRows
 mod LongRows
 pub mod Programs
 mod RuleRows
+pub mod Straight

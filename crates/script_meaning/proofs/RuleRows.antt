@@ -107,6 +107,20 @@ too_deep : run_of (Function 0 (p.name (codes "g")) [] (return 0 (call 0 (codes "
 unfolding digits
 too_deep = refl
 
+-- function len(x) { return 7; } page "/p" { echo len("a"); } calls the program's own function
+own_function : run_of (
+    Function 0 (p.name (codes "len")) (p.name (codes "x") ∷ []) (return 0 (p.num 7) ∷ [])
+    ∷ on_page (echo 0 (p.call1 (codes "len") (p.str (codes "a"))) ∷ [])) ≡ answers (codes "7") [] 5
+unfolding digits
+own_function = refl
+
+-- function get(a, b) { return a; } page "/p" { let s = "x"; echo get(s, "k"); } takes s as a variable
+own_arguments : run_of (
+    Function 0 (p.name (codes "get")) (p.name (codes "a") ∷ p.name (codes "b") ∷ []) (return 0 (p.var (codes "a")) ∷ [])
+    ∷ on_page (
+    let_ 0 (p.name (codes "s")) (p.str (codes "x")) ∷ echo 0 (p.call2 (codes "get") (p.var (codes "s")) (p.str (codes "k"))) ∷ [])) ≡ answers (codes "x") [] 8
+own_arguments = refl
+
 -- ---- other faults
 
 -- echo "a"; echo 1 / 0; drops what was echoed

@@ -13,6 +13,7 @@ use Rattle.script_tree.specs.declared.path.End.{End}
 use Rattle.script_tree.specs.declared.path.End.TheVariants.{Normal, Fault, AnswerFault}
 use Rattle.script_tree.specs.declared.path.Path.{Path}
 use Rattle.script_tree.specs.declared.limits.TheConstants.{MOST_STEPS}
+use Rattle.script_meaning.specs.declared.status.TheConstants.{USUAL_STATUS, NO_PAGE_STATUS, FAULT_STATUS}
 use Rattle.script_meaning.specs.Operations.{Op}
 use Rattle.script_meaning.specs.Declarations.{NumberedPage, page_in}
 use Rattle.script_meaning.specs.Run.{Mark, decided, issued, Progress, wants, fault, answer_fault, Outcome, goes, stops}
@@ -44,7 +45,7 @@ unless_left [] ending = ending
 unless_left (d ∷ ds) ending = Undefined
 
 abbrev pub fault_response : ScriptFault → Response
-fault_response f = record { status = 500; body = codes "fault " ++ (decimal (fault_number f) ++ 10 ∷ []) }
+fault_response f = record { status = FAULT_STATUS; body = codes "fault " ++ (decimal (fault_number f) ++ 10 ∷ []) }
 
 abbrev pub over : ℕ → Progress → Response → End → Ending
 over page p response end = unless_left p.answers (Ends response (path_of page p end))
@@ -60,13 +61,21 @@ ended page (stops (fault f) p) = record { trail = p.trail; ending = over page p 
 ended page (stops answer_fault p) = record { trail = p.trail; ending = over page p (fault_response TooLarge) AnswerFault }
 
 abbrev pub start : List Datum → Progress
-start answers = record { steps = 0; operations = 0; costs = None; trail = []; answers = answers; status = 200; body = [] }
+start answers = record {
+  steps = 0;
+  operations = 0;
+  costs = None;
+  trail = [];
+  answers = answers;
+  status = USUAL_STATUS;
+  body = [];
+}
 
 abbrev pub no_page : List Datum → Conduct
 no_page answers = record {
   trail = [];
   ending = unless_left answers (Ends
-      (record { status = 404; body = codes "no page" ++ 10 ∷ [] })
+      (record { status = NO_PAGE_STATUS; body = codes "no page" ++ 10 ∷ [] })
       (record { page = None; decisions = []; steps = 0; end = Normal }));
 }
 

@@ -1,4 +1,4 @@
--- What operations, and the status of a response, need of the values that they are given: each is what these say, or their fault.
+-- What operations, and the status of a response, are made of: the values that they take, or the fault of these.
 use Rattle.std.specs.Prelude.{ℕ, zero, suc, ◌==◌, nat_lt, nat_le, Bool, ◌&&◌, ◌||◌, not, if◌then◌else◌, ℤ, pos, negsuc, List, [], ◌∷◌, ◌++◌, length, map, Result, Ok, Err}
 use Rattle.script_tree.specs.Datum.{Datum, null}
 use Rattle.script_tree.specs.declared.fault.ScriptFault.{ScriptFault}

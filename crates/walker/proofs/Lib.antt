@@ -1,3 +1,2 @@
-pub mod Parts
-pub mod Pages
-pub mod Endings
+mod Endings
+mod Parts

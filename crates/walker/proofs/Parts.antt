@@ -1,5 +1,5 @@
 -- How the parts of a page go on.
-use Rattle.std.proofs.Common.{◌≡◌, ◌<◌, ℕ, zero, suc, true, ◌&&◌, if◌then◌else◌, List, [], ◌∷◌, length, get_or, Result, Ok, Err, Some, None, refl, ap, sym, ◌∙◌, codes, arith, inl, inr, ◌⊎◌}
+use Rattle.std.proofs.Common.{◌≡◌, ◌<◌, ℕ, zero, suc, true, ◌&&◌, List, [], ◌∷◌, length, get_or, Result, Ok, Err, refl, ap, sym, ◌∙◌, codes, arith, inl, inr, ◌⊎◌}
 use Rattle.std.proofs.lemmas.Bool.{false≢true}
 use Rattle.std.proofs.lemmas.Slice.Eq.{bytes_eq-Decides}
 use Rattle.std.specs.List.{list_all}
@@ -7,31 +7,26 @@ use Rattle.std.specs.Str.{bytes_eq}
 use Rattle.basis.proofs.Booleans.{both-left, both-right, either}
 use Rattle.basis.specs.declared.or_memory.OrMemory.TheVariants.{Memory, Other}
 use Rattle.basis.specs.UnlessMemory.{Answers}
-use Rattle.script_tree.specs.Builtins.{builtin_of}
 use Rattle.script_tree.specs.Datum.{Datum}
 use Rattle.script_tree.specs.ExpressionWeight.{expression_weight, expressions_weight}
 use Rattle.script_tree.specs.Programs.{IsBuilt}
-use Rattle.script_tree.specs.StraightLine.{IsStraightLine, is_item, is_atom, is_name, is_entry}
+use Rattle.script_tree.specs.StraightLine.{is_item, is_atom, is_name, is_entry}
 use Rattle.script_tree.specs.Syntax as s
 use Rattle.script_tree.specs.Syntax.{Expression, Statement, echo, do_}
 use Rattle.script_tree.specs.SyntaxLists.{expressions_of}
 use Rattle.script_tree.specs.declared.fault.ScriptFault.{ScriptFault}
 use Rattle.script_tree.specs.declared.operation.Op.{Op}
-use Rattle.script_tree.specs.declared.syntax.builtin.Builtin.{Builtin}
-use Rattle.script_tree.specs.declared.syntax.builtin.Builtin.TheVariants.{Read, Write}
-use Rattle.script_tree.specs.declared.syntax.declaration.Declaration.{Declaration}
-use Rattle.script_tree.specs.declared.syntax.declaration.Declaration.TheVariants.{Page}
-use Rattle.script_meaning.specs.Declarations.{function_from, Callee, built, callee, callee_in}
-use Rattle.script_meaning.specs.Evaluate.{Setting, eval_others, names_store, store_name, called, issue_unless_fault}
-use Rattle.script_meaning.specs.Run.{Progress, Run, Outcome, goes, stops, after, unless_fault, taking, charge, issue, ◌>>◌, ◌>>=◌}
+use Rattle.script_meaning.specs.Evaluate.{Setting, issue_unless_fault}
+use Rattle.script_meaning.specs.Run.{Progress, Run, Outcome, goes, stops, after, unless_fault, taking, charge, issue, ◌>>◌}
 use Rattle.script_meaning.specs.declared.run.Stop.TheVariants.{Fault as fault}
+use Rattle.script_meaning.proofs.Straight.{read_call, write_call}
 use Rattle.walker.specs.Gives.{stopping, Stopped, Stops, Gives}
 use Rattle.walker.specs.PageParts.{page_later, page_value, page_values, register_op}
 
 -- ---- runs
 
 -- a run that stops at its first part stops
-pub stops_first : {A B : Type 0} (e : Stopped) (p : Progress) (o : Outcome A) (f : A → Run B) → Stops e p o → Stops e p (after o f)
+stops_first : {A B : Type 0} (e : Stopped) (p : Progress) (o : Outcome A) (f : A → Run B) → Stops e p o → Stops e p (after o f)
 stops_first Memory p o f h = tt
 stops_first (Other e) p o f h = rw h refl
 
@@ -42,7 +37,7 @@ err_is : {A E : Type 0} (x y : E) → ◌≡◌ {A = Result A E} (Err x) (Err y)
 err_is x y e = cc
 
 -- what a function of values answers, a run gives
-pub gives_answer : {A : Type 0} (r : Result A ScriptFault) (result : Result A Stopped) (p : Progress) → Answers (λ x. x) (stopping r) result
+gives_answer : {A : Type 0} (r : Result A ScriptFault) (result : Result A Stopped) (p : Progress) → Answers (λ x. x) (stopping r) result
     → Gives (λ x. x) result p (unless_fault r p)
 gives_answer (Ok x) (Ok y) p h = ap (λ z. goes z p) (ok_is x y h)
 gives_answer (Err f) (Ok y) p h = absurd cc
@@ -62,33 +57,19 @@ operand_lighter (t ∷ es) (suc i) e h p = omega (arith, operand_lighter es i e 
 
 -- ---- calls
 
-no_function : (f : List ℕ) (ds : List Declaration) → IsStraightLine ds → function_from f ds ≡ None
-no_function f [] h = refl
-no_function f (Page at name body ∷ ds) h = no_function f ds (both-right _ _ h)
-no_function f (d ∷ ds) h = absurd (false≢true h)
-
--- a call of a built-in function is none of the program's own, which has none
-calls_built : (w : Setting) (f : List ℕ) (b : Builtin) → IsBuilt w.program → builtin_of f ≡ Some b → callee_in w.program f ≡ built b
-calls_built w f b h e = ap (λ o. callee o (builtin_of f)) (no_function f w.program.declarations h.straight) ∙ ap (callee None) e
-
-abbrev call_by : Setting → List Expression → Callee → Run Datum
-call_by w es c =
-    (if names_store c then eval_others w (page_later w) 0 [] (expressions_of es) else page_values w es)
-    >>= λ ds. called w (page_later w) 0 c (store_name (expressions_of es)) ds
-
 -- what is done once the arguments are evaluated
-abbrev pub applied : List ℕ → List Datum → Run Datum
+abbrev applied : List ℕ → List Datum → Run Datum
 applied f ds = charge (taking ds) >> issue_unless_fault (register_op f ds)
 
 read_value : (w : Setting) (at : ℕ) (f : List ℕ) (es : List Expression) (p : Progress) → IsBuilt w.program → f ≡ codes "read"
     → page_value w (s.call at f (expressions_of es)) p ≡ after (page_values w es p) (applied f)
 read_value w at f es p h e =
-    ap (λ c. call_by w es c p) (calls_built w f Read h (ap builtin_of e)) ∙ ap (λ g. after (page_values w es p) (applied g)) (sym e)
+    ap (λ m. m p) (read_call w (page_later w) 0 [] at f (expressions_of es) h e) ∙ ap (λ g. after (page_values w es p) (applied g)) (sym e)
 
 write_value : (w : Setting) (at : ℕ) (f : List ℕ) (es : List Expression) (p : Progress) → IsBuilt w.program → f ≡ codes "write"
     → page_value w (s.call at f (expressions_of es)) p ≡ after (page_values w es p) (applied f)
 write_value w at f es p h e =
-    ap (λ c. call_by w es c p) (calls_built w f Write h (ap builtin_of e)) ∙ ap (λ g. after (page_values w es p) (applied g)) (sym e)
+    ap (λ m. m p) (write_call w (page_later w) 0 [] at f (expressions_of es) h e) ∙ ap (λ g. after (page_values w es p) (applied g)) (sym e)
 
 atom_item : (e : Expression) → is_atom e ≡ true → is_item e ≡ true
 atom_item (s.number at n) h = refl
@@ -118,18 +99,18 @@ module _ (f : List ℕ) (es : List Expression) (at : ℕ) (item : is_item (s.cal
   ]
 
   module _ (w : Setting) (h : IsBuilt w.program) (p new : Progress) where
-    pub call_value : page_value w (s.call at f (expressions_of es)) p ≡ after (page_values w es p) (applied f)
+    call_value : page_value w (s.call at f (expressions_of es)) p ≡ after (page_values w es p) (applied f)
     call_value = elim kinds [
       | inl a ↦ read_value w at f es p h ((bytes_eq-Decides f (codes "read")).0 (both-left _ _ a))
       | inr b ↦ write_value w at f es p h ((bytes_eq-Decides f (codes "write")).0 (both-left _ _ b))
     ]
 
-    module _ (ds : List Datum) (p1 : Progress) (a : page_values w es p ≡ goes ds p1) where
-      module _ (p2 : Progress) (c : charge (taking ds) p1 ≡ goes tt p2) where
-        -- its arguments are at fault
-        pub call_faults : (e : Stopped) → Answers (λ op. op) (stopping (register_op f ds)) (Err e) → Stops e p2 (page_value w (s.call at f (expressions_of es)) p)
-        call_faults e r = rw (call_value, a, c) (stops_first e p2 _ _ (gives_answer (register_op f ds) (Err e) p2 r))
+    module _ (ds : List Datum) (p1 p2 : Progress) (a : page_values w es p ≡ goes ds p1) (c : charge (taking ds) p1 ≡ goes tt p2) where
+      -- its arguments are at fault
+      pub call_faults : (e : Stopped) → Answers (λ op. op) (stopping (register_op f ds)) (Err e)
+          → Stops e p2 (page_value w (s.call at f (expressions_of es)) p)
+      call_faults e r = rw (call_value, a, c) (stops_first e p2 _ _ (gives_answer (register_op f ds) (Err e) p2 r))
 
-        pub call_issues : (op : Op) (r : Result Datum Stopped) → Answers (λ op. op) (stopping (register_op f ds)) (Ok op) → Gives (λ v. v) r new (issue op p2)
-            → Gives (λ v. v) r new (page_value w (s.call at f (expressions_of es)) p)
-        call_issues op r o g = rw (call_value, a, c, gives_answer (register_op f ds) (Ok op) p2 o) g
+      pub call_issues : (op : Op) (r : Result Datum Stopped) → Answers (λ op. op) (stopping (register_op f ds)) (Ok op)
+          → Gives (λ v. v) r new (issue op p2) → Gives (λ v. v) r new (page_value w (s.call at f (expressions_of es)) p)
+      call_issues op r o g = rw (call_value, a, c, gives_answer (register_op f ds) (Ok op) p2 o) g

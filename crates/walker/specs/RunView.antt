@@ -1,6 +1,7 @@
 -- What the fields of a run stand for, and what is true of them.
 use Rattle.std.specs.Prelude.{◌≤◌, None}
 use Rattle.script_tree.specs.declared.limits.TheConstants.{MOST_STEPS, MOST_OPERATIONS}
+use Rattle.script_meaning.specs.declared.status.TheConstants.{USUAL_STATUS}
 use Rattle.script_meaning.specs.Run.{Progress}
 use Rattle.walker.specs.declared.run.Run.TheInside.{Inside}
 
@@ -11,7 +12,7 @@ progress_of r = record {
   costs = None;
   trail = r.trail.items;
   answers = r.answers.now;
-  status = 200;
+  status = USUAL_STATUS;
   body = r.body.items;
 }
 

@@ -6,6 +6,7 @@ ghost use Rattle.walker.specs.WalkerSteps.{Tells};
 use crate::run::Run;
 use basis::OrMemory;
 use script_meaning::run::Stop;
+use script_meaning::status::{FAULT_STATUS, NO_PAGE_STATUS};
 use script_tree::fault::ScriptFault;
 use script_tree::operation::Op;
 use script_tree::path::{Decisions, End, Path};
@@ -38,7 +39,7 @@ pub fn no_page(alloc: Global) -> Result<WalkerStep, AllocError>
     ensures { IfOk result (Tells (no_page []).ending) }
 {
     let response = Response {
-        status: 404,
+        status: NO_PAGE_STATUS,
         body: Text::from_vec(b"no page\n".to_vec(alloc)?),
     };
     let path = Path {
@@ -57,7 +58,7 @@ fn fault_response(alloc: Global, fault: ScriptFault) -> Result<Response, AllocEr
     body.extend_from_slice(fault.number().to_string(alloc)?.as_bytes())?;
     body.push(b'\n')?;
     Ok(Response {
-        status: 500,
+        status: FAULT_STATUS,
         body: Text::from_vec(body),
     })
 }

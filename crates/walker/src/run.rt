@@ -6,6 +6,7 @@ ghost use Rattle.walker.specs.Gives.{Gives, GivesValue};
 
 use basis::OrMemory;
 use script_meaning::run::{Mark, Stop};
+use script_meaning::status::USUAL_STATUS;
 use script_tree::fault::ScriptFault;
 use script_tree::limits::{MOST_BODY_BYTES, MOST_OPERATIONS, MOST_STEPS};
 use script_tree::operation::Op;
@@ -151,7 +152,7 @@ impl<'a> Run<'a> {
     {
         let Run { body, .. } = self;
         Response {
-            status: 200,
+            status: USUAL_STATUS,
             body: Text::from_vec(body),
         }
     }

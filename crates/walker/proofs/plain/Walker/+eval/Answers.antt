@@ -18,12 +18,12 @@ eval_call-returns-in_err-register_op t c =
     let p = err_from_is_err_and c.from_residual-in_err-register_op.result c.from_residual-in_err-register_op.ensures.1 in
     rw (p.1, p.2)
     (call_faults c.args.name.now c.args.operands.now c.args.at c.requires c.args.self.now (rw (← c.self.view_is) c.self.invariant) c.args.run.now c.charge.new.self
-    c.in_ok-arguments.arguments.items c.eval_all.new.run c.in_ok-arguments.ensures c.charge.new.self (c.in_ok-charge.ensures _) _ c.in_err-register_op.ensures)
+    c.in_ok-arguments.arguments.items c.eval_all.new.run c.charge.new.self c.in_ok-arguments.ensures (c.in_ok-charge.ensures _) _ c.in_err-register_op.ensures)
 
 pub eval_call-returns : goal.eval_call-returns
 eval_call-returns t c =
     call_issues c.args.name.now c.args.operands.now c.args.at c.requires c.args.self.now (rw (← c.self.view_is) c.self.invariant) c.args.run.now c.issue.new.self
-    c.in_ok-arguments.arguments.items c.eval_all.new.run c.in_ok-arguments.ensures c.charge.new.self (c.in_ok-charge.ensures _) _ c.issue.result c.in_ok-register_op.ensures
+    c.in_ok-arguments.arguments.items c.eval_all.new.run c.charge.new.self c.in_ok-arguments.ensures (c.in_ok-charge.ensures _) _ c.issue.result c.in_ok-register_op.ensures
     c.issue.ensures
 
 pub eval_all-eval-requires : goal.eval_all-eval-requires

@@ -1,8 +1,8 @@
 use Rattle.std.proofs.Common.{sym}
 use Rattle.std.proofs.lemmas.Result.{IfOk-weaker}
+use Rattle.script_meaning.proofs.Straight.{page_straight}
 use Rattle.walker.specs.WalkerSteps.{numbered}
 use Rattle.walker.proofs.Endings.{page_told}
-use Rattle.walker.proofs.Pages.{page_straight}
 use Rattle.walker.proofs.plain.Walker.step.Goals as goal
 
 pub walk-requires : goal.walk-requires

@@ -1,5 +1,5 @@
 -- Facts on booleans.
-use Rattle.std.proofs.Common.{◌≡◌, Bool, true, false, ◌&&◌, ◌||◌, not, ◌⊎◌, inl, inr, refl}
+use Rattle.std.proofs.Common.{◌≡◌, Bool, true, false, ◌&&◌, ◌||◌, ◌⊎◌, inl, inr, refl}
 
 pub true_false : (b : Bool) → b ≡ true → b ≡ false → ⊥
 true_false b p q = cc
@@ -23,7 +23,3 @@ either false b h = inr h
 pub or-false : (b : Bool) → (b || false) ≡ b
 or-false true = refl
 or-false false = refl
-
-pub and-none : (b c : Bool) → c ≡ false → (b && c) ≡ false
-and-none true c h = h
-and-none false c h = refl

@@ -1,5 +1,5 @@
 -- Facts on stages.
-use Rattle.std.proofs.Common.{◌≡◌, ◌∙◌, ℕ, zero, suc, ◌+◌, List, [], ◌∷◌, ◌++◌, length, drop, Option, Some, None, is_some, is_none, Bool, true, false, ◌||◌, not, cond, nat_eq, nat_lt, unwrap_or, refl, ap, sym, subst, arith, inl, inr, Bor, option_copied, ◌<◌, ◌≤◌, ◌≢◌, get_or}
+use Rattle.std.proofs.Common.{◌≡◌, ◌∙◌, ℕ, zero, suc, ◌+◌, List, [], ◌∷◌, ◌++◌, length, drop, Option, Some, None, is_none, Bool, true, false, ◌||◌, not, cond, nat_eq, nat_lt, unwrap_or, refl, ap, sym, subst, arith, inl, inr, ◌<◌, ◌≤◌, ◌≢◌, get_or}
 use Rattle.std.proofs.Math.ListN.{set}
 use Rattle.std.proofs.lemmas.List.{get_or-set_same, get_or-set_other}
 use Rattle.basis.proofs.Booleans.{or-false}

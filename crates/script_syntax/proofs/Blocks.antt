@@ -14,7 +14,7 @@ use Rattle.basis.proofs.Booleans.{true_false}
 use Rattle.basis.proofs.Options.{none_some}
 use Rattle.basis.specs.declared.or_memory.OrMemory.TheVariants.{Memory, Other}
 use Rattle.script_syntax.proofs.Exact.{both, is_word, is_same, word_sound, text_sound, statement_complete, statement_shorter}
-use Rattle.script_syntax.proofs.WordTests.{some_one}
+use Rattle.basis.proofs.Options.{some_one}
 use Rattle.script_syntax.proofs.Rows.{Left, left_step, left_stuck, left_done}
 
 pub statement_one : (now next : List Token) (s : Statement) → statement now ≡ Some (s, next) → (y : Statement) (mid : List Token) → IsStatement y now mid → (y ≡ s) × (mid ≡ next)

@@ -12,7 +12,8 @@ use Rattle.script_syntax.specs.declared.word.Word.TheVariants as w
 use Rattle.script_syntax.specs.Words.{spelling_of}
 use Rattle.script_syntax.specs.Grammar.{token, word, IsRegister, IsAtom, IsEntry, IsWrite, IsItem, IsStatement}
 use Rattle.script_syntax.specs.Reader.{is, take_word, take_text, text_token, of_name, read_from, literal, atom, write_from, item_from, ended_item, with_statement, statement}
-use Rattle.script_syntax.proofs.WordTests.{some_one, spelled_once}
+use Rattle.basis.proofs.Options.{some_one}
+use Rattle.script_syntax.proofs.WordTests.{spelled_once}
 
 pub bind_some : {A B : Type 0} (o : Option A) (f : A → Option B) (b : B) → option_and_then f o ≡ Some b → (a : A) × (o ≡ Some a) × (f a ≡ Some b)
 bind_some None f b p = cc

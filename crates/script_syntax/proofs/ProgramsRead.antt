@@ -1,9 +1,9 @@
 -- From the one tree that bytes spell to the one program.
-use Rattle.std.proofs.Common.{◌≡◌, ℕ, ◌<◌, List, length, Option, Some, None, refl, sym, ap, subst}
+use Rattle.std.proofs.Common.{◌≡◌, ℕ, ◌<◌, List, length, Option, Some, None, sym, ap, subst}
 use Rattle.script_tree.specs.Programs.{Program, program_of, IsProgramOf}
 use Rattle.script_tree.specs.declared.limits.TheConstants.{TOO_MANY_DECLARATIONS}
 use Rattle.script_tree.specs.declared.syntax.declaration.Declaration.{Declaration}
-use Rattle.script_syntax.specs.Grammar.{IsParsed, IsProgramRead, SpellsProgram}
+use Rattle.script_syntax.specs.Grammar.{IsParsed, IsProgramRead}
 
 pub none_read : (bytes : List ℕ) (o : Option (List Declaration)) → o ≡ None → IsParsed bytes o → IsProgramRead bytes None
 none_read bytes o e parsed = λ program spelled.

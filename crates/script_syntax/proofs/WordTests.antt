@@ -3,6 +3,7 @@ use Rattle.std.proofs.Common.{◌≡◌, Some, Bool, true, false, refl, sym, ap,
 use Rattle.std.specs.Str.{bytes_eq}
 use Rattle.std.proofs.lemmas.Slice.Eq.{bytes_eq-Decides}
 use denote.Enum.Bare.{sameb, true_same, false_same}
+use Rattle.basis.proofs.Options.{some_one}
 use Rattle.script_syntax.specs.declared.word.Word.{Word}
 use Rattle.script_syntax.specs.contracts.word.Word.{the_type}
 use Rattle.script_syntax.specs.declared.word.Word.TheVariants as w
@@ -60,9 +61,6 @@ found w.Minus = refl
 found w.Times = refl
 found w.Over = refl
 found w.Percent = refl
-
-pub some_one : {A : Type 0} (a b : A) → Some a ≡ Some b → a ≡ b
-some_one a b p = cc
 
 pub spelled_once : (v w : Word) → spelling_of v ≡ spelling_of w → v ≡ w
 spelled_once v w p = some_one v w (sym (found v) ∙ ap word_of p ∙ found w)

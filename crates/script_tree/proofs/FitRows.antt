@@ -1,6 +1,6 @@
 -- Where nothing is stored, the objects fit a program that declares nothing.
 use Rattle.std.proofs.Common.{refl, rules, []}
-use Rattle.std.specs.Prelude.{◌≡◌, pos, None}
+use Rattle.std.specs.Prelude.{pos, None}
 use Rattle.script_tree.specs.Fit.{Fit}
 use Rattle.script_tree.specs.Objects.{nothing_stored}
 use Rattle.script_tree.specs.Programs.{program_of}

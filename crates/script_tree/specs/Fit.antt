@@ -13,7 +13,6 @@ use Rattle.script_tree.specs.declared.operation.Object.{Object}
 use Rattle.script_tree.specs.declared.operation.Object.TheVariants.{Register, Store, Tables, Clock, Dice}
 use Rattle.script_tree.specs.declared.syntax.declaration.Declaration.{Declaration}
 use Rattle.script_tree.specs.declared.syntax.declaration.Declaration.TheVariants.{Store as StoreOf, Table as TableOf, Function, Page}
-use Rattle.script_tree.specs.declared.syntax.name.Name.{Name}
 
 -- ---- what a program declares
 

@@ -1,5 +1,5 @@
 -- Programs.
-use Rattle.std.specs.Prelude.{◌≡◌, ◌<◌, List, length, Option}
+use Rattle.std.specs.Prelude.{◌<◌, List, length, Option}
 use Rattle.std.specs.Option.{SomeIff}
 use Rattle.script_tree.specs.StraightLine.{IsStraightLine}
 use Rattle.script_tree.specs.declared.limits.TheConstants.{TOO_MANY_DECLARATIONS}

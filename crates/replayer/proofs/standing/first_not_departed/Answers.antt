@@ -1,5 +1,4 @@
-use Rattle.std.proofs.Common.{◌≡◌, ◌∙◌, ◌<◌, List, length, drop, get_or, sym, ap, subst}
-use Rattle.replayer.specs.Differences.{first_not_departed}
+use Rattle.std.proofs.Common.{◌∙◌, sym}
 use Rattle.replayer.specs.Standings.{departed_in}
 use Rattle.replayer.proofs.StandingFacts.{passed, met}
 use Rattle.replayer.proofs.standing.first_not_departed.Goals as goal

@@ -1,5 +1,5 @@
-use Rattle.std.proofs.Common.{◌≡◌, ◌∙◌, ◌<◌, ◌+◌, length, sym, ap, arith}
-use Rattle.replayer.specs.Standings.{departed_in, first_waiting}
+use Rattle.std.proofs.Common.{◌∙◌, ◌<◌, length, ap, arith}
+use Rattle.replayer.specs.Standings.{departed_in}
 use Rattle.replayer.proofs.StandingFacts.{waits_on, waits_here}
 use Rattle.replayer.proofs.standing.first_waiting.Goals as goal
 

@@ -1,4 +1,4 @@
-use Rattle.std.proofs.Common.{◌≡◌, ◌∙◌, sym, ap, Bool, true, false, cond, None, Some}
+use Rattle.std.proofs.Common.{◌≡◌, ◌∙◌, sym, ap, true, false, cond, None, Some}
 use Rattle.replayer.specs.Standings.{standing_at, is_departed, departed_in}
 use Rattle.replayer.specs.declared.reason.ReplayReason.TheVariants.{Open}
 use Rattle.replayer.proofs.standing.left_open.Goals as goal

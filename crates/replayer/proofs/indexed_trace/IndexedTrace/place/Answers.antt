@@ -1,4 +1,4 @@
-use Rattle.std.proofs.Common.{◌≡◌, ◌∙◌, ap, Option}
+use Rattle.std.proofs.Common.{◌≡◌, ◌∙◌, ap}
 use Rattle.replayer.specs.Places.{request_place}
 use Rattle.replayer.proofs.PlaceFacts.{request_place-inside}
 use Rattle.replayer.proofs.indexed_trace.IndexedTrace.place.Goals as goal

@@ -1,6 +1,6 @@
-use Rattle.std.proofs.Common.{◌≡◌, ◌≢◌, ◌∙◌, sym, ap, subst}
+use Rattle.std.proofs.Common.{◌≢◌, ◌∙◌, sym, ap, subst}
 use Rattle.script_tree.specs.Datum.{null}
-use Rattle.script_meaning.specs.Conduct.{conduct, Ending, Undefined}
+use Rattle.script_meaning.specs.Conduct.{Ending, Undefined}
 use Rattle.script_meaning.specs.Evaluate.{Setting}
 use Rattle.script_meaning.specs.Replay.{ending_of}
 use Rattle.walker.specs.WalkerSteps.{ending_told, ending_after}

@@ -8,14 +8,13 @@ use Rattle.script_tree.specs.Traces.{request_of}
 use Rattle.script_tree.specs.Datum.{Datum}
 use Rattle.script_tree.specs.declared.operation.Op.{Op}
 use Rattle.script_tree.specs.declared.trace.TraceEvent.{TraceEvent}
-use Rattle.script_meaning.specs.Conduct.{Ending, Wants}
+use Rattle.script_meaning.specs.Conduct.{Wants}
 use Rattle.script_meaning.specs.Replay.{ending_of, ending_with, next_of}
 use Rattle.replayer.specs.OnRegisters.{IsOnRegister}
 use Rattle.replayer.specs.Places.{request_place}
 use Rattle.replayer.specs.Standings.{standing_at, standing_in, answers_in, Puts, AreDefined}
 use Rattle.replayer.specs.Stages.{standing_of, kept_of, NextAt}
 use Rattle.replayer.specs.declared.stage.Stage.{Stage}
-use Rattle.replayer.specs.declared.runner.Next.{Next}
 use Rattle.replayer.specs.declared.runner.Next.TheVariants as told
 use Rattle.replayer.specs.declared.standing.Standing.{Standing}
 use Rattle.replayer.specs.declared.standing.Standing.TheVariants.{Away, Open}

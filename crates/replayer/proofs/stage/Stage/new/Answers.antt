@@ -1,4 +1,4 @@
-use Rattle.std.proofs.Common.{◌≡◌, ◌∙◌, refl, ap, drop, zero-add}
+use Rattle.std.proofs.Common.{◌∙◌, refl, ap, zero-add}
 use Rattle.replayer.specs.Standings.{departed_in, first_waiting}
 use Rattle.replayer.proofs.StageFacts.{away_all, shows_opening}
 use Rattle.replayer.proofs.stage.Stage.new.Goals as goal

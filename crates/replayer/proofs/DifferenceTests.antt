@@ -21,11 +21,11 @@ use Rattle.basis.proofs.Places.{In, any_true, true_any, false_any, first_some, s
 -- ---- arrivals and departures
 
 is_arrival-true : (r : ℕ) (m : Moment) → is_arrival r m ≡ true → m ≡ Arrive r
-is_arrival-true r (Arrive id) e = ap (λ x. Arrive x) (sym (eqb-true r id e))
+is_arrival-true r (Arrive rid) e = ap (λ x. Arrive x) (sym (eqb-true r rid e))
 is_arrival-true r m e = absurd (true≢false (sym e))
 
 is_departure-true : (r : ℕ) (m : Moment) → is_departure r m ≡ true → m ≡ Depart r
-is_departure-true r (Depart id) e = ap (λ x. Depart x) (sym (eqb-true r id e))
+is_departure-true r (Depart rid) e = ap (λ x. Depart x) (sym (eqb-true r rid e))
 is_departure-true r m e = absurd (true≢false (sym e))
 
 pub arrived_at : (past : List Moment) (r : ℕ) → has_arrived past r ≡ true → In past (Arrive r)
@@ -61,14 +61,14 @@ departed_more past m r = list_any-append (is_departure r) past (m ∷ []) ∙ ap
 -- ---- requests
 
 request_in-some : (r : ℕ) (event : TraceEvent) (q : Request) → request_in r event ≡ Some q → event ≡ Asked r q
-request_in-some r (Asked id p) q e = elim (cases_Bool (nat_eq r id)) [
-  | inl t ↦ both (eqb-true r id t) (some_is (sym (ap (λ b. cond b (Some p) None) t) ∙ e))
+request_in-some r (Asked rid p) q e = elim (cases_Bool (nat_eq r rid)) [
+  | inl t ↦ both (eqb-true r rid t) (some_is (sym (ap (λ b. cond b (Some p) None) t) ∙ e))
   | inr t ↦ absurd (none_is_not (sym (ap (λ b. cond b (Some p) None) t) ∙ e))
 ]
   where
-    both : r ≡ id → p ≡ q → Asked id p ≡ Asked r q
+    both : r ≡ rid → p ≡ q → Asked rid p ≡ Asked r q
     both g h = cc
-request_in-some r (Answered id x) q e = absurd (none_is_not e)
+request_in-some r (Answered rid x) q e = absurd (none_is_not e)
 
 pub asked_at : (trace : List TraceEvent) (r : ℕ) (q : Request) → request_of trace r ≡ Some q → (i : ℕ) × (nth trace i ≡ Some (Asked r q))
 unfolding request_of
@@ -82,17 +82,17 @@ request_of-at trace r i q e = some_first (request_in r) trace i (Asked r q) q e 
 
 -- ---- what stands before a request
 
-answered_is_not : (id a : ℕ) (p : Request) (x : Response) → Some (Asked id p) ≡ Some (Answered a x) → ⊥
-answered_is_not id a p x e = let same : Asked id p ≡ Answered a x = some_is e in cc
+answered_is_not : (rid a : ℕ) (p : Request) (x : Response) → Some (Asked rid p) ≡ Some (Answered a x) → ⊥
+answered_is_not rid a p x e = let same : Asked rid p ≡ Answered a x = some_is e in cc
 
-asked_is_not : (id r : ℕ) (y : Response) (q : Request) → Some (Answered id y) ≡ Some (Asked r q) → ⊥
-asked_is_not id r y q e = let same : Answered id y ≡ Asked r q = some_is e in cc
+asked_is_not : (rid r : ℕ) (y : Response) (q : Request) → Some (Answered rid y) ≡ Some (Asked r q) → ⊥
+asked_is_not rid r y q e = let same : Answered rid y ≡ Asked r q = some_is e in cc
 
-same_asked : (id r : ℕ) (p q : Request) → Some (Asked id p) ≡ Some (Asked r q) → id ≡ r
-same_asked id r p q e = let same : Asked id p ≡ Asked r q = some_is e in cc
+same_asked : (rid r : ℕ) (p q : Request) → Some (Asked rid p) ≡ Some (Asked r q) → rid ≡ r
+same_asked rid r p q e = let same : Asked rid p ≡ Asked r q = some_is e in cc
 
-same_answered : (id a : ℕ) (y x : Response) → Some (Answered id y) ≡ Some (Answered a x) → id ≡ a
-same_answered id a y x e = let same : Answered id y ≡ Answered a x = some_is e in cc
+same_answered : (rid a : ℕ) (y x : Response) → Some (Answered rid y) ≡ Some (Answered a x) → rid ≡ a
+same_answered rid a y x e = let same : Answered rid y ≡ Answered a x = some_is e in cc
 
 -- Where a request that stands first at this place isn't too early, each response before it is of a departed request.
 pub departed_before : (trace : List TraceEvent) (past : List Moment) (r i j a : ℕ) (x : Response) (q : Request) → is_too_early trace past r ≡ false
@@ -101,48 +101,48 @@ pub departed_before : (trace : List TraceEvent) (past : List Moment) (r i j a : 
 unfolding is_too_early
 departed_before [] past r i j a x q t at_i at_j l first = absurd (none_is_not at_i)
 departed_before events past r i zero a x q t at_i at_j l first = absurd (omega arith)
-departed_before (Asked id p ∷ events) past r zero (suc j) a x q t at_i at_j l first = absurd (answered_is_not id a p x at_i)
-departed_before (Asked id p ∷ events) past r (suc i) (suc j) a x q t at_i at_j l first = elim (cases_Bool (nat_eq r id)) [
-  | inl same ↦ absurd (first 0 p (omega arith) (ap (λ n. Some (Asked n p)) (sym (eqb-true r id same))))
+departed_before (Asked rid p ∷ events) past r zero (suc j) a x q t at_i at_j l first = absurd (answered_is_not rid a p x at_i)
+departed_before (Asked rid p ∷ events) past r (suc i) (suc j) a x q t at_i at_j l first = elim (cases_Bool (nat_eq r rid)) [
+  | inl same ↦ absurd (first 0 p (omega arith) (ap (λ n. Some (Asked n p)) (sym (eqb-true r rid same))))
   | inr other ↦ departed_before events past r i j a x q (sym (ap (λ b. cond b false (is_too_early events past r)) other) ∙ t) at_i at_j (omega arith)
       (λ k o l h. first (suc k) o (omega arith) h)
 ]
-departed_before (Answered id y ∷ events) past r zero (suc j) a x q t at_i at_j l first =
-    subst (λ n. has_departed past n ≡ true) (same_answered id a y x at_i) (not-false (has_departed past id) (or_parts (not (has_departed past id)) (is_too_early events past r) t).0)
-departed_before (Answered id y ∷ events) past r (suc i) (suc j) a x q t at_i at_j l first =
-    departed_before events past r i j a x q (or_parts (not (has_departed past id)) (is_too_early events past r) t).1 at_i at_j (omega arith) (λ k o l h. first (suc k) o (omega arith) h)
+departed_before (Answered rid y ∷ events) past r zero (suc j) a x q t at_i at_j l first =
+    subst (λ n. has_departed past n ≡ true) (same_answered rid a y x at_i) (not-false (has_departed past rid) (or_parts (not (has_departed past rid)) (is_too_early events past r) t).0)
+departed_before (Answered rid y ∷ events) past r (suc i) (suc j) a x q t at_i at_j l first =
+    departed_before events past r i j a x q (or_parts (not (has_departed past rid)) (is_too_early events past r) t).1 at_i at_j (omega arith) (λ k o l h. first (suc k) o (omega arith) h)
 
 -- And where each such response is of a departed request, it isn't too early.
 pub not_too_early : (trace : List TraceEvent) (past : List Moment) (r j : ℕ) (q : Request) → nth trace j ≡ Some (Asked r q)
     → ((i a : ℕ) (x : Response) → nth trace i ≡ Some (Answered a x) → i < j → has_departed past a ≡ true) → is_too_early trace past r ≡ false
 unfolding is_too_early
 not_too_early [] past r j q at_j before = absurd (none_is_not at_j)
-not_too_early (Asked id p ∷ events) past r zero q at_j before = ap (λ b. cond b false (is_too_early events past r)) (eq-eqb r id (sym (same_asked id r p q at_j)))
-not_too_early (Asked id p ∷ events) past r (suc j) q at_j before = go (nat_eq r id) (not_too_early events past r j q at_j (λ i a x h l. before (suc i) a x h (omega arith)))
+not_too_early (Asked rid p ∷ events) past r zero q at_j before = ap (λ b. cond b false (is_too_early events past r)) (eq-eqb r rid (sym (same_asked rid r p q at_j)))
+not_too_early (Asked rid p ∷ events) past r (suc j) q at_j before = go (nat_eq r rid) (not_too_early events past r j q at_j (λ i a x h l. before (suc i) a x h (omega arith)))
   where
     go : (b : Bool) → is_too_early events past r ≡ false → cond b false (is_too_early events past r) ≡ false
     go true h = refl
     go false h = h
-not_too_early (Answered id y ∷ events) past r zero q at_j before = absurd (asked_is_not id r y q at_j)
-not_too_early (Answered id y ∷ events) past r (suc j) q at_j before =
-    or_from (not (has_departed past id)) (is_too_early events past r) (not_from_true (has_departed past id) (before 0 id y refl (omega arith)))
+not_too_early (Answered rid y ∷ events) past r zero q at_j before = absurd (asked_is_not rid r y q at_j)
+not_too_early (Answered rid y ∷ events) past r (suc j) q at_j before =
+    or_from (not (has_departed past rid)) (is_too_early events past r) (not_from_true (has_departed past rid) (before 0 rid y refl (omega arith)))
     (not_too_early events past r j q at_j (λ i a x h l. before (suc i) a x h (omega arith)))
 
 -- ---- departures of all
 
-departed_first : (b : Bool) (id : ℕ) (rest : Option ReplayReason) → cond b rest (Some (LeftOpen id)) ≡ None → (b ≡ true) × (rest ≡ None)
-departed_first true id rest e = (refl, e)
-departed_first false id rest e = absurd (none_is_not (sym e))
+departed_first : (b : Bool) (rid : ℕ) (rest : Option ReplayReason) → cond b rest (Some (LeftOpen rid)) ≡ None → (b ≡ true) × (rest ≡ None)
+departed_first true rid rest e = (refl, e)
+departed_first false rid rest e = absurd (none_is_not (sym e))
 
 pub all_departed : (trace : List TraceEvent) (past : List Moment) (r i : ℕ) (q : Request) → first_not_departed (has_departed past) trace ≡ None → nth trace i ≡ Some (Asked r q) → has_departed past r ≡ true
 all_departed [] past r i q e h = absurd (none_is_not h)
-all_departed (Asked id p ∷ events) past r zero q e h = subst (λ n. has_departed past n ≡ true) (same_asked id r p q h) (departed_first (has_departed past id) id (first_not_departed (has_departed past) events) e).0
-all_departed (Asked id p ∷ events) past r (suc i) q e h = all_departed events past r i q (departed_first (has_departed past id) id (first_not_departed (has_departed past) events) e).1 h
-all_departed (Answered id y ∷ events) past r zero q e h = absurd (asked_is_not id r y q h)
-all_departed (Answered id y ∷ events) past r (suc i) q e h = all_departed events past r i q e h
+all_departed (Asked rid p ∷ events) past r zero q e h = subst (λ n. has_departed past n ≡ true) (same_asked rid r p q h) (departed_first (has_departed past rid) rid (first_not_departed (has_departed past) events) e).0
+all_departed (Asked rid p ∷ events) past r (suc i) q e h = all_departed events past r i q (departed_first (has_departed past rid) rid (first_not_departed (has_departed past) events) e).1 h
+all_departed (Answered rid y ∷ events) past r zero q e h = absurd (asked_is_not rid r y q h)
+all_departed (Answered rid y ∷ events) past r (suc i) q e h = all_departed events past r i q e h
 
 pub none_left : (trace : List TraceEvent) (past : List Moment) → ((r i : ℕ) (q : Request) → nth trace i ≡ Some (Asked r q) → has_departed past r ≡ true) → first_not_departed (has_departed past) trace ≡ None
 none_left [] past h = refl
-none_left (Asked id p ∷ events) past h =
-    ap (λ b. cond b (first_not_departed (has_departed past) events) (Some (LeftOpen id))) (h id 0 p refl) ∙ none_left events past (λ r i q e. h r (suc i) q e)
-none_left (Answered id y ∷ events) past h = none_left events past (λ r i q e. h r (suc i) q e)
+none_left (Asked rid p ∷ events) past h =
+    ap (λ b. cond b (first_not_departed (has_departed past) events) (Some (LeftOpen rid))) (h rid 0 p refl) ∙ none_left events past (λ r i q e. h r (suc i) q e)
+none_left (Answered rid y ∷ events) past h = none_left events past (λ r i q e. h r (suc i) q e)

@@ -48,12 +48,12 @@ fits_id true v = (v, refl, refl)
 fits_id false v = refl
 
 request_fits : (r : ℕ) (e : TraceEvent) → Fits (is_request r e) (request_in r e) (the_request e)
-request_fits r (Asked id q) = fits_id (is_request r (Asked id q)) q
-request_fits r (Answered id x) = refl
+request_fits r (Asked rid q) = fits_id (is_request r (Asked rid q)) q
+request_fits r (Answered rid x) = refl
 
 response_fits : (r : ℕ) (e : TraceEvent) → Fits (is_response r e) (response_in r e) (the_response e)
-response_fits r (Asked id q) = refl
-response_fits r (Answered id x) = fits_id (is_response r (Answered id x)) x
+response_fits r (Asked rid q) = refl
+response_fits r (Answered rid x) = fits_id (is_response r (Answered rid x)) x
 
 pub request_found : (r : ℕ) (es : List TraceEvent) (p : ℕ) → first_place (is_request r) 0 es ≡ Some p → request_at es p ≡ request_of es r
 unfolding request_of
@@ -90,8 +90,8 @@ request_place-inside r es None h = tt
 request_place-inside r es (Some p) h = request_place-within r es p (sym h)
 
 same_id : (x r : ℕ) (e : TraceEvent) → is_request x e ≡ true → is_request r e ≡ true → x ≡ r
-same_id x r (Asked id q) a b = eqb-true x id a ∙ sym (eqb-true r id b)
-same_id x r (Answered id y) a b = absurd (cc)
+same_id x r (Asked rid q) a b = eqb-true x rid a ∙ sym (eqb-true r rid b)
+same_id x r (Answered rid y) a b = absurd (cc)
 
 one_id : (x r i : ℕ) (es : List TraceEvent) (p : ℕ) → first_place (is_request x) i es ≡ Some p → first_place (is_request r) i es ≡ Some p → x ≡ r
 one_id x r i [] p a b = absurd (cc)
@@ -118,8 +118,8 @@ request_there r i [] p h = absurd (cc)
 request_there r i (e ∷ es) p h = go (is_request r e) refl h (λ k. request_there r (suc i) es p k)
   where
     here : (e : TraceEvent) → is_request r e ≡ true → (q : Request) × (e ≡ Asked r q)
-    here (Asked id q) t = (q, ap (λ n. Asked n q) (sym (eqb-true r id t)))
-    here (Answered id y) t = absurd (cc)
+    here (Asked rid q) t = (q, ap (λ n. Asked n q) (sym (eqb-true r rid t)))
+    here (Answered rid y) t = absurd (cc)
 
     go : (b : Bool) → is_request r e ≡ b → cond b (Some i) (first_place (is_request r) (suc i) es) ≡ Some p
         → (first_place (is_request r) (suc i) es ≡ Some p → (k : ℕ) × (q : Request) × (p ≡ suc i + k) × (slice_get es k ≡ Some (Asked r q)))

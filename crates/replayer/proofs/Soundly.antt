@@ -125,32 +125,32 @@ module _ (program : Program) (trace : List TraceEvent) where
       }
 
   no_departure : (past : List Moment) (m : Moment) (r : ℕ) → Fits trace past m → has_arrived past r ≡ false → is_departure r m ≡ false
-  no_departure past (Arrive id) r fits h = refl
-  no_departure past (Act id choice) r fits h = refl
-  no_departure past (Depart id) r fits h = ne_eqb r id (λ e. true≢false (sym fits.0 ∙ subst (λ n. has_arrived past n ≡ false) e h))
+  no_departure past (Arrive rid) r fits h = refl
+  no_departure past (Act rid choice) r fits h = refl
+  no_departure past (Depart rid) r fits h = ne_eqb r rid (λ e. true≢false (sym fits.0 ∙ subst (λ n. has_arrived past n ≡ false) e h))
 
   still_open : (past : List Moment) (scene : Scene) (m : Moment) → Known past scene → Passes program trace past scene m → (r : ℕ) (answers : List Datum) → (after program trace scene m).answers r ≡ Some answers
       → (has_arrived (past ++ m ∷ []) r ≡ true) × (has_departed (past ++ m ∷ []) r ≡ false)
-  still_open past scene (Arrive id) known passes r answers h = elim (cases_eq id r) [
+  still_open past scene (Arrive rid) known passes r answers h = elim (cases_eq rid r) [
     | inl e ↦ (
-      arrived_more past (Arrive id) r ∙ or_right (has_arrived past r) (nat_eq r id) (eq-eqb r id (sym e)),
-      departed_more past (Arrive id) r ∙ or_from (has_departed past r) false (known.others r (subst (λ n. has_arrived past n ≡ false) e passes.fits.0)) refl,
+      arrived_more past (Arrive rid) r ∙ or_right (has_arrived past r) (nat_eq r rid) (eq-eqb r rid (sym e)),
+      departed_more past (Arrive rid) r ∙ or_from (has_departed past r) false (known.others r (subst (λ n. has_arrived past n ≡ false) e passes.fits.0)) refl,
     )
-    | inr n ↦ more_open past (Arrive id) r (known.open_ones r answers (sym (cond-false (nat_eq id r) (Some []) (scene.answers r) (ne_eqb id r n)) ∙ h)) refl
+    | inr n ↦ more_open past (Arrive rid) r (known.open_ones r answers (sym (cond-false (nat_eq rid r) (Some []) (scene.answers r) (ne_eqb rid r n)) ∙ h)) refl
   ]
-  still_open past scene (Act id choice) known passes r answers h = elim (cases_eq id r) [
-    | inl e ↦ more_open past (Act id choice) r (subst (λ n. (has_arrived past n ≡ true) × (has_departed past n ≡ false)) e passes.fits) refl
-    | inr n ↦ more_open past (Act id choice) r (known.open_ones r answers (unchanged (next_of program trace scene id) n h)) refl
+  still_open past scene (Act rid choice) known passes r answers h = elim (cases_eq rid r) [
+    | inl e ↦ more_open past (Act rid choice) r (subst (λ n. (has_arrived past n ≡ true) × (has_departed past n ≡ false)) e passes.fits) refl
+    | inr n ↦ more_open past (Act rid choice) r (known.open_ones r answers (unchanged (next_of program trace scene rid) n h)) refl
   ]
     where
-      unchanged : (next : Option Ending) → (id ≡ r → ⊥) → (after_act id choice next scene).answers r ≡ Some answers → scene.answers r ≡ Some answers
-      unchanged (Some (Wants op)) n e = sym (cond-false (nat_eq id r) _ (scene.answers r) (ne_eqb id r n)) ∙ e
+      unchanged : (next : Option Ending) → (rid ≡ r → ⊥) → (after_act rid choice next scene).answers r ≡ Some answers → scene.answers r ≡ Some answers
+      unchanged (Some (Wants op)) n e = sym (cond-false (nat_eq rid r) _ (scene.answers r) (ne_eqb rid r n)) ∙ e
       unchanged (Some (Ends response path)) n e = e
       unchanged (Some Undefined) n e = e
       unchanged None n e = e
-  still_open past scene (Depart id) known passes r answers h = elim (cases_eq id r) [
-    | inl e ↦ absurd (none_is_not (sym (cond-true (nat_eq id r) None (scene.answers r) (eq-eqb id r e)) ∙ h))
-    | inr n ↦ more_open past (Depart id) r (known.open_ones r answers (sym (cond-false (nat_eq id r) None (scene.answers r) (ne_eqb id r n)) ∙ h)) (ne_eqb r id (λ e. n (sym e)))
+  still_open past scene (Depart rid) known passes r answers h = elim (cases_eq rid r) [
+    | inl e ↦ absurd (none_is_not (sym (cond-true (nat_eq rid r) None (scene.answers r) (eq-eqb rid r e)) ∙ h))
+    | inr n ↦ more_open past (Depart rid) r (known.open_ones r answers (sym (cond-false (nat_eq rid r) None (scene.answers r) (ne_eqb rid r n)) ∙ h)) (ne_eqb r rid (λ e. n (sym e)))
   ]
 
   kept : (past : List Moment) (scene : Scene) (m : Moment) → Known past scene → Passes program trace past scene m → Known (past ++ m ∷ []) (after program trace scene m)

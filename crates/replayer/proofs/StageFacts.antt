@@ -70,8 +70,8 @@ departed_more past m r = any_more (is_departure r) past m
 
 pub same_waiting : (d e : ℕ → Bool) → ((x : ℕ) → d x ≡ e x) → (es : List TraceEvent) → first_waiting d es ≡ first_waiting e es
 same_waiting d e h [] = refl
-same_waiting d e h (Asked id q ∷ es) = ap (λ n. suc n) (same_waiting d e h es)
-same_waiting d e h (Answered id x ∷ es) = ap (λ b. cond (not b) 0 (suc (first_waiting d es))) (h id) ∙ ap (λ n. cond (not (e id)) 0 (suc n)) (same_waiting d e h es)
+same_waiting d e h (Asked rid q ∷ es) = ap (λ n. suc n) (same_waiting d e h es)
+same_waiting d e h (Answered rid x ∷ es) = ap (λ b. cond (not b) 0 (suc (first_waiting d es))) (h rid) ∙ ap (λ n. cond (not (e rid)) 0 (suc n)) (same_waiting d e h es)
 
 later_step : (b c : Bool) → (b ≡ true → c ≡ true) → (n m k : ℕ) (rest all : ℕ → ℕ) → all 0 ≡ cond (not c) 0 (suc m) → ((i : ℕ) → all (suc i) ≡ rest i) → m ≡ n + rest n → cond (not c) 0 (suc m) ≡ cond (not b) 0 (suc n) + all (cond (not b) 0 (suc n))
 later_step true true h n m k rest all z s e = omega (arith, s n, e)
@@ -81,8 +81,8 @@ later_step false c h n m k rest all z s e = omega (arith, z)
 -- where more have departed, the search may go on from where it was
 pub later_waiting : (d e : ℕ → Bool) → ((x : ℕ) → d x ≡ true → e x ≡ true) → (es : List TraceEvent) → first_waiting e es ≡ first_waiting d es + first_waiting e (drop (first_waiting d es) es)
 later_waiting d e h [] = refl
-later_waiting d e h (Asked id q ∷ es) = omega (arith, later_waiting d e h es)
-later_waiting d e h (Answered id x ∷ es) = later_step (d id) (e id) (h id) (first_waiting d es) (first_waiting e es) 0 (λ i. first_waiting e (drop i es)) (λ i. first_waiting e (drop i (Answered id x ∷ es))) refl (λ i. refl) (later_waiting d e h es)
+later_waiting d e h (Asked rid q ∷ es) = omega (arith, later_waiting d e h es)
+later_waiting d e h (Answered rid x ∷ es) = later_step (d rid) (e rid) (h rid) (first_waiting d es) (first_waiting e es) 0 (λ i. first_waiting e (drop i es)) (λ i. first_waiting e (drop i (Answered rid x ∷ es))) refl (λ i. refl) (later_waiting d e h es)
 
 -- ---- too early
 
@@ -117,10 +117,10 @@ answered_on false i w o n t within h =
 early : (past : List Moment) (r : ℕ) (d : ℕ → Bool) → ((x : ℕ) → has_departed past x ≡ d x) → (i : ℕ) (es : List TraceEvent) → nat_lt (i + first_waiting d es) (unwrap_or (first_place (is_request r) i es) (i + length es)) ≡ is_too_early es past r
 unfolding is_too_early
 early past r d h i [] = not_below (i + 0) (i + 0) (omega arith)
-early past r d h i (Asked id q ∷ es) = asked_on (nat_eq r id) i (first_waiting d es) (first_place (is_request r) (suc i) es) (length es) (is_too_early es past r) (early past r d h (suc i) es)
-early past r d h i (Answered id x ∷ es) =
-    answered_on (d id) i (first_waiting d es) (first_place (is_request r) (suc i) es) (length es) (is_too_early es past r) (place_within (is_request r) (suc i) es) (early past r d h (suc i) es)
-    ∙ ap (λ b. not b || is_too_early es past r) (sym (h id))
+early past r d h i (Asked rid q ∷ es) = asked_on (nat_eq r rid) i (first_waiting d es) (first_place (is_request r) (suc i) es) (length es) (is_too_early es past r) (early past r d h (suc i) es)
+early past r d h i (Answered rid x ∷ es) =
+    answered_on (d rid) i (first_waiting d es) (first_place (is_request r) (suc i) es) (length es) (is_too_early es past r) (place_within (is_request r) (suc i) es) (early past r d h (suc i) es)
+    ∙ ap (λ b. not b || is_too_early es past r) (sym (h rid))
 
 -- an arrival is too early exactly where a response that is waited for stands before it
 pub early_where : (past : List Moment) (r : ℕ) (d : ℕ → Bool) → ((x : ℕ) → has_departed past x ≡ d x) → (es : List TraceEvent) (w u : ℕ) → w ≡ first_waiting d es → u ≡ unwrap_or (first_place (is_request r) 0 es) (length es) → nat_lt w u ≡ is_too_early es past r
@@ -358,8 +358,8 @@ stops_here program trace past scene m ms reason e = rw (e, difference_from) refl
 
 left_over : (past : List Moment) (d : ℕ → Bool) → ((x : ℕ) → has_departed past x ≡ d x) → (es : List TraceEvent) → first_not_departed (has_departed past) es ≡ first_not_departed d es
 left_over past d h [] = refl
-left_over past d h (Asked id q ∷ es) = ap (λ b. cond b (first_not_departed (has_departed past) es) (Some (LeftOpen id))) (h id) ∙ ap (λ o. cond (d id) o (Some (LeftOpen id))) (left_over past d h es)
-left_over past d h (Answered id x ∷ es) = left_over past d h es
+left_over past d h (Asked rid q ∷ es) = ap (λ b. cond b (first_not_departed (has_departed past) es) (Some (LeftOpen rid))) (h rid) ∙ ap (λ o. cond (d rid) o (Some (LeftOpen rid))) (left_over past d h es)
+left_over past d h (Answered rid x ∷ es) = left_over past d h es
 
 pub ends_here : (program : Program) (trace : List TraceEvent) (past : List Moment) (scene : Scene) (d : ℕ → Bool) → ((x : ℕ) → has_departed past x ≡ d x) → difference_from program trace past scene [] ≡ first_not_departed d trace
 unfolding difference_from

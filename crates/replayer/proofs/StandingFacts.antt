@@ -19,20 +19,20 @@ pushed f xs i x ys new y inside is so_far here made =
 -- ---- requests that have not departed
 
 pub left_open-none : (d : ℕ → Bool) (es : List TraceEvent) (e : TraceEvent) → left_open d e ≡ None → first_not_departed d (e ∷ es) ≡ first_not_departed d es
-left_open-none d es (Asked id q) h = departed (d id) h
+left_open-none d es (Asked rid q) h = departed (d rid) h
   where
-    departed : (b : Bool) → cond b None (Some (LeftOpen id)) ≡ None → cond b (first_not_departed d es) (Some (LeftOpen id)) ≡ first_not_departed d es
+    departed : (b : Bool) → cond b None (Some (LeftOpen rid)) ≡ None → cond b (first_not_departed d es) (Some (LeftOpen rid)) ≡ first_not_departed d es
     departed true h = refl
     departed false h = cc
-left_open-none d es (Answered id x) h = refl
+left_open-none d es (Answered rid x) h = refl
 
 pub left_open-some : (d : ℕ → Bool) (es : List TraceEvent) (e : TraceEvent) (r : ReplayReason) → left_open d e ≡ Some r → first_not_departed d (e ∷ es) ≡ Some r
-left_open-some d es (Asked id q) r h = left (d id) h
+left_open-some d es (Asked rid q) r h = left (d rid) h
   where
-    left : (b : Bool) → cond b None (Some (LeftOpen id)) ≡ Some r → cond b (first_not_departed d es) (Some (LeftOpen id)) ≡ Some r
+    left : (b : Bool) → cond b None (Some (LeftOpen rid)) ≡ Some r → cond b (first_not_departed d es) (Some (LeftOpen rid)) ≡ Some r
     left true h = absurd cc
     left false h = h
-left_open-some d es (Answered id x) r h = absurd cc
+left_open-some d es (Answered rid x) r h = absurd cc
 
 pub passed : (d : ℕ → Bool) (es : List TraceEvent) (i : ℕ) (e : TraceEvent) → i < length es → e ≡ get_or es i e → left_open d e ≡ None → first_not_departed d (drop i es) ≡ first_not_departed d (drop (i + 1) es)
 passed d es i e inside is h = ap (first_not_departed d) (drop_more es i e inside ∙ ap (λ x. x ∷ drop (i + 1) es) (sym is)) ∙ left_open-none d (drop (i + 1) es) e h

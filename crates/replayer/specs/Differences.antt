@@ -39,14 +39,14 @@ replay_number (LeftOpen rid) = 10
 -- ---- what the moments so far tell of a request
 
 abbrev pub is_arrival : ℕ → Moment → Bool
-is_arrival r (Arrive id) = nat_eq r id
-is_arrival r (Act id choice) = false
-is_arrival r (Depart id) = false
+is_arrival r (Arrive rid) = nat_eq r rid
+is_arrival r (Act rid choice) = false
+is_arrival r (Depart rid) = false
 
 abbrev pub is_departure : ℕ → Moment → Bool
-is_departure r (Arrive id) = false
-is_departure r (Act id choice) = false
-is_departure r (Depart id) = nat_eq r id
+is_departure r (Arrive rid) = false
+is_departure r (Act rid choice) = false
+is_departure r (Depart rid) = nat_eq r rid
 
 unfoldable pub has_arrived : List Moment → ℕ → Bool
 has_arrived past r = list_any (is_arrival r) past
@@ -57,8 +57,8 @@ has_departed past r = list_any (is_departure r) past
 -- On the way through the trace to the request's arrival stands a response whose request hasn't departed.
 unfoldable pub is_too_early : List TraceEvent → List Moment → ℕ → Bool
 is_too_early [] past r = false
-is_too_early (Asked id q ∷ events) past r = if nat_eq r id then false else is_too_early events past r
-is_too_early (Answered id x ∷ events) past r = not (has_departed past id) || is_too_early events past r
+is_too_early (Asked rid q ∷ events) past r = if nat_eq r rid then false else is_too_early events past r
+is_too_early (Answered rid x ∷ events) past r = not (has_departed past rid) || is_too_early events past r
 
 abbrev pub is_same_response : Response → Option Response → Bool
 is_same_response x None = false
@@ -97,14 +97,14 @@ fault_of program trace past scene m =
 
 -- a request that hasn't departed
 abbrev pub left_open : (ℕ → Bool) → TraceEvent → Option ReplayReason
-left_open departed (Asked id q) = if departed id then None else Some (LeftOpen id)
-left_open departed (Answered id x) = None
+left_open departed (Asked rid q) = if departed rid then None else Some (LeftOpen rid)
+left_open departed (Answered rid x) = None
 
 -- the first request of the trace that hasn't departed
 abbrev pub first_not_departed : (ℕ → Bool) → List TraceEvent → Option ReplayReason
 first_not_departed departed [] = None
-first_not_departed departed (Asked id q ∷ events) = if departed id then first_not_departed departed events else Some (LeftOpen id)
-first_not_departed departed (Answered id x ∷ events) = first_not_departed departed events
+first_not_departed departed (Asked rid q ∷ events) = if departed rid then first_not_departed departed events else Some (LeftOpen rid)
+first_not_departed departed (Answered rid x ∷ events) = first_not_departed departed events
 
 -- the first of these moments that fails, where those so far led to this scene; after the last, a request that hasn't departed
 unfoldable pub difference_from : Program → List TraceEvent → List Moment → Scene → List Moment → Option ReplayReason

@@ -11,12 +11,12 @@ use Rattle.script_tree.specs.declared.trace.TraceEvent.{TraceEvent}
 use Rattle.script_tree.specs.declared.trace.TraceEvent.TheVariants.{Asked, Answered}
 
 abbrev pub is_request : ℕ → TraceEvent → Bool
-is_request r (Asked id q) = nat_eq r id
-is_request r (Answered id x) = false
+is_request r (Asked rid q) = nat_eq r rid
+is_request r (Answered rid x) = false
 
 abbrev pub is_response : ℕ → TraceEvent → Bool
-is_response r (Asked id q) = false
-is_response r (Answered id x) = nat_eq r id
+is_response r (Asked rid q) = false
+is_response r (Answered rid x) = nat_eq r rid
 
 -- the place of the first event that passes a test, where the first of all has this place
 abbrev pub first_place : (TraceEvent → Bool) → ℕ → List TraceEvent → Option ℕ
@@ -38,8 +38,8 @@ pub record IsRequestPlace (es : List TraceEvent) (place : ℕ) : Type 0 where
 
 -- the place of a request's response, and of a response's request
 abbrev pub partner_place : List TraceEvent → TraceEvent → Option ℕ
-partner_place es (Asked id q) = response_place es id
-partner_place es (Answered id x) = request_place es id
+partner_place es (Asked rid q) = response_place es rid
+partner_place es (Answered rid x) = request_place es rid
 
 -- what is found is the request, or the response, of the id whose request stands at a place
 abbrev pub IsRequestHere : List TraceEvent → ℕ → Option Request → Type 0
@@ -60,12 +60,12 @@ abbrev pub FindsPartner : BTreeMap ℕ ℕ → BTreeMap ℕ ℕ → TraceEvent �
 FindsPartner requests responses e place = (es : List TraceEvent) → TellsRequests requests 0 es → TellsResponses responses 0 es → place ≡ partner_place es e
 
 abbrev pub the_request : TraceEvent → Option Request
-the_request (Asked id q) = Some q
-the_request (Answered id x) = None
+the_request (Asked rid q) = Some q
+the_request (Answered rid x) = None
 
 abbrev pub the_response : TraceEvent → Option Response
-the_response (Asked id q) = None
-the_response (Answered id x) = Some x
+the_response (Asked rid q) = None
+the_response (Answered rid x) = Some x
 
 -- the request, or response, at a place
 abbrev pub request_at : List TraceEvent → ℕ → Option Request

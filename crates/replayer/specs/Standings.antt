@@ -51,8 +51,8 @@ PutsAnswer before place d after = (ds : List Datum) → slice_index_or before pl
 
 -- a response whose request hasn't departed
 abbrev pub waits : (ℕ → Bool) → TraceEvent → Bool
-waits departed (Asked id q) = false
-waits departed (Answered id x) = not (departed id)
+waits departed (Asked rid q) = false
+waits departed (Answered rid x) = not (departed rid)
 
 -- the place of the first of these; the length of the list, where there is none
 abbrev pub first_waiting : (ℕ → Bool) → List TraceEvent → ℕ

@@ -47,11 +47,11 @@ impl<'a> IndexedTrace<'a> {
         let mut responses = BTreeMap::new(alloc);
         for place in (0..events.len()).rev() {
             match &events[place] {
-                TraceEvent::Asked(id, _) => {
-                    places.insert(*id, place)?;
+                TraceEvent::Asked(rid, _) => {
+                    places.insert(*rid, place)?;
                 }
-                TraceEvent::Answered(id, _) => {
-                    responses.insert(*id, place)?;
+                TraceEvent::Answered(rid, _) => {
+                    responses.insert(*rid, place)?;
                 }
             }
         }

@@ -7,12 +7,12 @@ use Rattle.script_tree.specs.declared.trace.TraceEvent.{TraceEvent}
 use Rattle.script_tree.specs.declared.trace.TraceEvent.TheVariants.{Asked, Answered}
 
 abbrev pub request_in : ℕ → TraceEvent → Option Request
-request_in r (Asked id q) = if nat_eq r id then Some q else None
-request_in r (Answered id x) = None
+request_in r (Asked rid q) = if nat_eq r rid then Some q else None
+request_in r (Answered rid x) = None
 
 abbrev pub response_in : ℕ → TraceEvent → Option Response
-response_in r (Asked id q) = None
-response_in r (Answered id x) = if nat_eq r id then Some x else None
+response_in r (Asked rid q) = None
+response_in r (Answered rid x) = if nat_eq r rid then Some x else None
 
 -- the request and the response of an id
 unfoldable pub request_of : List TraceEvent → ℕ → Option Request

@@ -68,7 +68,6 @@ no_id bytes at tag mid here none = no_head bytes at (no_second byte_field (λ t.
 
 -- ---- the law
 
-
 pub moment_one : HasOneSpelling moment_field
 unfolding tag_of id_of rest_of
 moment_one (Arrive i) (Arrive j) r s p q e = let same = head_one (1, i) (1, j) r s (omega arith, p) (omega arith, q) e in (ap (λ (h : ℕ × ℕ). Arrive h.1) same.0, same.1)

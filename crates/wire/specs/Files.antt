@@ -80,9 +80,9 @@ SpellsNone {A} format before payload = (x : A) → ¬ IsPayload format before pa
 abbrev pub TakesPayload : {A : Type 0} → Format A → List A → List ℕ → Reading A → Type 0
 TakesPayload format before payload result =
     UnlessMemory
-        (IsPayload format before payload)
-        (λ fault. SpellsNone format before payload)
-        result
+    (IsPayload format before payload)
+    (λ fault. SpellsNone format before payload)
+    result
 
 -- A reader takes the payload behind whatever it has read; and then it has read the item too.
 abbrev pub TakesNext :

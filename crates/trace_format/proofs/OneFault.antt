@@ -1,5 +1,5 @@
 -- A trace has one fault of balance at most.
-use Rattle.std.proofs.Common.{◌≡◌, ℕ, List, Option, Some, None, ◌⊎◌, inl, inr, ap, sym, ◌∙◌, refl}
+use Rattle.std.proofs.Common.{◌≡◌, ℕ, List, Some, None, ◌⊎◌, inl, inr, ap, sym, ◌∙◌, refl}
 use Rattle.std.proofs.lemmas.Bool.{cases_order}
 use Rattle.basis.proofs.Options.{some_once}
 use Rattle.basis.specs.Lists.{nth}

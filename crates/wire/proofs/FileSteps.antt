@@ -1,8 +1,6 @@
 -- One record more of a file, read or written.
-use Rattle.std.proofs.Common.{◌≡◌, ◌≢◌, ℕ, ◌+◌, ◌-◌, ◌<◌, ◌≤◌, ◌^◌, cond, eqb, List, [], ◌∷◌, ◌++◌, length, drop, take, get_or, Option, Some, None, Result, Ok, Err, inr, true, false, Bool, inl, ap, sym, ◌∙◌, refl, subst, append_assoc, arith}
-use Rattle.std.proofs.lemmas.Bool.{eqb-true, eq-eqb}
+use Rattle.std.proofs.Common.{◌≡◌, ◌≢◌, ℕ, ◌+◌, ◌-◌, ◌<◌, ◌≤◌, eqb, List, [], ◌∷◌, ◌++◌, length, drop, take, get_or, Result, Ok, Err, true, false, Bool, inl, ap, sym, ◌∙◌, refl, subst, append_assoc, arith}
 use Rattle.std.proofs.lemmas.List.{append-nil, length-append, drop_all, take_more, drop_more, take-append-drop}
-use Rattle.std.proofs.lemmas.Option.{cond_some}
 use Rattle.std.specs.Prelude.{IsErrAnd}
 use Rattle.std.specs.List.{starts_with}
 use Rattle.basis.specs.declared.or_memory.OrMemory.{OrMemory}
@@ -11,7 +9,6 @@ use Rattle.wire.specs.declared.fault.Unreadable.{Unreadable}
 use Rattle.std.proofs.lemmas.Bool.Decides.{Decides-eqb}
 use Rattle.std.proofs.lemmas.Slice.Eq.{starts_is}
 use Rattle.basis.proofs.Booleans.{true_false}
-use Rattle.basis.specs.Options.{◌>>=◌}
 use Rattle.wire.specs.Spellings.{Field, IsSpelled, IsFieldAt, NoneIsAt, HasOneSpelling, TakesPart}
 use Rattle.wire.specs.Files.{Format, record_spelling, records_spelling, file_spelling, payload_field, record_field, MayFollow, IsBadRecord, IsFault, TakesPayload, IsBeyond}
 use Rattle.wire.proofs.Spelled.{joined, at_front, ends_inside, same_field}

@@ -82,7 +82,7 @@ written_more {A} format xs i d old new lt so_far e =
     e ∙ ap (λ (s : List ℕ). s ++ record_spelling format (get_or xs i d)) so_far ∙ sym (file_push format (take i xs) (get_or xs i d)) ∙ ap (λ (ys : List A). file_spelling format ys) (sym more)
 
 -- the item whose record would end behind the limit
-pub beyond_here : {A : Type 0} (format : Format A) (limit : ℕ) (items whole : List A) (i : ℕ) (item : A) (at : ℕ) (out : List ℕ) → items ≡ whole → i < length items → item ≡ get_or items i item → out ≡ file_spelling format (take i items) → at ≡ length out → at ≤ limit → limit - at < length (record_spelling format item) → IsBeyond format limit whole at
+pub beyond_here : {A : Type 0} (format : Format A) (limit : ℕ) (items whole : List A) (i : ℕ) (item : A) (at : ℕ) (out : List ℕ) → items ≡ whole → i < length items → item ≡ get_or items i item → out ≡ file_spelling format (take i items) → at ≡ length out → at ≤ limit → limit - at < length (record_spelling format item) → IsBeyond format limit at whole
 beyond_here {A} format limit items whole i item at out same lt is so_far at_is within beyond =
     let rest : drop i items ≡ get_or items i item ∷ drop (i + 1) items = drop_more items i item lt in
     let parts : items ≡ take i items ++ item ∷ drop (i + 1) items = sym (take-append-drop i items) ∙ ap (λ (r : List A). take i items ++ r) (rest ∙ ap (λ (y : A). y ∷ drop (i + 1) items) (sym is)) in

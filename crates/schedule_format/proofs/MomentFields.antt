@@ -1,10 +1,10 @@
 -- Moments at a place: no two are spelled alike, and none stands where a part of it is missed.
-use Rattle.std.proofs.Common.{◌≡◌, ℕ, ◌+◌, ◌<◌, ◌^◌, List, [], ◌∷◌, ◌++◌, length, refl, sym, ap, subst, ◌∙◌, arith}
-use Rattle.std.specs.Int.{w32, to_be_bytes}
+use Rattle.std.proofs.Common.{◌≡◌, ℕ, ◌+◌, List, [], ◌++◌, length, refl, ap, subst, ◌∙◌, arith}
+use Rattle.std.specs.Int.{w32}
 use Rattle.script_tree.specs.declared.operation.Choice.{Choice}
 use Rattle.script_tree.specs.declared.schedule.Moment.{Moment}
 use Rattle.script_tree.specs.declared.schedule.Moment.TheVariants.{Arrive, Act, Depart}
-use Rattle.wire.specs.Spellings.{Field, IsSpelled, IsFieldAt, NoneIsAt, HasOneSpelling, byte_field, number_field, choice_field, choice_spelling}
+use Rattle.wire.specs.Spellings.{Field, IsSpelled, IsFieldAt, NoneIsAt, HasOneSpelling, byte_field, number_field, choice_spelling}
 use Rattle.wire.specs.Files.{IsExact}
 use Rattle.wire.proofs.Spelled.{first_part}
 use Rattle.wire.proofs.Sequences.{pair_field, no_first, no_second, pair_one}
@@ -67,7 +67,6 @@ pub no_id : (bytes : List ℕ) (at tag mid : ℕ) → IsFieldAt byte_field bytes
 no_id bytes at tag mid here none = no_head bytes at (no_second byte_field (λ t. number_field w32) byte_one bytes at tag mid here none)
 
 -- ---- the law
-
 
 pub moment_one : HasOneSpelling moment_field
 unfolding tag_of id_of rest_of

@@ -1,17 +1,16 @@
 -- Events at a place: no two are spelled alike, and none stands where a part of it is missed.
-use Rattle.std.proofs.Common.{◌≡◌, ◌≢◌, ℕ, ◌+◌, ◌<◌, ◌^◌, List, Result, Err, ◌∷◌, ◌++◌, length, refl, sym, ap, subst, ◌∙◌, arith}
+use Rattle.std.proofs.Common.{◌≡◌, ◌≢◌, ℕ, ◌+◌, List, Result, Err, ◌++◌, length, refl, sym, ap, subst, ◌∙◌, arith}
 use Rattle.std.specs.Int.{w32}
 use Rattle.std.specs.Prelude.{IsErrAnd}
 use Rattle.basis.specs.declared.or_memory.OrMemory.{OrMemory}
 use Rattle.wire.specs.declared.fault.Unreadable.{Unreadable}
-use Rattle.script_tree.specs.declared.limits.TheConstants.{MOST_REQUESTS}
 use Rattle.script_tree.specs.Requests.{Request}
 use Rattle.script_tree.specs.declared.request.Response.{Response}
 use Rattle.script_tree.specs.declared.trace.TraceEvent.{TraceEvent}
 use Rattle.script_tree.specs.declared.trace.TraceEvent.TheVariants.{Asked, Answered}
 use Rattle.wire.specs.Spellings.{Field, IsSpelled, IsFieldAt, NoneIsAt, HasOneSpelling, TakesPart, byte_field, number_field}
 use Rattle.wire.specs.Files.{TakesPayload, SpellsNone, IsExact}
-use Rattle.wire.proofs.Spelled.{joined, first_part, second_part, same_field}
+use Rattle.wire.proofs.Spelled.{first_part, second_part, same_field}
 use Rattle.wire.proofs.Sequences.{pair_field, both_there, no_first, no_second, pair_one}
 use Rattle.wire.proofs.OneSpelling.{byte_one, one_of_32}
 use Rattle.wire.proofs.FileLaws.{file_is_exact}

@@ -1,6 +1,7 @@
 -- A trace has one fault of balance at most.
-use Rattle.std.proofs.Common.{◌≡◌, ℕ, List, Option, Some, None, ◌⊎◌, inl, inr, ap, sym, ◌∙◌, refl}
+use Rattle.std.proofs.Common.{◌≡◌, ℕ, List, Some, None, ◌⊎◌, inl, inr, ap, sym, ◌∙◌, refl}
 use Rattle.std.proofs.lemmas.Bool.{cases_order}
+use Rattle.basis.proofs.Options.{some_once}
 use Rattle.basis.specs.Lists.{nth}
 use Rattle.script_tree.specs.declared.trace.TraceEvent.{TraceEvent}
 use Rattle.script_tree.specs.declared.trace.TraceEvent.TheVariants.{Asked, Answered}
@@ -16,16 +17,13 @@ misfit_event : (trace : List TraceEvent) (n r : ℕ) → IsAskedAgain trace n r 
 misfit_event trace n r (inl (q, is, before)) = (Asked r q, is, refl)
 misfit_event trace n r (inr (x, is, why)) = (Answered r x, is, refl)
 
-one_event : (o : Option TraceEvent) (e f : TraceEvent) → o ≡ Some e → o ≡ Some f → e ≡ f
-one_event o e f h k = cc
-
 one_misfit : (trace : List TraceEvent) (r s : ℕ) → IsFirstMisfit trace r → IsFirstMisfit trace s → r ≡ s
 one_misfit trace r s a b =
     elim (cases_order a.place b.place) [
       | inl same ↦
           let first = misfit_event trace a.place r a.here in
           let second = misfit_event trace b.place s b.here in
-          let one : first.0 ≡ second.0 = one_event (nth trace b.place) first.0 second.0 (ap (nth trace) (sym same) ∙ first.1) second.1 in
+          let one : first.0 ≡ second.0 = some_once (nth trace b.place) first.0 second.0 (ap (nth trace) (sym same) ∙ first.1) second.1 in
           sym first.2 ∙ (ap id_of one ∙ second.2)
       | inr (inl less) ↦ absurd (misfit_apart trace a.place r (b.before a.place less) a.here)
       | inr (inr more) ↦ absurd (misfit_apart trace b.place s (a.before b.place more) b.here)
@@ -34,7 +32,7 @@ one_misfit trace r s a b =
 one_unanswered : (trace : List TraceEvent) (r s : ℕ) → IsFirstUnanswered trace r → IsFirstUnanswered trace s → r ≡ s
 one_unanswered trace r s a b =
     elim (cases_order a.place b.place) [
-      | inl same ↦ ap id_of (one_event (nth trace b.place) (Asked r a.request) (Asked s b.request) (ap (nth trace) (sym same) ∙ a.asks) b.asks)
+      | inl same ↦ ap id_of (some_once (nth trace b.place) (Asked r a.request) (Asked s b.request) (ap (nth trace) (sym same) ∙ a.asks) b.asks)
       | inr (inl less) ↦ absurd (a.unanswered (b.before a.place r a.request less a.asks))
       | inr (inr more) ↦ absurd (b.unanswered (a.before b.place s b.request more b.asks))
     ]

@@ -1,5 +1,5 @@
 -- Parameters, requests and responses at a place: no two are spelled alike, and none stands where a part of it is missed.
-use Rattle.std.proofs.Common.{◌≡◌, ℕ, zero, suc, ◌+◌, ◌<◌, ◌≤◌, ◌^◌, nat_le, true, ◌&&◌, List, [], ◌∷◌, ◌++◌, length, take, drop, refl, sym, ap, subst, ◌∙◌, append_assoc, arith}
+use Rattle.std.proofs.Common.{◌≡◌, ℕ, ◌+◌, ◌<◌, ◌≤◌, ◌^◌, nat_le, true, ◌&&◌, List, [], ◌∷◌, ◌++◌, length, take, drop, refl, sym, ap, subst, ◌∙◌, append_assoc, arith}
 use Rattle.std.specs.Int.{w16, w32, to_be_bytes}
 use Rattle.std.specs.List.{list_all}
 use Rattle.std.proofs.lemmas.Bool.{leb-true}
@@ -13,7 +13,7 @@ use Rattle.wire.specs.Spellings.{Field, IsSpelled, IsFieldAt, NoneIsAt, HasOneSp
 use Rattle.wire.proofs.Spelled.{joined, first_part, second_part, same_field}
 use Rattle.wire.proofs.Sequences.{pair_field, both_there, no_first, no_second, pair_one}
 use Rattle.wire.proofs.OneSpelling.{one_of_16, one_of_32, bytes_one}
-use Rattle.trace_format.specs.Events.{parameter_spelling, parameters_spelling, IsParameter, AreParameters, parameter_field, parameters_field, request_field, request_spelling, response_field}
+use Rattle.trace_format.specs.Events.{parameter_spelling, parameters_spelling, AreParameters, parameter_field, parameters_field, request_field, response_field}
 
 -- ---- parameters
 

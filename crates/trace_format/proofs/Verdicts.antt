@@ -1,6 +1,7 @@
 -- From what is known of the whole trace to whether it is balanced.
-use Rattle.std.proofs.Common.{get_or, ◌≡◌, ◌≢◌, ℕ, zero, suc, ◌<◌, List, [], ◌∷◌, length, Option, Some, None, ◌⊎◌, inl, inr, refl, arith}
+use Rattle.std.proofs.Common.{◌≡◌, ◌≢◌, ℕ, ◌<◌, List, length, Option, Some, None, ◌⊎◌, inl, inr, refl, arith}
 use Rattle.std.proofs.lemmas.Bool.{cases_lt, cases_order}
+use Rattle.basis.proofs.Places.{nth_within}
 use Rattle.basis.specs.Lists.{nth}
 use Rattle.script_tree.specs.Requests.{Request}
 use Rattle.script_tree.specs.Traces.{IsBalanced}
@@ -12,16 +13,6 @@ use Rattle.trace_format.specs.Stages.{NoneOpen, IsFirstOpen}
 use Rattle.trace_format.specs.declared.balance.Stage.{Stage}
 use Rattle.trace_format.specs.declared.balance.Stage.TheVariants.{Open, Closed}
 use Rattle.trace_format.proofs.StageSteps.{Known, StageIs}
-
-pub nth-get_or : {A : Type 0} (d : A) (xs : List A) (i : ℕ) → i < length xs → nth xs i ≡ Some (get_or xs i d)
-nth-get_or d [] i h = absurd (omega arith)
-nth-get_or d (x ∷ xs) zero h = refl
-nth-get_or d (x ∷ xs) (suc i) h = nth-get_or d xs i (omega arith)
-
-pub nth-inside : {A : Type 0} (xs : List A) (i : ℕ) (x : A) → nth xs i ≡ Some x → i < length xs
-nth-inside [] i x h = absurd (cc)
-nth-inside (y ∷ ys) zero x h = omega arith
-nth-inside (y ∷ ys) (suc i) x h = let r : i < length ys = nth-inside ys i x h in omega arith
 
 misfit_unbalanced : (trace : List TraceEvent) (n r : ℕ) → IsBalanced trace → IsAskedAgain trace n r ⊎ IsAnsweredInVain trace n r → ⊥
 misfit_unbalanced trace n r b (inl (q, is, before)) =
@@ -47,14 +38,14 @@ fitting_all stage trace known k =
     elim (cases_lt k (length trace)) [
       | inl inside ↦ known.fitting k inside
       | inr outside ↦ record {
-        is_new = λ r q e. absurd (let p : k < length trace = nth-inside trace k (Asked r q) e in omega arith);
-        was_asked = λ r x e. absurd (let p : k < length trace = nth-inside trace k (Answered r x) e in omega arith);
-        is_open = λ r x e. absurd (let p : k < length trace = nth-inside trace k (Answered r x) e in omega arith);
+        is_new = λ r q e. absurd (let p : k < length trace = nth_within trace k (Asked r q) e in omega arith);
+        was_asked = λ r x e. absurd (let p : k < length trace = nth_within trace k (Answered r x) e in omega arith);
+        is_open = λ r x e. absurd (let p : k < length trace = nth_within trace k (Answered r x) e in omega arith);
       }
     ]
 
 answered_unless_open : (trace : List TraceEvent) (i r : ℕ) (q : Request) (o : Option Stage) → nth trace i ≡ Some (Asked r q) → StageIs trace (length trace) r o → o ≢ Some Open → IsAnswered trace r
-answered_unless_open trace i r q None is h closed = absurd (h (i, q, nth-inside trace i (Asked r q) is, is))
+answered_unless_open trace i r q None is h closed = absurd (h (i, q, nth_within trace i (Asked r q) is, is))
 answered_unless_open trace i r q (Some Open) is h closed = absurd (closed refl)
 answered_unless_open trace i r q (Some Closed) is h closed = (h.1.0, h.1.1, h.1.3)
 
@@ -92,13 +83,13 @@ balanced stage trace known none =
     record {
       asked_once = asked_once trace fitting;
       answered_once = answered_once trace fitting;
-      is_answered = λ r i q e. answered_later trace fitting r i q e (answered_unless_open trace i r q (stage r) e (known.stages r) (none i r q (nth-inside trace i (Asked r q) e) e));
+      is_answered = λ r i q e. answered_later trace fitting r i q e (answered_unless_open trace i r q (stage r) e (known.stages r) (none i r q (nth_within trace i (Asked r q) e) e));
       was_asked = asked_somewhere trace fitting;
     }
 
 open_unanswered : (trace : List TraceEvent) (r : ℕ) (o : Option Stage) → StageIs trace (length trace) r o → o ≡ Some Open → ¬ IsAnswered trace r
 open_unanswered trace r None h e = absurd (cc)
-open_unanswered trace r (Some Open) h e = λ (k, x, is). h.1 (k, x, nth-inside trace k (Answered r x) is, is)
+open_unanswered trace r (Some Open) h e = λ (k, x, is). h.1 (k, x, nth_within trace k (Answered r x) is, is)
 open_unanswered trace r (Some Closed) h e = absurd (cc)
 
 -- the first open request, if any, is the verdict on a trace whose events fit

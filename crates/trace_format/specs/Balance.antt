@@ -31,7 +31,8 @@ IsAnswered trace r = (k : ℕ) × (x : Response) × AnswersAt trace k r x
 pub record IsFitting (trace : List TraceEvent) (place : ℕ) : Type 0 where
   pub is_new : (r : ℕ) (q : Request) → AsksAt trace place r q → ¬ IsAskedBefore trace place r
   pub was_asked : (r : ℕ) (x : Response) → AnswersAt trace place r x → IsAskedBefore trace place r
-  pub is_open : (r : ℕ) (x : Response) → AnswersAt trace place r x → ¬ IsAnsweredBefore trace place r
+  pub is_open :
+      (r : ℕ) (x : Response) → AnswersAt trace place r x → ¬ IsAnsweredBefore trace place r
 
 -- what stands at a place is a request whose id was asked before
 abbrev pub IsAskedAgain : List TraceEvent → ℕ → ℕ → Type 0
@@ -42,8 +43,8 @@ IsAskedAgain trace place r = (q : Request) × AsksAt trace place r q × IsAskedB
 abbrev pub IsAnsweredInVain : List TraceEvent → ℕ → ℕ → Type 0
 IsAnsweredInVain trace place r =
     (x : Response)
-        × AnswersAt trace place r x
-        × (¬ IsAskedBefore trace place r ⊎ IsAnsweredBefore trace place r)
+    × AnswersAt trace place r x
+    × (¬ IsAskedBefore trace place r ⊎ IsAnsweredBefore trace place r)
 
 -- The first event that doesn't fit has this id.
 pub record IsFirstMisfit (trace : List TraceEvent) (r : ℕ) : Type 0 where

@@ -21,9 +21,9 @@ parameters_spelling (p ∷ ps) = parameter_spelling p ++ parameters_spelling ps
 abbrev pub request_spelling : Request → List ℕ
 request_spelling q =
     bytes_spelling q.method
-        ++ (bytes_spelling q.path
-            ++ (to_be_bytes w32 (length q.parameters)
-                ++ (parameters_spelling q.parameters ++ bytes_spelling q.body)))
+    ++ (bytes_spelling q.path
+    ++ (to_be_bytes w32 (length q.parameters)
+    ++ (parameters_spelling q.parameters ++ bytes_spelling q.body)))
 
 abbrev pub response_spelling : Response → List ℕ
 response_spelling x = to_be_bytes w16 x.status ++ bytes_spelling x.body

@@ -1,6 +1,8 @@
--- What is known of the ids of a trace that was read up to a place: nothing, that the request is open,
--- or that it was answered.
+-- What is known of the ids of a trace that was read up to a place: nothing, that the request is
+-- open, or that it was answered.
 use Rattle.std.specs.Prelude.{◌≡◌, ◌≢◌, ℕ, ◌<◌, Bool, true, false, List, length, Option, Some, None}
+use Rattle.std.specs.Ordering.{nat_cmp}
+use Rattle.std.specs.BTreeMap.{BTreeMap, get, Updates}
 use Rattle.trace_format.specs.Balance.{AsksAt}
 use Rattle.script_tree.specs.Requests.{Request}
 use Rattle.script_tree.specs.declared.trace.TraceEvent.{TraceEvent}
@@ -25,6 +27,14 @@ abbrev pub stage_after : TraceEvent → Stage
 stage_after (Asked id q) = Open
 stage_after (Answered id x) = Closed
 
+-- what a map of stages knows of an id
+abbrev pub stage_of : BTreeMap ℕ Stage → ℕ → Option Stage
+stage_of stages id = get nat_cmp stages id
+
+-- the map with the stage of the event's id behind it
+abbrev pub IsNoted : TraceEvent → BTreeMap ℕ Stage → BTreeMap ℕ Stage → Type 0
+IsNoted event old new = Updates nat_cmp old new (id_of event) (Some (stage_after event))
+
 -- before the place, no request is one of an open id
 abbrev pub NoneOpen : (ℕ → Option Stage) → List TraceEvent → ℕ → Type 0
 NoneOpen stage trace place =
@@ -35,7 +45,7 @@ abbrev pub IsFirstOpen : (ℕ → Option Stage) → List TraceEvent → Option �
 IsFirstOpen stage trace None = NoneOpen stage trace (length trace)
 IsFirstOpen stage trace (Some r) =
     (place : ℕ)
-        × (q : Request)
-        × AsksAt trace place r q
-        × (stage r ≡ Some Open)
-        × NoneOpen stage trace place
+    × (q : Request)
+    × AsksAt trace place r q
+    × (stage r ≡ Some Open)
+    × NoneOpen stage trace place

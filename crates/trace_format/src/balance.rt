@@ -1,8 +1,6 @@
-ghost use Rattle.std.specs.Prelude.{◌≡◌, Some, IfOk, OnOk};
-ghost use Rattle.std.specs.Ordering.{nat_cmp};
-ghost use Rattle.std.specs.BTreeMap.{get, Updates};
+ghost use Rattle.std.specs.Prelude.{◌≡◌, IfOk, OnOk};
 ghost use Rattle.trace_format.specs.Balance.{IsFirstFault, IsOneFault};
-ghost use Rattle.trace_format.specs.Stages.{id_of, fits, stage_after, IsFirstOpen};
+ghost use Rattle.trace_format.specs.Stages.{id_of, fits, stage_of, IsNoted, IsFirstOpen};
 
 use script_tree::trace::{Trace, TraceEvent};
 use std::alloc::{AllocError, Global};
@@ -17,8 +15,8 @@ pub enum Stage {
     Closed,
 }
 
-/// Notes how the id of an event stands behind it. Tells whether the event fits what was known of its
-/// id.
+/// Notes how the id of an event stands behind it. Tells whether the event fits what was known of
+/// its id.
 fn note(stages: &mut BTreeMap<u32, Stage>, event: &TraceEvent) -> Result<bool, AllocError>
     ensures fits { IfOk result (λ b. b ≡ fits event.now (stage_of stages.old (id_of event.now))) }
     ensures noted { OnOk result (IsNoted event.now stages.old stages.new) }
@@ -38,7 +36,7 @@ fn id_of(event: &TraceEvent) -> u32
 }
 
 fn first_open(events: &[TraceEvent], stages: &BTreeMap<u32, Stage>) -> Option<u32>
-    ensures { IsFirstOpen (get nat_cmp stages.now) events.now result }
+    ensures { IsFirstOpen (stage_of stages.now) events.now result }
 {
     for event in events {
         if let TraceEvent::Asked(id, _) = event

@@ -17,7 +17,11 @@ fn read_text(alloc: Global, bytes: &[u8], at: usize) -> Result<(Text, usize), Or
     Ok((Text::from_vec(Vec::from_slice(alloc, text)?), next))
 }
 
-fn read_parameter(alloc: Global, bytes: &[u8], at: usize) -> Result<(Parameter, usize), OrMemory<Unreadable>>
+fn read_parameter(
+    alloc: Global,
+    bytes: &[u8],
+    at: usize,
+) -> Result<(Parameter, usize), OrMemory<Unreadable>>
     ensures { TakesPart (λ x. x) parameter_field bytes.now at result }
 {
     let (name, next) = read_text(alloc, bytes, at)?;

@@ -1,20 +1,23 @@
 use crate::balance::first_unbalanced;
 use crate::decoding::decode;
 use crate::encoding::encode;
+use basis::OrMemory;
 use script_tree::request::{Parameters, Request, Response};
 use script_tree::text::Text;
 use script_tree::trace::{Trace, TraceEvent};
 use std::alloc::Global;
 use std::test::Fail;
-use wire::fault::FileFault;
+use wire::fault::Unreadable;
 
 /// A request GET `/e`, answered with status 200 and body `3`.
-const FILE: &[u8; 54] =
-    b"SSCOTRC1\x00\x00\x00\x1a\x01\x00\x00\x00\x00\x00\x00\x00\x03GET\x00\x00\x00\x02/e\x00\x00\x00\x00\x00\x00\x00\x00\x00\x00\x00\x0c\x02\x00\x00\x00\x00\x00\xc8\x00\x00\x00\x013";
+const FILE: &[u8; 54] = b"SSCOTRC1\x00\x00\x00\x1a\x01\x00\x00\x00\x00\
+    \x00\x00\x00\x03GET\x00\x00\x00\x02/e\x00\x00\x00\x00\x00\x00\x00\x00\
+    \x00\x00\x00\x0c\x02\x00\x00\x00\x00\x00\xc8\x00\x00\x00\x013";
 
 /// A request 1 with the method `P`, the path `/`, the parameter k=`v` and the body `b`.
-const PARAMETER: &[u8; 46] =
-    b"SSCOTRC1\x00\x00\x00\x22\x01\x00\x00\x00\x01\x00\x00\x00\x01P\x00\x00\x00\x01/\x00\x00\x00\x01\x00\x00\x00\x01k\x00\x00\x00\x01v\x00\x00\x00\x01b";
+const PARAMETER: &[u8; 46] = b"SSCOTRC1\x00\x00\x00\x22\x01\x00\x00\x00\x01\
+    \x00\x00\x00\x01P\x00\x00\x00\x01/\x00\x00\x00\x01\
+    \x00\x00\x00\x01k\x00\x00\x00\x01v\x00\x00\x00\x01b";
 
 fn is_the_example(trace: &Trace) -> bool {
     match trace.as_slice() {
@@ -61,34 +64,26 @@ fn files_of_the_examples(rt: HostRuntime) -> Result<(), Fail> {
 }
 
 #[test]
-fn cuts_of_the_example(rt: HostRuntime) {
-    for len in 0..54usize {
-        let found = decode(rt.alloc(), &FILE[..len]).err();
-        let at = match len {
-            0..=7 => Some(0),
-            8 | 38 => None,
-            9..=37 => Some(8),
-            _ => Some(38),
-        };
-        assert_eq!(rt;
-            found,
-            at.map(|at| FileFault::Unreadable { at }),
-            "{len} bytes"
-        );
+fn unreadable_files(rt: HostRuntime) -> Result<(), Fail> {
+    let mut longer = Vec::from_slice(rt.alloc(), FILE)?;
+    longer.push(0)?;
+    let files: [(&[u8], usize); 5] = [
+        (&FILE[..7], 0),
+        (&FILE[..9], 8),
+        (&FILE[..37], 8),
+        (&FILE[..53], 38),
+        (longer.as_slice(), 54),
+    ];
+    for (bytes, at) in files {
+        let found = decode(rt.alloc(), bytes).err();
+        assert_eq!(rt; found, Some(OrMemory::Other(Unreadable { at })));
     }
-}
-
-#[test]
-fn one_byte_more(rt: HostRuntime) -> Result<(), Fail> {
-    let mut bytes = Vec::from_slice(rt.alloc(), FILE)?;
-    bytes.push(0)?;
-    let found = decode(rt.alloc(), bytes.as_slice()).err();
-    assert_eq!(rt; found, Some(FileFault::Unreadable { at: 54 }));
     Ok(())
 }
 
-fn event_of(alloc: Global, is_request: bool, id: u32) -> Result<TraceEvent, Fail> {
-    let body = Text::from_vec(Vec::new(alloc));
+/// A request or a response whose body has so many bytes.
+fn event_of(alloc: Global, is_request: bool, id: u32, len: usize) -> Result<TraceEvent, Fail> {
+    let body = Text::from_vec(vec![in alloc; b'x'; len]?);
     if !is_request {
         return Ok(TraceEvent::Answered(id, Response { status: 200, body }));
     }
@@ -117,10 +112,23 @@ fn faults_of_balance(rt: HostRuntime) -> Result<(), Fail> {
     for (events, id) in traces {
         let mut items = Vec::new(rt.alloc());
         for (is_request, id) in events {
-            items.push(event_of(rt.alloc(), *is_request, *id)?)?;
+            items.push(event_of(rt.alloc(), *is_request, *id, 0)?)?;
         }
         let found = first_unbalanced(rt.alloc(), &Trace::from_vec(items))?;
         assert_eq!(rt; found, id);
     }
+    Ok(())
+}
+
+#[test]
+fn more_than_65536_bytes(rt: HostRuntime) -> Result<(), Fail> {
+    let mut items = Vec::new(rt.alloc());
+    for id in 0..2u32 {
+        items.push(event_of(rt.alloc(), true, id, 65_535)?)?;
+    }
+    let bytes = encode(rt.alloc(), &Trace::from_vec(items))?;
+    assert_eq!(rt; bytes.len(), 8 + 2 * (4 + 5 + 16 + 65_535));
+    let again = encode(rt.alloc(), &decode(rt.alloc(), bytes.as_slice())?)?;
+    assert!(rt; again.as_slice() == bytes.as_slice());
     Ok(())
 }

@@ -1,8 +1,6 @@
 -- One record more of a file, read or written.
-use Rattle.std.proofs.Common.{◌≡◌, ◌≢◌, ℕ, ◌+◌, ◌-◌, ◌<◌, ◌≤◌, ◌^◌, cond, eqb, List, [], ◌∷◌, ◌++◌, length, drop, take, get_or, Option, Some, None, Result, Ok, Err, inr, true, false, Bool, inl, ap, sym, ◌∙◌, refl, subst, append_assoc, arith}
-use Rattle.std.proofs.lemmas.Bool.{eqb-true, eq-eqb}
+use Rattle.std.proofs.Common.{◌≡◌, ◌≢◌, ℕ, ◌+◌, ◌-◌, ◌<◌, ◌≤◌, eqb, List, [], ◌∷◌, ◌++◌, length, drop, take, get_or, Result, Ok, Err, true, false, Bool, inl, ap, sym, ◌∙◌, refl, subst, append_assoc, arith}
 use Rattle.std.proofs.lemmas.List.{append-nil, length-append, drop_all, take_more, drop_more, take-append-drop}
-use Rattle.std.proofs.lemmas.Option.{cond_some}
 use Rattle.std.specs.Prelude.{IsErrAnd}
 use Rattle.std.specs.List.{starts_with}
 use Rattle.basis.specs.declared.or_memory.OrMemory.{OrMemory}
@@ -11,7 +9,6 @@ use Rattle.wire.specs.declared.fault.Unreadable.{Unreadable}
 use Rattle.std.proofs.lemmas.Bool.Decides.{Decides-eqb}
 use Rattle.std.proofs.lemmas.Slice.Eq.{starts_is}
 use Rattle.basis.proofs.Booleans.{true_false}
-use Rattle.basis.specs.Options.{◌>>=◌}
 use Rattle.wire.specs.Spellings.{Field, IsSpelled, IsFieldAt, NoneIsAt, HasOneSpelling, TakesPart}
 use Rattle.wire.specs.Files.{Format, record_spelling, records_spelling, file_spelling, payload_field, record_field, MayFollow, IsBadRecord, IsFault, TakesPayload, IsBeyond}
 use Rattle.wire.proofs.Spelled.{joined, at_front, ends_inside, same_field}
@@ -85,7 +82,7 @@ written_more {A} format xs i d old new lt so_far e =
     e ∙ ap (λ (s : List ℕ). s ++ record_spelling format (get_or xs i d)) so_far ∙ sym (file_push format (take i xs) (get_or xs i d)) ∙ ap (λ (ys : List A). file_spelling format ys) (sym more)
 
 -- the item whose record would end behind the limit
-pub beyond_here : {A : Type 0} (format : Format A) (limit : ℕ) (items whole : List A) (i : ℕ) (item : A) (at : ℕ) (out : List ℕ) → items ≡ whole → i < length items → item ≡ get_or items i item → out ≡ file_spelling format (take i items) → at ≡ length out → at ≤ limit → limit - at < length (record_spelling format item) → IsBeyond format limit whole at
+pub beyond_here : {A : Type 0} (format : Format A) (limit : ℕ) (items whole : List A) (i : ℕ) (item : A) (at : ℕ) (out : List ℕ) → items ≡ whole → i < length items → item ≡ get_or items i item → out ≡ file_spelling format (take i items) → at ≡ length out → at ≤ limit → limit - at < length (record_spelling format item) → IsBeyond format limit at whole
 beyond_here {A} format limit items whole i item at out same lt is so_far at_is within beyond =
     let rest : drop i items ≡ get_or items i item ∷ drop (i + 1) items = drop_more items i item lt in
     let parts : items ≡ take i items ++ item ∷ drop (i + 1) items = sym (take-append-drop i items) ∙ ap (λ (r : List A). take i items ++ r) (rest ∙ ap (λ (y : A). y ∷ drop (i + 1) items) (sym is)) in

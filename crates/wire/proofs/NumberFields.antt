@@ -10,7 +10,6 @@ use Rattle.std.proofs.lemmas.Nat.{be_bytes_2, be_bytes_4, be_bytes_8, from_be_by
 use mir.ValLaws as laws
 use borrow.Author.Differences.{fits_in, read_fits}
 use Rattle.basis.proofs.Options.{bind_some, some_one}
-use Rattle.basis.specs.Options.{◌>>=◌}
 use Rattle.wire.proofs.Readings.{number_at, integer_at, bytes_at}
 use Rattle.wire.proofs.Readings.{IsBytes, IsReader}
 use Rattle.wire.specs.Spellings.{IsSpelled, IsFieldAt, number_field, integer_field, integer_spelling, bytes_field, bytes_spelling}

@@ -1,5 +1,4 @@
 -- No two fields of a kind are spelled alike, and none begins another: numbers, byte strings and choices.
-use Rattle.std.proofs.Common.{ℕ}
 use Rattle.std.specs.Int.{w16, w32, w64}
 use Rattle.wire.specs.Spellings.{HasOneSpelling, byte_field, number_field, integer_field, bytes_field, choice_field}
 use Rattle.wire.proofs.Readings.{byte_at, number_at, integer_at, bytes_at, choice_at}

@@ -1,5 +1,5 @@
 -- Fields read step by step: what stands at a place and the place behind it, or nothing.
-use Rattle.std.specs.Prelude.{◌≡◌, ℕ, ◌+◌, ◌<◌, ◌≤◌, ◌==◌, ℤ, List, get_or, length, take, drop, slice_get, Option, Some, None, nat_le, if◌then◌else◌}
+use Rattle.std.specs.Prelude.{◌≡◌, ℕ, ◌+◌, ◌<◌, ◌==◌, ℤ, List, get_or, length, take, drop, slice_get, Option, Some, None, nat_le, if◌then◌else◌}
 use Rattle.std.specs.Int.{Width, w32, w64, byte_len, from_be_bytes, cast_signed}
 use Rattle.basis.specs.Options.{◌>>=◌}
 use Rattle.script_tree.specs.declared.operation.Choice.{Choice}

@@ -1,8 +1,8 @@
 -- The fields of each kind are told apart by their spellings, and found where they are spelled.
-use Rattle.std.proofs.Common.{◌≡◌, ℕ, List, Result, Ok, Err, ap, sym, ◌∙◌}
+use Rattle.std.proofs.Common.{ℕ, Result, Ok, Err, ap, ◌∙◌}
 use Rattle.std.specs.Int.{w16, w32, w64}
 use Rattle.wire.specs.Readers.{IsFound, FindFields}
-use Rattle.wire.specs.Spellings.{Field, IsFieldAt, ReadsField, HasOneSpelling, AreToldApart, byte_field, number_field, integer_field, bytes_field, choice_field}
+use Rattle.wire.specs.Spellings.{Field, HasOneSpelling, AreToldApart, byte_field, number_field, integer_field, bytes_field, choice_field}
 use Rattle.wire.specs.declared.fault.Unreadable.{Unreadable}
 use Rattle.wire.proofs.OneSpelling.{byte_one, one_of_16, one_of_32, one_of_64, integer_one, bytes_one, choice_one}
 use Rattle.wire.proofs.Spelled.{same_field}

@@ -1,11 +1,11 @@
 -- No two values are spelled alike, and no value's spelling begins another.
-use Rattle.std.proofs.Common.{◌≡◌, ℕ, ◌<◌, ◌≤◌, ◌^◌, Bool, true, false, leb, ◌&&◌, List, ◌∷◌, ◌++◌, length, get_or, ap, sym, ◌∙◌, refl, append_assoc, arith}
+use Rattle.std.proofs.Common.{◌≡◌, ℕ, ◌<◌, ◌≤◌, ◌^◌, true, false, leb, List, ◌∷◌, ◌++◌, length, get_or, ap, sym, ◌∙◌, refl, append_assoc, arith}
 use Rattle.std.specs.Int.{w32, to_be_bytes}
 use Rattle.std.proofs.lemmas.Bool.{leb-true}
 use Rattle.script_tree.specs.Datum.{Datum, null, bool, number, text, list, Data, none, more, members, size, members_size, nesting, IsWithinLimits}
 use Rattle.basis.proofs.Booleans.{both_true}
 use Rattle.script_tree.specs.declared.limits.TheConstants.{MOST_VALUE_SIZE, MOST_VALUE_NESTING}
-use Rattle.wire.specs.Spellings.{HasOneSpelling, number_field, integer_field, integer_spelling, bytes_field, bytes_spelling, value_field, value_spelling, values_spelling, HasWideNumbers, HaveWideNumbers}
+use Rattle.wire.specs.Spellings.{HasOneSpelling, integer_spelling, bytes_spelling, value_field, value_spelling, values_spelling, HasWideNumbers, HaveWideNumbers}
 use Rattle.wire.proofs.ValueSizes.{size_some}
 use Rattle.wire.proofs.OneSpelling.{one_of_32, integer_one, bytes_one}
 

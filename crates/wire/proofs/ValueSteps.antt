@@ -1,5 +1,5 @@
 -- The values of a list, read one after another.
-use Rattle.std.proofs.Common.{◌≡◌, ℕ, ◌+◌, ◌<◌, ◌≤◌, List, [], ◌∷◌, ◌++◌, length, drop, Option, Some, None, Result, Ok, Err, refl, sym, ap, subst, ◌∙◌, append_assoc, arith}
+use Rattle.std.proofs.Common.{◌≡◌, ℕ, ◌+◌, ◌<◌, ◌≤◌, ◌^◌, List, [], ◌∷◌, ◌++◌, length, drop, Result, Ok, Err, refl, sym, ap, subst, ◌∙◌, append_assoc, arith}
 use Rattle.std.proofs.lemmas.List.{append-nil}
 use Rattle.std.specs.Int.{w32, to_be_bytes}
 use Rattle.std.specs.Prelude.{IsErrAnd}
@@ -82,7 +82,7 @@ list_there depth below room bytes at d end' small under tag bound p =
     let here : P (list ds.0) = subst P ds.1 (bound, p) in
     let nested : 1 + members_nesting ds.0 ≤ depth = here.0.nested in
     let sized : 1 + members_size ds.0 ≤ room + 1 = here.0.sized in
-    let few : length (members ds.0) < 4294967296 = omega (arith, members_few ds.0) in
+    let few : length (members ds.0) < 2 ^ 32 = omega (arith, members_few ds.0) in
     let first = first_part bytes (to_be_bytes w32 (length (members ds.0))) (values_spelling ds.0) at end' here.1 in (
       ds.0,
       record {

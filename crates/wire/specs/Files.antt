@@ -80,9 +80,9 @@ SpellsNone {A} format before payload = (x : A) → ¬ IsPayload format before pa
 abbrev pub TakesPayload : {A : Type 0} → Format A → List A → List ℕ → Reading A → Type 0
 TakesPayload format before payload result =
     UnlessMemory
-        (IsPayload format before payload)
-        (λ fault. SpellsNone format before payload)
-        result
+    (IsPayload format before payload)
+    (λ fault. SpellsNone format before payload)
+    result
 
 -- A reader takes the payload behind whatever it has read; and then it has read the item too.
 abbrev pub TakesNext :
@@ -117,7 +117,7 @@ HasLen room payload None = room < length (bytes_spelling payload)
 HasLen room payload (Some len) = (len ≡ length payload) × (len + 4 ≤ room)
 
 -- Of these, the first whose record would end behind the limit has its record here.
-pub record IsBeyond {A : Type 0} (format : Format A) (most : ℕ) (xs : List A) (at : ℕ) : Type 0 where
+pub record IsBeyond {A : Type 0} (format : Format A) (most at : ℕ) (xs : List A) : Type 0 where
   pub before : List A
   pub item : A
   pub after : List A
@@ -137,7 +137,7 @@ abbrev pub Encodes :
 Encodes view format limit items result =
     UnlessMemory
     (λ out. IsFileWithin format limit items (view out))
-    (λ fault. IsBeyond format limit items fault.at)
+    (λ fault. IsBeyond format limit fault.at items)
     result
 
 -- what decoding the file of these items gives: them again, unless memory ran out

@@ -10,6 +10,7 @@ use crate::writing::{
 use basis::OrMemory;
 use script_tree::operation::Choice;
 use script_tree::value::{Value, Values};
+use std::alloc::{AllocError, Global};
 use std::test::Fail;
 
 /// The record of the second response of the examples: 200 and the text `3`.
@@ -68,8 +69,8 @@ fn written_fields(rt: HostRuntime) -> Result<(), Fail> {
     write_choice(&mut out, Choice::Number(-2))?;
     write_u64(&mut out, 258)?;
     write_i64(&mut out, 1)?;
-    let bytes =
-        b"\x00\x01\xff\xff\xff\xff\xff\xff\xff\xfe\x00\x00\x00\x00\x00\x00\x01\x02\x00\x00\x00\x00\x00\x00\x00\x01";
+    let bytes = b"\x00\x01\xff\xff\xff\xff\xff\xff\xff\xfe\
+        \x00\x00\x00\x00\x00\x00\x01\x02\x00\x00\x00\x00\x00\x00\x00\x01";
     assert!(rt; out.as_slice() == bytes.as_slice());
     Ok(())
 }
@@ -94,16 +95,30 @@ fn values(rt: HostRuntime) -> Result<(), Fail> {
     Ok(())
 }
 
+/// The spelling of null inside so many lists of one member.
+fn nested(alloc: Global, depth: usize) -> Result<Vec<u8>, AllocError> {
+    let mut bytes = Vec::new(alloc);
+    for _ in 0..depth {
+        bytes.extend_from_slice(b"\x05\x00\x00\x00\x01")?;
+    }
+    bytes.push(0)?;
+    Ok(bytes)
+}
+
 #[test]
-fn bad_values(rt: HostRuntime) {
+fn bad_values(rt: HostRuntime) -> Result<(), Fail> {
+    let deep = nested(rt.alloc(), 17)?;
     let rows: [&[u8]; 4] = [
         b"\x06",
         b"\x05\xff\xff\xff\xff\x00\x00",
         b"\x04\x00\x00\x00\x02a",
-        b"\x05\x00\x00\x00\x01\x05\x00\x00\x00\x01\x05\x00\x00\x00\x01\x05\x00\x00\x00\x01\x05\x00\x00\x00\x01\x05\x00\x00\x00\x01\x05\x00\x00\x00\x01\x05\x00\x00\x00\x01\x05\x00\x00\x00\x01\x05\x00\x00\x00\x01\x05\x00\x00\x00\x01\x05\x00\x00\x00\x01\x05\x00\x00\x00\x01\x05\x00\x00\x00\x01\x05\x00\x00\x00\x01\x05\x00\x00\x00\x01\x05\x00\x00\x00\x00",
+        deep.as_slice(),
     ];
     for bytes in rows {
         let found = read_value(rt.alloc(), bytes, 0).err();
         assert_eq!(rt; found, Some(OrMemory::Other(Unreadable { at: 0 })));
     }
+    let bytes = nested(rt.alloc(), 16)?;
+    assert!(rt; read_value(rt.alloc(), bytes.as_slice(), 0).is_ok());
+    Ok(())
 }

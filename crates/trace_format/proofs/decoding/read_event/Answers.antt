@@ -1,7 +1,6 @@
-use Rattle.wire.specs.Spellings.{bytes_field}
-use Rattle.wire.proofs.Faults.{part_missed, part_not_taken}
-use Rattle.trace_format.specs.Events.{event_field, request_field, response_field}
-use Rattle.trace_format.proofs.EventFields.{no_tag, no_id, no_request, no_response}
+use Rattle.wire.proofs.Faults.{part_missed}
+use Rattle.trace_format.specs.Events.{event_field}
+use Rattle.trace_format.proofs.EventFields.{no_tag, no_id}
 use Rattle.trace_format.proofs.decoding.read_event.Goals as goal
 
 pub returns-in_err-tag : goal.returns-in_err-tag

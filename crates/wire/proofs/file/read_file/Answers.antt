@@ -1,4 +1,3 @@
-use Rattle.std.proofs.Common.{arith}
 use Rattle.wire.proofs.FileSteps.{no_magic, read_none, one_more}
 use Rattle.wire.proofs.file.read_file.Goals as goal
 

@@ -1,5 +1,4 @@
-use Rattle.std.proofs.Common.{◌≡◌, ◌+◌, ◌*◌, ◌++◌, length, drop}
-use Rattle.std.specs.Int.{w32, to_be_bytes}
+use Rattle.std.proofs.Common.{◌≡◌, ◌+◌, ◌*◌, ◌++◌, drop}
 use Rattle.script_tree.specs.Datum.{size, members_size, data_of}
 use Rattle.script_tree.specs.ValueView.{datum_of}
 use Rattle.wire.specs.Spellings.{IsFront, values_spelling, list_spelling}

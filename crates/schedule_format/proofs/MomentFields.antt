@@ -16,19 +16,19 @@ use Rattle.schedule_format.specs.Moments.{IsMoment, moment_field, moment_spellin
 -- ---- a moment's tag, its id, and what stands behind them
 
 tag_of : Moment → ℕ
-tag_of (Arrive id) = 1
-tag_of (Act id choice) = 2
-tag_of (Depart id) = 3
+tag_of (Arrive rid) = 1
+tag_of (Act rid choice) = 2
+tag_of (Depart rid) = 3
 
 id_of : Moment → ℕ
-id_of (Arrive id) = id
-id_of (Act id choice) = id
-id_of (Depart id) = id
+id_of (Arrive rid) = rid
+id_of (Act rid choice) = rid
+id_of (Depart rid) = rid
 
 rest_of : Moment → List ℕ
-rest_of (Arrive id) = []
-rest_of (Act id choice) = choice_spelling choice
-rest_of (Depart id) = []
+rest_of (Arrive rid) = []
+rest_of (Act rid choice) = choice_spelling choice
+rest_of (Depart rid) = []
 
 abbrev pub head_field : Field (ℕ × ℕ)
 head_field = pair_field byte_field (λ tag. number_field w32)
@@ -41,15 +41,15 @@ head_of m = (tag_of m, id_of m)
 
 by_head : (m : Moment) → moment_spelling m ≡ head_field.spelling (head_of m) ++ rest_of m
 unfolding tag_of id_of rest_of
-by_head (Arrive id) = refl
-by_head (Act id choice) = refl
-by_head (Depart id) = refl
+by_head (Arrive rid) = refl
+by_head (Act rid choice) = refl
+by_head (Depart rid) = refl
 
 head_allowed : (m : Moment) → IsMoment m → head_field.allows (head_of m)
 unfolding tag_of id_of
-head_allowed (Arrive id) p = (omega arith, p)
-head_allowed (Act id choice) p = (omega arith, p.0)
-head_allowed (Depart id) p = (omega arith, p)
+head_allowed (Arrive rid) p = (omega arith, p)
+head_allowed (Act rid choice) p = (omega arith, p.0)
+head_allowed (Depart rid) p = (omega arith, p)
 
 head_there : (bytes : List ℕ) (at : ℕ) (m : Moment) (next : ℕ) → IsFieldAt moment_field bytes at m next → IsSpelled bytes at (head_field.spelling (head_of m) ++ rest_of m) next
 head_there bytes at m next p = let Here : List ℕ → Type 0 = λ s. IsSpelled bytes at s next in subst Here (by_head m) p.1

@@ -8,15 +8,15 @@ use Rattle.script_tree.specs.declared.schedule.Moment.TheVariants.{Arrive, Act, 
 
 -- a tag, the id of the request and, of an operation, its choice
 abbrev pub moment_spelling : Moment → List ℕ
-moment_spelling (Arrive id) = 1 ∷ to_be_bytes w32 id
-moment_spelling (Act id choice) = 2 ∷ (to_be_bytes w32 id ++ choice_spelling choice)
-moment_spelling (Depart id) = 3 ∷ to_be_bytes w32 id
+moment_spelling (Arrive rid) = 1 ∷ to_be_bytes w32 rid
+moment_spelling (Act rid choice) = 2 ∷ (to_be_bytes w32 rid ++ choice_spelling choice)
+moment_spelling (Depart rid) = 3 ∷ to_be_bytes w32 rid
 
 -- Its numbers have their widths.
 abbrev pub IsMoment : Moment → Type 0
-IsMoment (Arrive id) = id < 2 ^ 32
-IsMoment (Act id choice) = (id < 2 ^ 32) × IsWideChoice choice
-IsMoment (Depart id) = id < 2 ^ 32
+IsMoment (Arrive rid) = rid < 2 ^ 32
+IsMoment (Act rid choice) = (rid < 2 ^ 32) × IsWideChoice choice
+IsMoment (Depart rid) = rid < 2 ^ 32
 
 abbrev pub moment_field : Field Moment
 moment_field = record { allows = λ m. IsMoment m; spelling = λ m. moment_spelling m }

@@ -16,14 +16,14 @@ fn read_moment(payload: &[u8]) -> Result<(Moment, usize), OrMemory<Unreadable>>
     ensures { TakesPart (λ x. x) moment_field payload.now 0 result }
 {
     let (tag, next) = read_u8(payload, 0)?;
-    let (id, next) = read_u32(payload, next)?;
+    let (rid, next) = read_u32(payload, next)?;
     match tag {
-        1 => Ok((Moment::Arrive(id), next)),
+        1 => Ok((Moment::Arrive(rid), next)),
         2 => {
             let (choice, next) = read_choice(payload, next)?;
-            Ok((Moment::Act(id, choice), next))
+            Ok((Moment::Act(rid, choice), next))
         }
-        3 => Ok((Moment::Depart(id), next)),
+        3 => Ok((Moment::Depart(rid), next)),
         _ => Err(OrMemory::Other(Unreadable { at: 0 })),
     }
 }

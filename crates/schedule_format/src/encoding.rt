@@ -25,18 +25,18 @@ fn write_moment(out: &mut Vec<u8>, moment: Moment) -> Result<(), AllocError>
     ensures { OnOk result (out.new.items ≡ out.old.items ++ moment_spelling moment) }
 {
     match moment {
-        Moment::Arrive(id) => {
+        Moment::Arrive(rid) => {
             write_u8(out, 1)?;
-            write_u32(out, id)
+            write_u32(out, rid)
         }
-        Moment::Act(id, choice) => {
+        Moment::Act(rid, choice) => {
             write_u8(out, 2)?;
-            write_u32(out, id)?;
+            write_u32(out, rid)?;
             write_choice(out, choice)
         }
-        Moment::Depart(id) => {
+        Moment::Depart(rid) => {
             write_u8(out, 3)?;
-            write_u32(out, id)
+            write_u32(out, rid)
         }
     }
 }

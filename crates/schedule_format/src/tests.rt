@@ -52,8 +52,8 @@ fn unreadable_files(rt: HostRuntime) {
 #[test]
 fn more_than_65536_moments(rt: HostRuntime) -> Result<(), Fail> {
     let mut moments = Vec::new(rt.alloc());
-    for id in 0..65_537u32 {
-        moments.push(Moment::Depart(id))?;
+    for rid in 0..65_537u32 {
+        moments.push(Moment::Depart(rid))?;
     }
     let schedule = Schedule::from_vec(moments);
     let bytes = encode(rt.alloc(), &schedule)?;

@@ -21,16 +21,16 @@ use Rattle.trace_format.proofs.RequestFields.{request_one, response_one}
 -- ---- an event's tag, its id, and what stands behind them
 
 tag_of : TraceEvent → ℕ
-tag_of (Asked id q) = 1
-tag_of (Answered id x) = 2
+tag_of (Asked rid q) = 1
+tag_of (Answered rid x) = 2
 
 id_of : TraceEvent → ℕ
-id_of (Asked id q) = id
-id_of (Answered id x) = id
+id_of (Asked rid q) = rid
+id_of (Answered rid x) = rid
 
 rest_of : TraceEvent → List ℕ
-rest_of (Asked id q) = request_spelling q
-rest_of (Answered id x) = response_spelling x
+rest_of (Asked rid q) = request_spelling q
+rest_of (Answered rid x) = response_spelling x
 
 abbrev pub head_field : Field (ℕ × ℕ)
 head_field = pair_field byte_field (λ tag. number_field w32)
@@ -43,24 +43,24 @@ head_of e = (tag_of e, id_of e)
 
 by_head : (e : TraceEvent) → event_spelling e ≡ head_field.spelling (head_of e) ++ rest_of e
 unfolding tag_of id_of rest_of
-by_head (Asked id q) = refl
-by_head (Answered id x) = refl
+by_head (Asked rid q) = refl
+by_head (Answered rid x) = refl
 
 head_allowed : (asked : ℕ) (e : TraceEvent) → IsEvent asked e → head_field.allows (head_of e)
 unfolding tag_of id_of
-head_allowed asked (Asked id q) p = (omega arith, p.0)
-head_allowed asked (Answered id x) p = (omega arith, p.0)
+head_allowed asked (Asked rid q) p = (omega arith, p.0)
+head_allowed asked (Answered rid x) p = (omega arith, p.0)
 
 head_there : (asked : ℕ) (bytes : List ℕ) (at : ℕ) (e : TraceEvent) (next : ℕ) → IsFieldAt (event_field asked) bytes at e next → IsSpelled bytes at (head_field.spelling (head_of e) ++ rest_of e) next
 head_there asked bytes at e next p = let Here : List ℕ → Type 0 = λ s. IsSpelled bytes at s next in subst Here (by_head e) p.1
 
 -- what is left of the event that begins with a tag and an id
-behind_head : (asked : ℕ) (bytes : List ℕ) (at tag mid id place : ℕ) (e : TraceEvent) (next : ℕ) → IsFieldAt byte_field bytes at tag mid → IsFieldAt (number_field w32) bytes mid id place → IsFieldAt (event_field asked) bytes at e next → (tag ≡ tag_of e) × IsSpelled bytes place (rest_of e) next
-behind_head asked bytes at tag mid id place e next first second p =
+behind_head : (asked : ℕ) (bytes : List ℕ) (at tag mid rid place : ℕ) (e : TraceEvent) (next : ℕ) → IsFieldAt byte_field bytes at tag mid → IsFieldAt (number_field w32) bytes mid rid place → IsFieldAt (event_field asked) bytes at e next → (tag ≡ tag_of e) × IsSpelled bytes place (rest_of e) next
+behind_head asked bytes at tag mid rid place e next first second p =
     let there = head_there asked bytes at e next p in
     let ends : ℕ = at + length (head_field.spelling (head_of e)) in
-    let found : ℕ × ℕ = (tag, id) in
-    let head = both_there byte_field (λ t. number_field w32) bytes at tag mid id place first second in
+    let found : ℕ × ℕ = (tag, rid) in
+    let head = both_there byte_field (λ t. number_field w32) bytes at tag mid rid place first second in
     let same = same_field head_field head_one bytes at found (head_of e) place ends head (head_allowed asked e p.0, first_part bytes (head_field.spelling (head_of e)) (rest_of e) at next there) in
     let Behind : ℕ → Type 0 = λ n. IsSpelled bytes n (rest_of e) next in
     (ap (λ (h : ℕ × ℕ). h.0) same.0, subst Behind (sym same.1) (second_part bytes (head_field.spelling (head_of e)) (rest_of e) at next there))
@@ -77,17 +77,17 @@ no_tag asked bytes at none = no_head asked bytes at (no_first byte_field (λ tag
 pub no_id : (asked : ℕ) (bytes : List ℕ) (at tag mid : ℕ) → IsFieldAt byte_field bytes at tag mid → NoneIsAt (number_field w32) bytes mid → NoneIsAt (event_field asked) bytes at
 no_id asked bytes at tag mid here none = no_head asked bytes at (no_second byte_field (λ t. number_field w32) byte_one bytes at tag mid here none)
 
-pub no_request : (asked : ℕ) (bytes : List ℕ) (at tag mid id place : ℕ) → IsFieldAt byte_field bytes at tag mid → IsFieldAt (number_field w32) bytes mid id place → tag ≡ 1 → NoneIsAt request_field bytes place → NoneIsAt (event_field asked) bytes at
+pub no_request : (asked : ℕ) (bytes : List ℕ) (at tag mid rid place : ℕ) → IsFieldAt byte_field bytes at tag mid → IsFieldAt (number_field w32) bytes mid rid place → tag ≡ 1 → NoneIsAt request_field bytes place → NoneIsAt (event_field asked) bytes at
 unfolding tag_of rest_of
-no_request asked bytes at tag mid id place first second is none e next p = go e p.0 (behind_head asked bytes at tag mid id place e next first second p)
+no_request asked bytes at tag mid rid place first second is none e next p = go e p.0 (behind_head asked bytes at tag mid rid place e next first second p)
   where
     go : (e : TraceEvent) → IsEvent asked e → (tag ≡ tag_of e) × IsSpelled bytes place (rest_of e) next → ⊥
     go (Asked i q) allowed h = none q next (allowed.1.0, h.1)
     go (Answered i x) allowed h = omega (arith, h.0)
 
-pub no_response : (asked : ℕ) (bytes : List ℕ) (at tag mid id place : ℕ) → IsFieldAt byte_field bytes at tag mid → IsFieldAt (number_field w32) bytes mid id place → tag ≡ 2 → NoneIsAt response_field bytes place → NoneIsAt (event_field asked) bytes at
+pub no_response : (asked : ℕ) (bytes : List ℕ) (at tag mid rid place : ℕ) → IsFieldAt byte_field bytes at tag mid → IsFieldAt (number_field w32) bytes mid rid place → tag ≡ 2 → NoneIsAt response_field bytes place → NoneIsAt (event_field asked) bytes at
 unfolding tag_of rest_of
-no_response asked bytes at tag mid id place first second is none e next p = go e p.0 (behind_head asked bytes at tag mid id place e next first second p)
+no_response asked bytes at tag mid rid place first second is none e next p = go e p.0 (behind_head asked bytes at tag mid rid place e next first second p)
   where
     go : (e : TraceEvent) → IsEvent asked e → (tag ≡ tag_of e) × IsSpelled bytes place (rest_of e) next → ⊥
     go (Asked i q) allowed h = omega (arith, h.0)

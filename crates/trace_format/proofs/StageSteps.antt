@@ -49,12 +49,12 @@ asked_is_not : (o : Option TraceEvent) (r s : ℕ) (q : Request) (x : Response) 
 asked_is_not o r s q x h k = cc
 
 same_asked : (e : TraceEvent) (r : ℕ) (q : Request) → Some e ≡ Some (Asked r q) → r ≡ id_of e
-same_asked (Asked id p) r q h = cc
-same_asked (Answered id x) r q h = absurd (cc)
+same_asked (Asked rid p) r q h = cc
+same_asked (Answered rid x) r q h = absurd (cc)
 
 same_answered : (e : TraceEvent) (r : ℕ) (x : Response) → Some e ≡ Some (Answered r x) → r ≡ id_of e
-same_answered (Asked id p) r x h = absurd (cc)
-same_answered (Answered id y) r x h = cc
+same_answered (Asked rid p) r x h = absurd (cc)
+same_answered (Answered rid y) r x h = cc
 
 -- an event of another id changes nothing
 kept : (trace : List TraceEvent) (n r : ℕ) (o : Option Stage) (e : TraceEvent) → nth trace n ≡ Some e → r ≢ id_of e → StageIs trace n r o → StageIs trace (n + 1) r o
@@ -63,33 +63,33 @@ kept trace n r (Some Open) e is apart h = (asked_before-more trace n (n + 1) r (
 kept trace n r (Some Closed) e is apart h = (asked_before-more trace n (n + 1) r (omega arith) h.0, answered_before-more trace n (n + 1) r (omega arith) h.1)
 
 -- a request whose id is new fits, and is open
-fitting-asked : (trace : List TraceEvent) (n id : ℕ) (q : Request) → nth trace n ≡ Some (Asked id q) → ¬ IsAskedBefore trace n id → IsFitting trace n
-fitting-asked trace n id q is new = record {
-  is_new = λ r p e. let same : r ≡ id = same_asked (Asked id q) r p (sym is ∙ e) in λ h. new (subst (IsAskedBefore trace n) same h);
-  was_asked = λ r x e. absurd (asked_is_not (nth trace n) id r q x is e);
-  is_open = λ r x e. absurd (asked_is_not (nth trace n) id r q x is e);
+fitting-asked : (trace : List TraceEvent) (n rid : ℕ) (q : Request) → nth trace n ≡ Some (Asked rid q) → ¬ IsAskedBefore trace n rid → IsFitting trace n
+fitting-asked trace n rid q is new = record {
+  is_new = λ r p e. let same : r ≡ rid = same_asked (Asked rid q) r p (sym is ∙ e) in λ h. new (subst (IsAskedBefore trace n) same h);
+  was_asked = λ r x e. absurd (asked_is_not (nth trace n) rid r q x is e);
+  is_open = λ r x e. absurd (asked_is_not (nth trace n) rid r q x is e);
 }
 
 -- a response to an open request fits
-fitting-answered : (trace : List TraceEvent) (n id : ℕ) (x : Response) → nth trace n ≡ Some (Answered id x) → IsAskedBefore trace n id → ¬ IsAnsweredBefore trace n id → IsFitting trace n
-fitting-answered trace n id x is asked open' = record {
-  is_new = λ r q e. absurd (asked_is_not (nth trace n) r id q x e is);
-  was_asked = λ r y e. let same : id ≡ r = sym (same_answered (Answered id x) r y (sym is ∙ e)) in subst (IsAskedBefore trace n) same asked;
-  is_open = λ r y e. let same : r ≡ id = same_answered (Answered id x) r y (sym is ∙ e) in λ h. open' (subst (IsAnsweredBefore trace n) same h);
+fitting-answered : (trace : List TraceEvent) (n rid : ℕ) (x : Response) → nth trace n ≡ Some (Answered rid x) → IsAskedBefore trace n rid → ¬ IsAnsweredBefore trace n rid → IsFitting trace n
+fitting-answered trace n rid x is asked open' = record {
+  is_new = λ r q e. absurd (asked_is_not (nth trace n) r rid q x e is);
+  was_asked = λ r y e. let same : rid ≡ r = sym (same_answered (Answered rid x) r y (sym is ∙ e)) in subst (IsAskedBefore trace n) same asked;
+  is_open = λ r y e. let same : r ≡ rid = same_answered (Answered rid x) r y (sym is ∙ e) in λ h. open' (subst (IsAnsweredBefore trace n) same h);
 }
 
 fitting-more : (trace : List TraceEvent) (n : ℕ) → ((k : ℕ) → k < n → IsFitting trace k) → IsFitting trace n → (k : ℕ) → k < n + 1 → IsFitting trace k
 fitting-more trace n before here k h =
     elim (cases_eq k n) [ inl same ↦ subst (IsFitting trace) (sym same) here | inr apart ↦ before k (omega arith) ]
 
-new_fits : (id : ℕ) (q : Request) (o : Option Stage) → fits (Asked id q) o ≡ true → o ≡ None
-new_fits id q None h = refl
-new_fits id q (Some stage) h = absurd (cc)
+new_fits : (rid : ℕ) (q : Request) (o : Option Stage) → fits (Asked rid q) o ≡ true → o ≡ None
+new_fits rid q None h = refl
+new_fits rid q (Some stage) h = absurd (cc)
 
-open_fits : (id : ℕ) (x : Response) (o : Option Stage) → fits (Answered id x) o ≡ true → o ≡ Some Open
-open_fits id x None h = absurd (cc)
-open_fits id x (Some Open) h = refl
-open_fits id x (Some Closed) h = absurd (cc)
+open_fits : (rid : ℕ) (x : Response) (o : Option Stage) → fits (Answered rid x) o ≡ true → o ≡ Some Open
+open_fits rid x None h = absurd (cc)
+open_fits rid x (Some Open) h = refl
+open_fits rid x (Some Closed) h = absurd (cc)
 
 stage_from : (stage : ℕ → Option Stage) (trace : List TraceEvent) (n r : ℕ) (o : Option Stage) → Known stage trace n → stage r ≡ o → StageIs trace n r o
 stage_from stage trace n r o known e = let P : Option Stage → Type 0 = λ w. StageIs trace n r w in subst P e (known.stages r)
@@ -102,39 +102,39 @@ stages-more stage after trace n e is known others here r =
       | inr apart ↦ let P : Option Stage → Type 0 = λ o. StageIs trace (n + 1) r o in subst P (sym (others r apart)) (kept trace n r (stage r) e is apart (known.stages r))
     ]
 
-not_answered : (stage : ℕ → Option Stage) (trace : List TraceEvent) (n id : ℕ) (q : Request) → nth trace n ≡ Some (Asked id q) → Known stage trace n → ¬ IsAskedBefore trace n id → ¬ IsAnsweredBefore trace (n + 1) id
-not_answered stage trace n id q is known new more =
-    elim (answered_before-last trace n id more) [
-      | inl before ↦ new (asked_before-more trace before.0 n id (let p : before.0 < n = before.2 in omega arith) ((known.fitting before.0 before.2).was_asked id before.1 before.3))
-      | inr here ↦ asked_is_not (nth trace n) id id q here.0 is here.1
+not_answered : (stage : ℕ → Option Stage) (trace : List TraceEvent) (n rid : ℕ) (q : Request) → nth trace n ≡ Some (Asked rid q) → Known stage trace n → ¬ IsAskedBefore trace n rid → ¬ IsAnsweredBefore trace (n + 1) rid
+not_answered stage trace n rid q is known new more =
+    elim (answered_before-last trace n rid more) [
+      | inl before ↦ new (asked_before-more trace before.0 n rid (let p : before.0 < n = before.2 in omega arith) ((known.fitting before.0 before.2).was_asked rid before.1 before.3))
+      | inr here ↦ asked_is_not (nth trace n) rid rid q here.0 is here.1
     ]
 
 pub known-more : (stage after : ℕ → Option Stage) (trace : List TraceEvent) (n : ℕ) (e : TraceEvent) → nth trace n ≡ Some e → Known stage trace n → fits e (stage (id_of e)) ≡ true → after (id_of e) ≡ Some (stage_after e) → ((r : ℕ) → r ≢ id_of e → after r ≡ stage r) → Known after trace (n + 1)
-known-more stage after trace n (Asked id q) is known fit here others =
-    let new : ¬ IsAskedBefore trace n id = stage_from stage trace n id None known (new_fits id q (stage id) fit) in
-    let now : StageIs trace (n + 1) id (Some Open) = ((n, q, omega arith, is), not_answered stage trace n id q is known new) in
-    let P : Option Stage → Type 0 = λ o. StageIs trace (n + 1) id o in
+known-more stage after trace n (Asked rid q) is known fit here others =
+    let new : ¬ IsAskedBefore trace n rid = stage_from stage trace n rid None known (new_fits rid q (stage rid) fit) in
+    let now : StageIs trace (n + 1) rid (Some Open) = ((n, q, omega arith, is), not_answered stage trace n rid q is known new) in
+    let P : Option Stage → Type 0 = λ o. StageIs trace (n + 1) rid o in
     record {
-      stages = stages-more stage after trace n (Asked id q) is known others (subst P (sym here) now);
-      fitting = fitting-more trace n known.fitting (fitting-asked trace n id q is new);
+      stages = stages-more stage after trace n (Asked rid q) is known others (subst P (sym here) now);
+      fitting = fitting-more trace n known.fitting (fitting-asked trace n rid q is new);
     }
-known-more stage after trace n (Answered id x) is known fit here others =
-    let was : StageIs trace n id (Some Open) = stage_from stage trace n id (Some Open) known (open_fits id x (stage id) fit) in
-    let now : StageIs trace (n + 1) id (Some Closed) = (asked_before-more trace n (n + 1) id (omega arith) was.0, (n, x, omega arith, is)) in
-    let P : Option Stage → Type 0 = λ o. StageIs trace (n + 1) id o in
+known-more stage after trace n (Answered rid x) is known fit here others =
+    let was : StageIs trace n rid (Some Open) = stage_from stage trace n rid (Some Open) known (open_fits rid x (stage rid) fit) in
+    let now : StageIs trace (n + 1) rid (Some Closed) = (asked_before-more trace n (n + 1) rid (omega arith) was.0, (n, x, omega arith, is)) in
+    let P : Option Stage → Type 0 = λ o. StageIs trace (n + 1) rid o in
     record {
-      stages = stages-more stage after trace n (Answered id x) is known others (subst P (sym here) now);
-      fitting = fitting-more trace n known.fitting (fitting-answered trace n id x is was.0 was.1);
+      stages = stages-more stage after trace n (Answered rid x) is known others (subst P (sym here) now);
+      fitting = fitting-more trace n known.fitting (fitting-answered trace n rid x is was.0 was.1);
     }
 
 -- an event that doesn't fit what is known
 misfit : (trace : List TraceEvent) (n : ℕ) (e : TraceEvent) (o : Option Stage) → nth trace n ≡ Some e → StageIs trace n (id_of e) o → fits e o ≡ false → IsAskedAgain trace n (id_of e) ⊎ IsAnsweredInVain trace n (id_of e)
-misfit trace n (Asked id q) None is h unfit = absurd (cc)
-misfit trace n (Asked id q) (Some Open) is h unfit = inl (q, is, h.0)
-misfit trace n (Asked id q) (Some Closed) is h unfit = inl (q, is, h.0)
-misfit trace n (Answered id x) None is h unfit = inr (x, is, inl h)
-misfit trace n (Answered id x) (Some Open) is h unfit = absurd (cc)
-misfit trace n (Answered id x) (Some Closed) is h unfit = inr (x, is, inr h.1)
+misfit trace n (Asked rid q) None is h unfit = absurd (cc)
+misfit trace n (Asked rid q) (Some Open) is h unfit = inl (q, is, h.0)
+misfit trace n (Asked rid q) (Some Closed) is h unfit = inl (q, is, h.0)
+misfit trace n (Answered rid x) None is h unfit = inr (x, is, inl h)
+misfit trace n (Answered rid x) (Some Open) is h unfit = absurd (cc)
+misfit trace n (Answered rid x) (Some Closed) is h unfit = inr (x, is, inr h.1)
 
 pub known-misfit : (stage : ℕ → Option Stage) (trace : List TraceEvent) (n : ℕ) (e : TraceEvent) → nth trace n ≡ Some e → Known stage trace n → fits e (stage (id_of e)) ≡ false → IsAskedAgain trace n (id_of e) ⊎ IsAnsweredInVain trace n (id_of e)
 known-misfit stage trace n e is known unfit = misfit trace n e (stage (id_of e)) is (known.stages (id_of e)) unfit

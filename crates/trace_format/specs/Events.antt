@@ -30,8 +30,8 @@ response_spelling x = to_be_bytes w16 x.status ++ bytes_spelling x.body
 
 -- a tag, the id, and the request or the response
 abbrev pub event_spelling : TraceEvent → List ℕ
-event_spelling (Asked id q) = 1 ∷ (to_be_bytes w32 id ++ request_spelling q)
-event_spelling (Answered id x) = 2 ∷ (to_be_bytes w32 id ++ response_spelling x)
+event_spelling (Asked rid q) = 1 ∷ (to_be_bytes w32 rid ++ request_spelling q)
+event_spelling (Answered rid x) = 2 ∷ (to_be_bytes w32 rid ++ response_spelling x)
 
 -- ---- what may stand at a place
 
@@ -48,8 +48,8 @@ IsResponse x = (x.status < 2 ^ 16) × (length x.body < 2 ^ 32)
 -- Behind so many requests it may stand: its numbers have their widths, and a request is within its
 -- limits and not one more than a trace may have.
 abbrev pub IsEvent : ℕ → TraceEvent → Type 0
-IsEvent asked (Asked id q) = (id < 2 ^ 32) × (IsRequestWithinLimits q × (asked < MOST_REQUESTS))
-IsEvent asked (Answered id x) = (id < 2 ^ 32) × IsResponse x
+IsEvent asked (Asked rid q) = (rid < 2 ^ 32) × (IsRequestWithinLimits q × (asked < MOST_REQUESTS))
+IsEvent asked (Answered rid x) = (rid < 2 ^ 32) × IsResponse x
 
 abbrev pub parameter_field : Field Parameter
 parameter_field = record { allows = λ p. IsParameter p; spelling = λ p. parameter_spelling p }
@@ -73,8 +73,8 @@ event_field asked = record { allows = λ e. IsEvent asked e; spelling = λ e. ev
 -- ---- the format
 
 abbrev pub is_request : TraceEvent → Bool
-is_request (Asked id q) = true
-is_request (Answered id x) = false
+is_request (Asked rid q) = true
+is_request (Answered rid x) = false
 
 abbrev pub request_count : List TraceEvent → ℕ
 request_count events = count_by is_request events

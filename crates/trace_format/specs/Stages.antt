@@ -11,25 +11,25 @@ use Rattle.trace_format.specs.declared.balance.Stage.{Stage}
 use Rattle.trace_format.specs.declared.balance.Stage.TheVariants.{Open, Closed}
 
 abbrev pub id_of : TraceEvent → ℕ
-id_of (Asked id q) = id
-id_of (Answered id x) = id
+id_of (Asked rid q) = rid
+id_of (Answered rid x) = rid
 
 -- whether an event fits, where this is known of its id
 abbrev pub fits : TraceEvent → Option Stage → Bool
-fits (Asked id q) None = true
-fits (Asked id q) (Some stage) = false
-fits (Answered id x) None = false
-fits (Answered id x) (Some Open) = true
-fits (Answered id x) (Some Closed) = false
+fits (Asked rid q) None = true
+fits (Asked rid q) (Some stage) = false
+fits (Answered rid x) None = false
+fits (Answered rid x) (Some Open) = true
+fits (Answered rid x) (Some Closed) = false
 
--- how its id stands behind it
+-- how its id stands after it
 abbrev pub stage_after : TraceEvent → Stage
-stage_after (Asked id q) = Open
-stage_after (Answered id x) = Closed
+stage_after (Asked rid q) = Open
+stage_after (Answered rid x) = Closed
 
 -- what a map of stages knows of an id
 abbrev pub stage_of : BTreeMap ℕ Stage → ℕ → Option Stage
-stage_of stages id = get nat_cmp stages id
+stage_of stages rid = get nat_cmp stages rid
 
 -- the map with the stage of the event's id behind it
 abbrev pub IsNoted : TraceEvent → BTreeMap ℕ Stage → BTreeMap ℕ Stage → Type 0

@@ -15,15 +15,17 @@ pub enum Stage {
     Closed,
 }
 
-/// Notes how the id of an event stands behind it. Tells whether the event fits what was known of
+/// Notes how the id of an event stands after it. Tells whether the event fits what was known of
 /// its id.
 fn note(stages: &mut BTreeMap<u32, Stage>, event: &TraceEvent) -> Result<bool, AllocError>
     ensures fits { IfOk result (λ b. b ≡ fits event.now (stage_of stages.old (id_of event.now))) }
     ensures noted { OnOk result (IsNoted event.now stages.old stages.new) }
 {
     match event {
-        TraceEvent::Asked(id, _) => Ok(stages.insert(*id, Stage::Open)?.is_none()),
-        TraceEvent::Answered(id, _) => Ok(stages.insert(*id, Stage::Closed)? == Some(Stage::Open)),
+        TraceEvent::Asked(rid, _) => Ok(stages.insert(*rid, Stage::Open)?.is_none()),
+        TraceEvent::Answered(rid, _) => Ok(
+            stages.insert(*rid, Stage::Closed)? == Some(Stage::Open),
+        ),
     }
 }
 
@@ -31,7 +33,7 @@ fn id_of(event: &TraceEvent) -> u32
     ensures { result ≡ id_of event.now }
 {
     match event {
-        TraceEvent::Asked(id, _) | TraceEvent::Answered(id, _) => *id,
+        TraceEvent::Asked(rid, _) | TraceEvent::Answered(rid, _) => *rid,
     }
 }
 
@@ -39,10 +41,10 @@ fn first_open(events: &[TraceEvent], stages: &BTreeMap<u32, Stage>) -> Option<u3
     ensures { IsFirstOpen (stage_of stages.now) events.now result }
 {
     for event in events {
-        if let TraceEvent::Asked(id, _) = event
-            && stages.get(id) == Some(&Stage::Open)
+        if let TraceEvent::Asked(rid, _) = event
+            && stages.get(rid) == Some(&Stage::Open)
         {
-            return Some(*id);
+            return Some(*rid);
         }
     }
     None

@@ -23,15 +23,15 @@ fn read_event(
     ensures { TakesPart (λ x. x) (event_field asked) payload.now 0 result }
 {
     let (tag, next) = read_u8(payload, 0)?;
-    let (id, next) = read_u32(payload, next)?;
+    let (rid, next) = read_u32(payload, next)?;
     match tag {
         1 if asked < MOST_REQUESTS => {
             let (request, next) = read_request(alloc, payload, next)?;
-            Ok((TraceEvent::Asked(id, request), next))
+            Ok((TraceEvent::Asked(rid, request), next))
         }
         2 => {
             let (response, next) = read_response(alloc, payload, next)?;
-            Ok((TraceEvent::Answered(id, response), next))
+            Ok((TraceEvent::Answered(rid, response), next))
         }
         _ => Err(OrMemory::Other(Unreadable { at: 0 })),
     }

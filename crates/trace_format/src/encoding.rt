@@ -110,14 +110,14 @@ fn write_event(out: &mut Vec<u8>, event: &TraceEvent) -> Result<(), AllocError>
     ensures { OnOk result (out.new.items ≡ out.old.items ++ event_spelling event.now) }
 {
     match event {
-        TraceEvent::Asked(id, request) => {
+        TraceEvent::Asked(rid, request) => {
             write_u8(out, 1)?;
-            write_u32(out, *id)?;
+            write_u32(out, *rid)?;
             write_request(out, request)
         }
-        TraceEvent::Answered(id, response) => {
+        TraceEvent::Answered(rid, response) => {
             write_u8(out, 2)?;
-            write_u32(out, *id)?;
+            write_u32(out, *rid)?;
             write_response(out, response)
         }
     }

@@ -82,16 +82,16 @@ fn unreadable_files(rt: HostRuntime) -> Result<(), Fail> {
 }
 
 /// A request or a response whose body has so many bytes.
-fn event_of(alloc: Global, is_request: bool, id: u32, len: usize) -> Result<TraceEvent, Fail> {
+fn event_of(alloc: Global, is_request: bool, rid: u32, len: usize) -> Result<TraceEvent, Fail> {
     let body = Text::from_vec(vec![in alloc; b'x'; len]?);
     if !is_request {
-        return Ok(TraceEvent::Answered(id, Response { status: 200, body }));
+        return Ok(TraceEvent::Answered(rid, Response { status: 200, body }));
     }
     let method = Text::from_vec(Vec::new(alloc));
     let path = Text::from_vec(Vec::new(alloc));
     let parameters = Parameters::from_vec(Vec::new(alloc));
     match Request::new(method, path, parameters, body) {
-        Some(request) => Ok(TraceEvent::Asked(id, request)),
+        Some(request) => Ok(TraceEvent::Asked(rid, request)),
         None => Err("a small request".into()),
     }
 }
@@ -109,13 +109,13 @@ fn faults_of_balance(rt: HostRuntime) -> Result<(), Fail> {
         (&[(true, 7), (true, 8)], Some(7)),
         (&[(true, 1), (true, 2), (false, 2), (false, 2)], Some(2)),
     ];
-    for (events, id) in traces {
+    for (events, rid) in traces {
         let mut items = Vec::new(rt.alloc());
-        for (is_request, id) in events {
-            items.push(event_of(rt.alloc(), *is_request, *id, 0)?)?;
+        for (is_request, rid) in events {
+            items.push(event_of(rt.alloc(), *is_request, *rid, 0)?)?;
         }
         let found = first_unbalanced(rt.alloc(), &Trace::from_vec(items))?;
-        assert_eq!(rt; found, id);
+        assert_eq!(rt; found, rid);
     }
     Ok(())
 }
@@ -123,8 +123,8 @@ fn faults_of_balance(rt: HostRuntime) -> Result<(), Fail> {
 #[test]
 fn more_than_65536_bytes(rt: HostRuntime) -> Result<(), Fail> {
     let mut items = Vec::new(rt.alloc());
-    for id in 0..2u32 {
-        items.push(event_of(rt.alloc(), true, id, 65_535)?)?;
+    for rid in 0..2u32 {
+        items.push(event_of(rt.alloc(), true, rid, 65_535)?)?;
     }
     let bytes = encode(rt.alloc(), &Trace::from_vec(items))?;
     assert_eq!(rt; bytes.len(), 8 + 2 * (4 + 5 + 16 + 65_535));

@@ -23,9 +23,9 @@ fn note(stages: &mut BTreeMap<u32, Stage>, event: &TraceEvent) -> Result<bool, A
 {
     match event {
         TraceEvent::Asked(rid, _) => Ok(stages.insert(*rid, Stage::Open)?.is_none()),
-        TraceEvent::Answered(rid, _) => Ok(
-            stages.insert(*rid, Stage::Closed)? == Some(Stage::Open),
-        ),
+        TraceEvent::Answered(rid, _) => {
+            Ok(stages.insert(*rid, Stage::Closed)? == Some(Stage::Open))
+        },
     }
 }
 

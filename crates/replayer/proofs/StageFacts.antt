@@ -344,7 +344,7 @@ known_step old new m place reason here step past scene h =
     let there = request_here (rid_of m) old.trace place here in
     let known : request_of old.trace (rid_of m) ≡ Some there.0 = sym (request_found (rid_of m) old.trace place here) ∙ ap (option_and_then the_request) there.1 in
     let s = step past scene h in
-    record { told = fault_where old.program.now old.trace past scene m false (ap is_none known) ∙ s.told; shown = s.shown }
+    record { named = fault_where old.program.now old.trace past scene m false (ap is_none known) ∙ s.named; shown = s.shown }
 
 -- ---- the first difference
 

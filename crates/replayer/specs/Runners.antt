@@ -1,20 +1,20 @@
--- What a request does next, as it is told.
+-- What a request does next, as a runner gives it.
 use Rattle.std.specs.Prelude.{◌≡◌, Option, Some, None}
 use Rattle.script_tree.specs.declared.path.Path.{Path}
 use Rattle.script_meaning.specs.Conduct.{Ending, Wants, Ends}
 use Rattle.replayer.specs.OnRegisters.{IsOnRegister}
 use Rattle.replayer.specs.declared.runner.Next.{Next}
-use Rattle.replayer.specs.declared.runner.Next.TheVariants as told
+use Rattle.replayer.specs.declared.runner.Next.TheVariants as code
 
--- An ending as it is told. An operation that is wanted is one on a register.
+-- An ending as it is given. An operation that is wanted is one on a register.
 abbrev pub IsNext : Next → Ending → Type 0
-IsNext (told.Wants op) ending = (ending ≡ Wants op) × IsOnRegister op
-IsNext (told.Ends response) ending = (path : Path) × (ending ≡ Ends response path)
+IsNext (code.Wants op) ending = (ending ≡ Wants op) × IsOnRegister op
+IsNext (code.Ends response) ending = (path : Path) × (ending ≡ Ends response path)
 
-abbrev pub IsToldAs : Ending → Next → Type 0
-IsToldAs ending next = IsNext next ending
+abbrev pub IsGivenAs : Ending → Next → Type 0
+IsGivenAs ending next = IsNext next ending
 
 -- the same, of a request that may not be open
 abbrev pub IsNextIfOpen : Option Next → Option Ending → Type 0
 IsNextIfOpen None ending = ending ≡ None
-IsNextIfOpen (Some next) ending = (told : Ending) × (ending ≡ Some told) × IsNext next told
+IsNextIfOpen (Some next) ending = (e : Ending) × (ending ≡ Some e) × IsNext next e

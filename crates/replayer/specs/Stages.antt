@@ -57,7 +57,7 @@ pub record Opens (program : Program) (start : Held) (trace : List TraceEvent) (s
 
 -- The reason is this fault. Where there is none, the stage shows the scene after the moment.
 pub record IsStep (past : List Moment) (scene : Scene) (m : Moment) (fault reason : Option Reason) (old new : Stage) : Type 0 where
-  pub told : fault ≡ reason
+  pub named : fault ≡ reason
   pub shown : reason ≡ None → Shows (past ++ m ∷ []) (after old.program.now old.trace scene m) new
 
 -- The reason is why the moment fails in the scene that is shown.

@@ -1,7 +1,7 @@
 ghost use Rattle.std.specs.Prelude.{◌≢◌, IfOk};
 ghost use Rattle.script_meaning.specs.Conduct.{Undefined};
 ghost use Rattle.script_meaning.specs.Replay.{ending_of};
-ghost use Rattle.replayer.specs.Runners.{IsToldAs};
+ghost use Rattle.replayer.specs.Runners.{IsGivenAs};
 
 use script_tree::operation::Op;
 use script_tree::request::{Request, Response};
@@ -29,5 +29,5 @@ pub trait Runner {
         answers: &[Value],
     ) -> Result<Next, AllocError>
         requires { ending_of program.now request.now answers.now ≢ Undefined }
-        ensures { IfOk result (IsToldAs (ending_of program.now request.now answers.now)) };
+        ensures { IfOk result (IsGivenAs (ending_of program.now request.now answers.now)) };
 }

@@ -28,7 +28,7 @@ returns-in-Some g c =
     let inside : place < length ms = c.loop-place-test.true in
     let shown = c.loop-place.invariant in
     let s = c.in_ok-reason.ensures.step (take place ms) shown.0 shown.1 in
-    let stop = ap (difference_from stage.program.now stage.trace (take place ms) shown.0) (drop_more ms place (Arrive 0) inside) ∙ stops_here stage.program.now stage.trace (take place ms) shown.0 m (drop (place + 1) ms) c.in-Some.reason (s.told ∙ c.in-Some.is) in
+    let stop = ap (difference_from stage.program.now stage.trace (take place ms) shown.0) (drop_more ms place (Arrive 0) inside) ∙ stops_here stage.program.now stage.trace (take place ms) shown.0 m (drop (place + 1) ms) c.in-Some.reason (s.named ∙ c.in-Some.is) in
     let long : length (take place ms) ≡ place = length-take-le place ms (omega arith) in
     ap (λ k. Some (AtMoment c.in-Some.reason k c.rid_of.result)) (sym long)
     ∙ ap (λ r. Some (AtMoment c.in-Some.reason (length (take place ms)) r)) c.rid_of.ensures
@@ -50,7 +50,7 @@ loop-place-preserved g c =
       subst (λ past. Shows past next c.step.new.self) (sym taken) (s.shown c.in_default.is),
       steps_on _ stage c.step.new.self (take place ms) shown.0 m (drop (place + 1) ms)
           (shown.2 ∙ ap (difference_from stage.program.now stage.trace (take place ms) shown.0) (drop_more ms place (Arrive 0) inside))
-          c.in_ok-reason.ensures.same (s.told ∙ c.in_default.is)
+          c.in_ok-reason.ensures.same (s.named ∙ c.in_default.is)
           ∙ ap (λ past. difference_from c.step.new.self.program.now c.step.new.self.trace past next (drop (place + 1) ms)) (sym taken),
     )
 

@@ -74,7 +74,7 @@ returns-clause-step g c = λ r here past scene h.
     let w = opened stage.program.now (request_of stage.trace r) answers (Wants op) k.0 in
     let next : next_of stage.program.now stage.trace scene r ≡ Some (Wants op) = ap (ending_with stage.program.now (request_of stage.trace r)) (h.answers r) ∙ k.0 in
     record {
-      told = act_told stage.program.now stage.trace scene r c.args.choice op true next (c.take.ensures op (scene.objects op.object) k.1 ∙ c.if-not-take.false);
+      named = act_told stage.program.now stage.trace scene r c.args.choice op true next (c.take.ensures op (scene.objects op.object) k.1 ∙ c.if-not-take.false);
       shown = λ _. shows_act stage.program.now stage.trace past scene (kept_of stage) r c.args.choice op w.1 c.in_ok-answer.answer _ h next w.3 (c.in_ok-answer.ensures.done c.args.choice)
           (put stage.trace ss c.put_answer.new.standings.items r c.args.place w.1 c.in_ok-answer.answer here inside w.3 c.in_ok-put_answer.ensures.put) refl;
     }

@@ -24,7 +24,7 @@ returns-then-self-place-clause-step c = λ r here past scene h.
     let new : has_arrived past r ≡ false = h.arrived r ∙ ap (λ s. not (is_away s)) away in
     let early = early_where past r (departed_in stage.trace ss) h.departed stage.trace stage.waiting c.args.place h.waits (sym (ap (λ o. unwrap_or o (length stage.trace)) here)) in
     record {
-      told = fault_is stage.trace past r true new (sym early ∙ lt-ltb stage.waiting c.args.place c.if-self-place.true);
+      named = fault_is stage.trace past r true new (sym early ∙ lt-ltb stage.waiting c.args.place c.if-self-place.true);
       shown = λ e. absurd (cc);
     }
 
@@ -49,6 +49,6 @@ returns-clause-step c = λ r here past scene h.
     let P : List Datum → Type 0 = λ ds. Puts stage.trace ss (set ss c.args.place (Open c.new.result)) r (Open ds) in
     let puts : P [] = subst P c.new.ensures (puts_at stage.trace ss r c.args.place (Open c.new.result) here inside) in
     record {
-      told = fault_is stage.trace past r false new (sym early ∙ not_below stage.waiting c.args.place c.if-self-place.false);
+      named = fault_is stage.trace past r false new (sym early ∙ not_below stage.waiting c.args.place c.if-self-place.false);
       shown = λ e. shows_arrival stage.program.now stage.trace past scene (kept_of stage) r _ h away puts refl refl;
     }

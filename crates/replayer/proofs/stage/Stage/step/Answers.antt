@@ -10,7 +10,7 @@ pub returns-in_default-clause-step : goal.returns-in_default-clause-step
 returns-in_default-clause-step g c = λ past scene h.
     let stage = c.args.self.now in
     let absent : request_place stage.trace (rid_of c.args.moment) ≡ None = ap (request_place stage.trace) (sym c.rid_of.ensures) ∙ sym c.place.ensures.place ∙ c.in_default.is in
-    record { told = unknown_fault stage.program.now stage.trace past scene c.args.moment absent; shown = λ e. absurd (cc) }
+    record { named = unknown_fault stage.program.now stage.trace past scene c.args.moment absent; shown = λ e. absurd (cc) }
 
 pub returns-in-Arrive-clause-step : goal.returns-in-Arrive-clause-step
 returns-in-Arrive-clause-step g c =

@@ -1,5 +1,6 @@
-ghost use Rattle.std.specs.Prelude.{◌<◌, ◌^◌};
+ghost use Rattle.std.specs.Prelude.{◌<◌, ◌^◌, IfOk};
 ghost use Rattle.basis.specs.UnlessMemory.{UnlessMemory};
+ghost use Rattle.script_tree.specs.Traces.{IsBalanced};
 ghost use Rattle.command_inputs.specs.Faults.{UsesToRead};
 ghost use Rattle.command_inputs.specs.Inputs.{IsReadUnder};
 ghost use Rattle.command_inputs.specs.Trace.{trace_input, HasTraceFault, SpellsTrace};
@@ -42,6 +43,7 @@ pub fn read_trace<F: Shelf>(
     requires { most < 2 ^ 63 }
     ensures read { let input = trace_input most in
         IsReadUnder (λ trace. trace) input (F.told shelf.old) name.now result }
+    ensures balanced { IfOk result IsBalanced }
     ensures used { UsesToRead (F.told shelf.old) (F.told shelf.new) result }
 {
     let bytes = read_whole(alloc, shelf, Role::Trace, name, most)?;

@@ -1,5 +1,4 @@
-pub mod Pieces
-pub mod ReadOneWay
-pub mod StateFacts
+pub mod Fronts
+pub mod Steps
 pub mod Verdicts
 pub mod WordsRead

@@ -1,37 +1,44 @@
--- What the verdicts of a replay mean.
-use Rattle.std.specs.Prelude.{◌≡◌, ℕ, ◌≤◌, List, length, Some, Result, Ok}
+-- What the statuses of a replay mean.
+use Rattle.std.specs.Prelude.{◌≡◌, ℕ, List, Some, Result, Ok}
 use Rattle.std.specs.FinMap.{get}
 use Rattle.outside.specs.Files.{Files}
-use Rattle.script_tree.specs.declared.schedule.Moment.{Moment}
-use Rattle.script_tree.specs.declared.syntax.declaration.Declaration.{Declaration}
-use Rattle.script_tree.specs.declared.trace.TraceEvent.{TraceEvent}
 use Rattle.script_meaning.specs.Explains.{Explains}
+use Rattle.script_tree.specs.Objects.{Objects}
+use Rattle.script_tree.specs.Programs.{Program}
+use Rattle.script_tree.specs.declared.schedule.Moment.{Moment}
+use Rattle.script_tree.specs.declared.trace.TraceEvent.{TraceEvent}
+use Rattle.wire.specs.declared.limits.TheConstants.{MOST_FILE_BYTES, MOST_SCHEDULE_BYTES}
 use Rattle.replayer.specs.Laws.{ExplainsIfRead}
-use Rattle.commands.specs.State.{Given, given_objects, SpellsState}
+use Rattle.command_inputs.specs.Inputs.{IsInput}
+use Rattle.command_inputs.specs.Program.{program_input}
+use Rattle.command_inputs.specs.Schedule.{schedule_input}
+use Rattle.command_inputs.specs.State.{state_input}
+use Rattle.command_inputs.specs.Trace.{trace_input}
 use Rattle.commands.specs.Words.{ReplayNames, replay_names}
-use Rattle.commands.specs.Outcome.{SpellsProgram, SpellsTrace, SpellsSchedule}
 
--- The file under this name is within its limit and spells this.
-abbrev pub IsFile : {A : Type 0} → Files → List ℕ → ℕ → (List ℕ → A → Type 0) → A → Type 0
-IsFile files name limit Spells x = (bytes : List ℕ) × (get files name ≡ Some bytes) × (length bytes ≤ limit) × Spells bytes x
-
--- The words name the files of a replay, and these spell this program, these registers, this trace, and this schedule, or none from a place on.
-pub record AreSpelled (words : List (List ℕ)) (files : Files) (program : List Declaration) (given : Given) (trace : List TraceEvent) (schedule : Result (List Moment) ℕ) : Type 0 where
+-- The words name the files of a replay. These spell this program, what the objects hold at first,
+-- this trace, and this schedule, or none from a place on.
+pub record AreSpelled (words : List (List ℕ)) (files : Files) (program : Program) (start : Objects)
+    (trace : List TraceEvent) (schedule : Result (List Moment) ℕ) : Type 0 where
   pub names : ReplayNames
   pub asked : replay_names words ≡ Some names
-  pub program_file : IsFile files names.program 1073741824 SpellsProgram program
-  pub state_file : IsFile files names.state 1073741824 SpellsState given
-  pub trace_file : IsFile files names.trace 1073741824 SpellsTrace trace
-  pub schedule_file : IsFile files names.schedule 1073807360 SpellsSchedule schedule
+  pub program_file : IsInput (program_input MOST_FILE_BYTES) (get files names.program) (Ok program)
+  pub state_file : IsInput (state_input MOST_FILE_BYTES) (get files names.state) (Ok start)
+  pub trace_file : IsInput (trace_input MOST_FILE_BYTES) (get files names.trace) (Ok trace)
+  pub schedule_file :
+      IsInput (schedule_input MOST_SCHEDULE_BYTES) (get files names.schedule) (Ok schedule)
 
 -- The schedule that the files spell explains the trace that they spell.
 abbrev pub IsExplained : List (List ℕ) → Files → Type 0
 IsExplained words files =
-    (program : List Declaration) × (given : Given) × (trace : List TraceEvent) × (schedule : List Moment)
-    × AreSpelled words files program given trace (Ok schedule) × Explains program (given_objects given) trace schedule
+    (program : Program) × (start : Objects) × (trace : List TraceEvent) × (schedule : List Moment)
+    × AreSpelled words files program start trace (Ok schedule)
+    × Explains program start trace schedule
 
 -- The files spell no schedule, or one that doesn't explain the trace that they spell.
 abbrev pub IsUnexplained : List (List ℕ) → Files → Type 0
 IsUnexplained words files =
-    (program : List Declaration) × (given : Given) × (trace : List TraceEvent) × (schedule : Result (List Moment) ℕ)
-    × AreSpelled words files program given trace schedule × (ExplainsIfRead program (given_objects given) trace schedule → ⊥)
+    (program : Program) × (start : Objects) × (trace : List TraceEvent)
+    × (schedule : Result (List Moment) ℕ)
+    × AreSpelled words files program start trace schedule
+    × (ExplainsIfRead program start trace schedule → ⊥)

@@ -1,11 +1,8 @@
 pub mod Explained
-pub mod Halts
-pub mod Inputs
 pub mod Lines
 pub mod NamesView
 pub mod Outcome
-pub mod State
-pub mod Traces
+pub mod Printing
+pub mod Runs
 pub mod Words
 pub mod WordsApp
-pub mod Writing

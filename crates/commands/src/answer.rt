@@ -1,104 +1,86 @@
 ghost use Rattle.std.specs.Prelude.{◌≡◌, IfOk, string_bytes};
-ghost use Rattle.commands.specs.Lines.{difference_line, line_of, role_name, status_of, told};
+ghost use Rattle.commands.specs.Lines.{difference_line, fault_line, finding_of, line_of, status_of};
 
-use crate::state::StateFault;
+use command_inputs::{InputFault, TraceFault};
 use replayer::{ReplayReason, Replayed};
 use std::alloc::{AllocError, Global};
 
-/// What an input is to a command.
+/// What a replay found.
 #[derive(Clone, Copy, Debug, PartialEq, Eq)]
-pub enum Role {
-    Program,
-    State,
-    Trace,
-    Schedule,
-}
-
-impl Role {
-    /// The word for it at the start of a line.
-    pub fn name(self) -> &'static str
-        ensures { result.now ≡ role_name self }
-    {
-        match self {
-            Role::Program => "program",
-            Role::State => "state",
-            Role::Trace => "trace",
-            Role::Schedule => "schedule",
-        }
-    }
-}
-
-/// The end of a command. Offsets count from 0.
-#[derive(Clone, Copy, Debug, PartialEq, Eq)]
-pub enum Answer {
-    /// The words aren't those of a command.
-    Usage,
-    /// An input isn't there.
-    Absent(Role),
-    /// An input has more bytes than its limit.
-    TooLong(Role),
-    /// The program isn't one of those that are built.
-    NotBuilt,
-    StateFault(StateFault),
-    /// The trace's first bad record begins here.
-    TraceUnreadable(u64),
-    /// This request names the fault of a trace that isn't balanced.
-    TraceUnbalanced(u32),
+pub enum Finding {
     /// The schedule agrees with the trace; it has so many moments.
     Agrees(u64),
     Differs(ReplayReason),
 }
 
-impl Answer {
-    /// What a replay of a schedule of so many moments found.
-    pub fn told(moments: u64, replayed: Replayed) -> Answer
-        ensures { result ≡ told moments replayed }
+/// What a command answers.
+#[derive(Clone, Copy, Debug, PartialEq, Eq)]
+pub enum Answer {
+    /// The words aren't those of a command.
+    Usage,
+    /// The first input at fault has this fault.
+    Input(InputFault),
+    Replay(Finding),
+}
+
+impl Finding {
+    /// What was found in a schedule of so many moments.
+    pub fn new(moments: u64, replayed: Replayed) -> Finding
+        ensures { result ≡ finding_of moments replayed }
     {
         match replayed {
-            Replayed::Agrees => Answer::Agrees(moments),
-            Replayed::Differs(reason) => Answer::Differs(reason),
+            Replayed::Agrees => Finding::Agrees(moments),
+            Replayed::Differs(reason) => Finding::Differs(reason),
         }
     }
+}
 
-    /// The exit status that tells of it.
+impl Answer {
+    /// The exit status for it.
     pub fn status(self) -> u8
         ensures { result ≡ status_of self }
     {
         match self {
-            Answer::Agrees(_) => 0,
-            Answer::Differs(_) => 1,
+            Answer::Replay(Finding::Agrees(_)) => 0,
+            Answer::Replay(Finding::Differs(_)) => 1,
             Answer::Usage => 2,
-            Answer::Absent(_)
-            | Answer::TooLong(_)
-            | Answer::NotBuilt
-            | Answer::StateFault(_)
-            | Answer::TraceUnreadable(_)
-            | Answer::TraceUnbalanced(_) => 3,
+            Answer::Input(_) => 3,
         }
     }
 
-    /// The line that tells of it.
+    /// The line that is printed for it.
     pub fn line(self, alloc: Global) -> Result<String, AllocError>
         ensures { IfOk result (λ line. string_bytes line ≡ line_of self) }
     {
         match self {
             Answer::Usage => String::from_str(alloc, "usage\n"),
-            Answer::Absent(role) => format!(in alloc; "{}: absent\n", role.name()),
-            Answer::TooLong(role) => format!(in alloc; "{}: too long\n", role.name()),
-            Answer::NotBuilt => String::from_str(alloc, "program: not built\n"),
-            Answer::StateFault(fault) => format!(in alloc; "state: kind {}\n", fault.kind()),
-            Answer::TraceUnreadable(at) => format!(in alloc; "trace: unreadable at {at}\n"),
-            Answer::TraceUnbalanced(rid) => {
-                format!(in alloc; "trace: not balanced at request {rid}\n")
+            Answer::Input(fault) => fault_line(alloc, fault),
+            Answer::Replay(Finding::Agrees(moments)) => {
+                format!(in alloc; "agrees: moments {moments}\n")
             }
-            Answer::Agrees(moments) => format!(in alloc; "agrees: moments {moments}\n"),
-            Answer::Differs(reason) => difference(alloc, reason),
+            Answer::Replay(Finding::Differs(reason)) => difference_line(alloc, reason),
         }
     }
 }
 
-/// The line that tells why a schedule differs.
-fn difference(alloc: Global, reason: ReplayReason) -> Result<String, AllocError>
+fn fault_line(alloc: Global, fault: InputFault) -> Result<String, AllocError>
+    ensures { IfOk result (λ line. string_bytes line ≡ fault_line fault) }
+{
+    match fault {
+        InputFault::Absent(role) => format!(in alloc; "{}: absent\n", role.name()),
+        InputFault::TooLong(role) => format!(in alloc; "{}: too long\n", role.name()),
+        InputFault::NotBuilt => String::from_str(alloc, "program: not built\n"),
+        InputFault::State(fault) => format!(in alloc; "state: kind {}\n", fault.kind()),
+        InputFault::Trace(TraceFault::Unreadable(at)) => {
+            format!(in alloc; "trace: unreadable at {at}\n")
+        }
+        InputFault::Trace(TraceFault::Unbalanced(rid)) => {
+            format!(in alloc; "trace: not balanced at request {rid}\n")
+        }
+    }
+}
+
+fn difference_line(alloc: Global, reason: ReplayReason) -> Result<String, AllocError>
     ensures { IfOk result (λ line. string_bytes line ≡ difference_line reason) }
 {
     let number = reason.number();

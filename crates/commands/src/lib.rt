@@ -2,12 +2,9 @@
 #![tactic(auto)]
 
 pub mod answer;
-pub mod files;
-pub mod line;
+pub mod print;
 pub mod replay;
 pub mod run;
-pub mod state;
 #[cfg(test)]
 mod tests;
-pub mod trace;
 pub mod words;

@@ -1,0 +1,68 @@
+ghost use Rattle.std.specs.Prelude.{◌≡◌};
+ghost use Rattle.command_inputs.specs.Faults.{refused};
+ghost use Rattle.command_inputs.specs.declared.fault.InputError.TheVariants.{Fault, Halt as Halts};
+ghost use Rattle.command_inputs.specs.declared.halt.Halt.TheVariants.{Memory};
+
+use crate::halt::Halt;
+use crate::role::Role;
+use crate::state::StateFault;
+use outside::ShelfFault;
+use std::alloc::AllocError;
+
+/// What is wrong with a trace.
+#[derive(Clone, Copy, Debug, PartialEq, Eq)]
+pub enum TraceFault {
+    /// Its first bad record begins at this byte, from 0.
+    Unreadable(u64),
+    /// It isn't balanced; the request of this id names the fault.
+    Unbalanced(u32),
+}
+
+/// What is wrong with an input.
+#[derive(Clone, Copy, Debug, PartialEq, Eq)]
+pub enum InputFault {
+    /// It isn't there.
+    Absent(Role),
+    /// It has more bytes than its limit.
+    TooLong(Role),
+    /// The program isn't one of those that are built.
+    NotBuilt,
+    State(StateFault),
+    Trace(TraceFault),
+}
+
+/// Why an input was not read.
+#[derive(Clone, Copy, Debug, PartialEq, Eq)]
+pub enum InputError {
+    Fault(InputFault),
+    Halt(Halt),
+}
+
+impl InputError {
+    /// Why an input was not read, where the shelf refused a read of it.
+    pub fn refused(role: Role, fault: ShelfFault) -> InputError
+        ensures { result ≡ refused role fault }
+    {
+        match fault {
+            ShelfFault::Absent => InputError::Fault(InputFault::Absent(role)),
+            ShelfFault::Failed => InputError::Halt(Halt::Failed),
+            ShelfFault::Memory => InputError::Halt(Halt::Memory),
+        }
+    }
+}
+
+impl From<InputFault> for InputError {
+    ghost from_gives = { λ fault error. error ≡ Fault fault };
+
+    fn from(fault: InputFault) -> InputError {
+        InputError::Fault(fault)
+    }
+}
+
+impl From<AllocError> for InputError {
+    ghost from_gives = { λ _ error. error ≡ Halts Memory };
+
+    fn from(_: AllocError) -> InputError {
+        InputError::Halt(Halt::Memory)
+    }
+}

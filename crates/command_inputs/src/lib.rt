@@ -1,0 +1,22 @@
+//! The inputs of commands. Each is read from a shelf by one function, whole and within a limit that
+//! the command gives, and is decoded; or it is told why it ends the command.
+#![tactic(auto)]
+
+pub mod fault;
+pub mod file;
+pub mod halt;
+pub mod program;
+pub mod role;
+pub mod schedule;
+pub mod state;
+#[cfg(test)]
+mod tests;
+pub mod trace;
+
+pub use fault::{InputError, InputFault, TraceFault};
+pub use halt::Halt;
+pub use program::read_program;
+pub use role::Role;
+pub use schedule::read_schedule;
+pub use state::{StateFault, read_state};
+pub use trace::read_trace;

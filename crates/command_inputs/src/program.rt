@@ -1,0 +1,31 @@
+ghost use Rattle.std.specs.Prelude.{◌<◌, ◌^◌};
+ghost use Rattle.command_inputs.specs.Faults.{UsesToRead};
+ghost use Rattle.command_inputs.specs.Inputs.{IsReadUnder};
+ghost use Rattle.command_inputs.specs.Program.{program_input};
+
+use crate::fault::{InputError, InputFault};
+use crate::file::read_whole;
+use crate::role::Role;
+use outside::Shelf;
+use script_syntax::straight_line;
+use script_tree::syntax::program::Program;
+use std::alloc::Global;
+
+/// Reads the program whose file has this name.
+pub fn read_program<F: Shelf>(
+    alloc: Global,
+    shelf: &mut F,
+    name: &str,
+    most: usize,
+) -> Result<Program, InputError>
+    requires { most < 2 ^ 63 }
+    ensures read { let input = program_input most in
+        IsReadUnder (λ program. program) input (F.told shelf.old) name.now result }
+    ensures used { UsesToRead (F.told shelf.old) (F.told shelf.new) result }
+{
+    let bytes = read_whole(alloc, shelf, Role::Program, name, most)?;
+    match straight_line::read_program(alloc, &bytes)? {
+        Some(program) => Ok(program),
+        None => Err(InputError::Fault(InputFault::NotBuilt)),
+    }
+}

@@ -1,0 +1,25 @@
+ghost use Rattle.std.specs.Prelude.{◌≡◌};
+ghost use Rattle.command_inputs.specs.Roles.{role_name};
+
+/// What an input is to a command.
+#[derive(Clone, Copy, Debug, PartialEq, Eq)]
+pub enum Role {
+    Program,
+    State,
+    Trace,
+    Schedule,
+}
+
+impl Role {
+    /// The word for it, by which its line begins.
+    pub fn name(self) -> &'static str
+        ensures { result.now ≡ role_name self }
+    {
+        match self {
+            Role::Program => "program",
+            Role::State => "state",
+            Role::Trace => "trace",
+            Role::Schedule => "schedule",
+        }
+    }
+}

@@ -1,0 +1,1 @@
+//! Inputs over files in memory.

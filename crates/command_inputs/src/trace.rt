@@ -1,0 +1,55 @@
+ghost use Rattle.std.specs.Prelude.{◌<◌, ◌^◌, IfOk};
+ghost use Rattle.basis.specs.UnlessMemory.{UnlessMemory};
+ghost use Rattle.script_tree.specs.Traces.{IsBalanced};
+ghost use Rattle.command_inputs.specs.Faults.{UsesToRead};
+ghost use Rattle.command_inputs.specs.Inputs.{IsReadUnder};
+ghost use Rattle.command_inputs.specs.Trace.{trace_input, HasTraceFault, SpellsTrace};
+
+use crate::fault::{InputError, InputFault, TraceFault};
+use crate::file::read_whole;
+use crate::halt::Halt;
+use crate::role::Role;
+use basis::OrMemory;
+use outside::Shelf;
+use script_tree::trace::Trace;
+use std::alloc::Global;
+use trace_format::balance::first_unbalanced;
+use trace_format::decoding::decode;
+
+/// The balanced trace that the bytes spell.
+fn decode_balanced(alloc: Global, bytes: &[u8]) -> Result<Trace, OrMemory<TraceFault>>
+    ensures { UnlessMemory (SpellsTrace bytes.now) (HasTraceFault bytes.now) result }
+{
+    let trace = match decode(alloc, bytes) {
+        Ok(trace) => trace,
+        Err(OrMemory::Memory) => return Err(OrMemory::Memory),
+        Err(OrMemory::Other(fault)) => {
+            return Err(OrMemory::Other(TraceFault::Unreadable(fault.at as u64)));
+        }
+    };
+    match first_unbalanced(alloc, &trace)? {
+        None => Ok(trace),
+        Some(rid) => Err(OrMemory::Other(TraceFault::Unbalanced(rid))),
+    }
+}
+
+/// Reads the trace whose file has this name; it is balanced.
+pub fn read_trace<F: Shelf>(
+    alloc: Global,
+    shelf: &mut F,
+    name: &str,
+    most: usize,
+) -> Result<Trace, InputError>
+    requires { most < 2 ^ 63 }
+    ensures read { let input = trace_input most in
+        IsReadUnder (λ trace. trace) input (F.told shelf.old) name.now result }
+    ensures balanced { IfOk result IsBalanced }
+    ensures used { UsesToRead (F.told shelf.old) (F.told shelf.new) result }
+{
+    let bytes = read_whole(alloc, shelf, Role::Trace, name, most)?;
+    match decode_balanced(alloc, &bytes) {
+        Ok(trace) => Ok(trace),
+        Err(OrMemory::Memory) => Err(InputError::Halt(Halt::Memory)),
+        Err(OrMemory::Other(fault)) => Err(InputError::Fault(InputFault::Trace(fault))),
+    }
+}

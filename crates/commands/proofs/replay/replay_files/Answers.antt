@@ -1,0 +1,62 @@
+use Rattle.std.proofs.Common.{◌≡◌, ◌∙◌, ℕ, Ok, Err, ap, sym, inr, length}
+use Rattle.replayer.specs.OnRegisters.{objects_of}
+use Rattle.commands.specs.Lines.{finding_of}
+use Rattle.commands.specs.NamesView.{names_of}
+use Rattle.commands.specs.Outcome.{IsFound, WithProgram, WithState, WithTrace}
+use Rattle.commands.proofs.Steps.{goes_on, ends}
+use Rattle.commands.specs.declared.answer.Answer.TheVariants.{Replay}
+use Rattle.commands.proofs.replay.replay_files.Goals as goal
+
+pub returns-in_err-trace-clause-answer : goal.returns-in_err-trace-clause-answer
+returns-in_err-trace-clause-answer g c = λ files told.
+    let told' = c.read_program.ensures.used.files ∙ told in
+    let told'' = c.read_state.ensures.used.files ∙ told' in
+    let program = c.in_ok-program.ensures.read files told in
+    let start = c.in_ok-start.ensures.read files told' in
+    let refused = c.in_err-trace.ensures.read files told'' in
+    let names = names_of c.args.names in
+    let held = objects_of c.in_ok-start.start in
+    goes_on _ _ _ (WithProgram files names) _ program
+    (goes_on _ _ _ (WithState files names c.in_ok-program.program) _ start
+    (ends (λ trace. trace) _ _ (WithTrace files names c.in_ok-program.program held) _ _ refused c.from_residual-in_err-trace.ensures.1))
+
+pub returns-in_err-schedule-clause-answer : goal.returns-in_err-schedule-clause-answer
+returns-in_err-schedule-clause-answer g c = λ files told.
+    let told' = c.read_program.ensures.used.files ∙ told in
+    let told'' = c.read_state.ensures.used.files ∙ told' in
+    let told3 = c.read_trace.ensures.used.files ∙ told'' in
+    let program = c.in_ok-program.ensures.read files told in
+    let start = c.in_ok-start.ensures.read files told' in
+    let trace = c.in_ok-trace.ensures.read files told'' in
+    let refused = c.in_err-schedule.ensures.read files told3 in
+    let names = names_of c.args.names in
+    let held = objects_of c.in_ok-start.start in
+    goes_on _ _ _ (WithProgram files names) _ program
+    (goes_on _ _ _ (WithState files names c.in_ok-program.program) _ start
+    (goes_on _ _ _ (WithTrace files names c.in_ok-program.program held) _ trace
+    (ends (λ schedule. schedule) _ _ (IsFound c.in_ok-program.program held c.in_ok-trace.trace)
+    _ _ refused c.from_residual-in_err-schedule.ensures.1)))
+
+pub returns-in-Ok-clause-answer : goal.returns-in-Ok-clause-answer
+returns-in-Ok-clause-answer g c = λ files told.
+    let told' = c.read_program.ensures.used.files ∙ told in
+    let told'' = c.read_state.ensures.used.files ∙ told' in
+    let told3 = c.read_trace.ensures.used.files ∙ told'' in
+    let program = c.in_ok-program.ensures.read files told in
+    let start = c.in_ok-start.ensures.read files told' in
+    let trace = c.in_ok-trace.ensures.read files told'' in
+    let schedule = rw c.in-Ok.is at c.in_ok-schedule.ensures.read files told3 in
+    let found = c.new.ensures ∙ (λ i. finding_of (c.len.ensures i) (c.in_ok-replayed-in-Ok.ensures.replayed i)) in
+    inr (_, program, inr (_, start, inr (_, trace, inr (_, schedule, ap Replay found))))
+
+pub returns-clause-answer : goal.returns-clause-answer
+returns-clause-answer g c = λ files told.
+    let told' = c.read_program.ensures.used.files ∙ told in
+    let told'' = c.read_state.ensures.used.files ∙ told' in
+    let told3 = c.read_trace.ensures.used.files ∙ told'' in
+    let program = c.in_ok-program.ensures.read files told in
+    let start = c.in_ok-start.ensures.read files told' in
+    let trace = c.in_ok-trace.ensures.read files told'' in
+    let schedule = rw c.in-Err.is at c.in_ok-schedule.ensures.read files told3 in
+    let found = c.new-in-Err.ensures ∙ ap (finding_of 0) c.in_ok-replayed-in-Err.ensures.replayed in
+    inr (_, program, inr (_, start, inr (_, trace, inr (_, schedule, ap Replay found))))

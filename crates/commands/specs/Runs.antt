@@ -3,12 +3,11 @@ use Rattle.std.specs.Prelude.{◌≡◌, ◌⊎◌, ℕ, List}
 use Rattle.std.specs.Option.{ForSome}
 use Rattle.outside.specs.Shelves.{ShelfTold, UsesShelf}
 use Rattle.outside.specs.Sinks.{SinkTold, UsesSink}
-use Rattle.outside.specs.Streams.{and_then}
 use Rattle.command_inputs.specs.Halts.{halt_status}
 use Rattle.command_inputs.specs.declared.halt.Halt.TheVariants.{Failed}
 use Rattle.commands.specs.Lines.{line_of, status_of}
 use Rattle.commands.specs.Outcome.{IsOutcome, IsAbsent}
-use Rattle.commands.specs.Printing.{HasFront}
+use Rattle.commands.specs.Printing.{HasFront, HasWhole}
 use Rattle.commands.specs.declared.answer.Answer.{Answer}
 
 -- Reads came to this answer: the outcome of the words, where the shelf tells its files. None failed,
@@ -19,7 +18,7 @@ pub record CameTo (words : List (List ℕ)) (old new : ShelfTold) (answer : Answ
 
 -- All of a line was written, and no write failed.
 pub record IsPrinted (old new : SinkTold) (line : List ℕ) : Type 0 where
-  pub written : new.written ≡ and_then old.written line
+  pub written : HasWhole old new line
   pub writes : UsesSink old new ⊥
 
 -- With the status of an answer: its whole line was printed.
@@ -42,7 +41,7 @@ pub record IsCut (words : List (List ℕ)) (shelf shelf' : ShelfTold) (out out' 
     (status : ℕ) : Type 0 where
   pub answer : Answer
   pub came : CameTo words shelf shelf' answer
-  pub front : HasFront out.written out'.written (line_of answer)
+  pub front : HasFront out out' (line_of answer)
   pub writes : UsesSink out out' (status ≡ halt_status Failed)
 
 -- With the status of a failure or of running out of memory.

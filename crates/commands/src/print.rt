@@ -1,8 +1,7 @@
 ghost use Rattle.std.specs.Prelude.{◌≡◌, Err, OnOk, OnErr};
 ghost use Rattle.outside.specs.Sinks.{UsesSink};
-ghost use Rattle.outside.specs.Streams.{and_then};
 ghost use Rattle.commands.specs.Lines.{line_of};
-ghost use Rattle.commands.specs.Printing.{HasFront};
+ghost use Rattle.commands.specs.Printing.{HasFront, HasWhole};
 ghost use Rattle.command_inputs.specs.declared.halt.Halt.TheVariants.{Failed};
 
 use crate::answer::Answer;
@@ -12,8 +11,8 @@ use std::alloc::Global;
 
 /// Writes all of the bytes, or a front part of them where it can't.
 pub fn write_all<O: Sink>(out: &mut O, bytes: &[u8]) -> Result<(), Halt>
-    ensures all { OnOk result ((O.told out.new).written ≡ and_then (O.told out.old).written bytes.now) }
-    ensures front { OnErr result (HasFront (O.told out.old).written (O.told out.new).written bytes.now) }
+    ensures all { OnOk result (HasWhole (O.told out.old) (O.told out.new) bytes.now) }
+    ensures front { OnErr result (HasFront (O.told out.old) (O.told out.new) bytes.now) }
     ensures used { UsesSink (O.told out.old) (O.told out.new) (result ≡ Err Failed) }
 {
     let mut done = 0;
@@ -25,10 +24,8 @@ pub fn write_all<O: Sink>(out: &mut O, bytes: &[u8]) -> Result<(), Halt>
 
 /// Prints the line of an answer.
 pub fn print_line<O: Sink>(alloc: Global, out: &mut O, answer: Answer) -> Result<(), Halt>
-    ensures all { let line = line_of answer in
-        OnOk result ((O.told out.new).written ≡ and_then (O.told out.old).written line) }
-    ensures front { let line = line_of answer in
-        OnErr result (HasFront (O.told out.old).written (O.told out.new).written line) }
+    ensures all { OnOk result (HasWhole (O.told out.old) (O.told out.new) (line_of answer)) }
+    ensures front { OnErr result (HasFront (O.told out.old) (O.told out.new) (line_of answer)) }
     ensures used { UsesSink (O.told out.old) (O.told out.new) (result ≡ Err Failed) }
 {
     let line = answer.line(alloc)?;

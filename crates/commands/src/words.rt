@@ -69,7 +69,8 @@ impl Words {
 
 /// The names, where these words are four of them.
 fn four_names(alloc: Global, words: &[String]) -> Result<Option<ReplayNames<'_>>, AllocError>
-    ensures { IfOk result (λ names. option_map names_of names ≡ in_four (names_in (map string_bytes words.now))) }
+    ensures { let names = in_four (names_in (map string_bytes words.now)) in
+        IfOk result (λ found. option_map names_of found ≡ names) }
 {
     match replay_command(alloc)?.try_get_matches_from(words) {
         Ok(matches) => Ok(found_names(&matches)),

@@ -16,7 +16,8 @@ use std::alloc::{AllocError, Global};
 
 /// The registers that a state gives, with their values.
 pub fn given_of(alloc: Global, json: &Json) -> Result<Option<Vec<(Text, Value)>>, AllocError>
-    ensures { IfOk result (λ o. option_map (λ given. given.items) o ≡ registers_of (view json.now)) }
+    ensures { let given = registers_of (view json.now) in
+        IfOk result (λ o. option_map (λ found. found.items) o ≡ given) }
 {
     if is_empty_object(json) {
         return Ok(Some(Vec::new(alloc)));

@@ -189,11 +189,19 @@ fn replays(alloc: Global, files: Files, status: u8, line: &[u8]) -> Result<bool,
     ends(alloc, &NAMES, &NAMES[1..], files, status, line)
 }
 
-/// Whether a replay of both pages differs, with this line.
-fn differs(alloc: Global, moments: &[Moment], line: &[u8]) -> Result<bool, AllocError> {
-    let trace = both_trace(alloc, b"", b"1")?;
+/// Whether a replay of both pages, which are answered so from this state, ends so.
+fn replays_both(
+    alloc: Global,
+    state: &[u8],
+    responses: [&[u8]; 2],
+    moments: &[Moment],
+    status: u8,
+    line: &[u8],
+) -> Result<bool, AllocError> {
+    let [first, second] = responses;
+    let trace = both_trace(alloc, first, second)?;
     let schedule = schedule_of(alloc, moments)?;
-    replays(alloc, [PAGES, b"{}", &trace, &schedule], 1, line)
+    replays(alloc, [PAGES, state, &trace, &schedule], status, line)
 }
 
 // ---- tests
@@ -233,7 +241,7 @@ fn differences(rt: HostRuntime) -> Result<(), Fail> {
         // no departure
         (&BOTH[..7], b"differs 10: request 1\n"),
     ] {
-        assert!(rt; differs(alloc, moments, line)?);
+        assert!(rt; replays_both(alloc, b"{}", [b"", b"1"], moments, 1, line)?);
     }
     Ok(())
 }
@@ -241,41 +249,27 @@ fn differences(rt: HostRuntime) -> Result<(), Fail> {
 #[test]
 fn pages_and_states(rt: HostRuntime) -> Result<(), Fail> {
     let alloc = rt.alloc();
-    let schedule = schedule_of(alloc, &BOTH)?;
-    for (state, first, second, status, line) in [
-        (
-            b"{}".as_slice(),
-            b"".as_slice(),
-            b"1".as_slice(),
-            0,
-            b"agrees: moments 8\n".as_slice(),
-        ),
-        (b"{}", b"", b"2", 1, b"differs 9: moment 7 request 1\n"),
-        (
-            b"{\"registers\":[[\"B\",5]]}",
-            b"5",
-            b"1",
-            0,
-            b"agrees: moments 8\n",
-        ),
+    let agrees = b"agrees: moments 8\n".as_slice();
+    let rows: [(&[u8], [&[u8]; 2], u8, &[u8]); 6] = [
+        (b"{}", [b"", b"1"], 0, agrees),
+        (b"{}", [b"", b"2"], 1, b"differs 9: moment 7 request 1\n"),
+        (b"{\"registers\":[[\"B\",5]]}", [b"5", b"1"], 0, agrees),
         (
             b"{\"registers\":[[\"B\",5],[\"B\",6]]}",
-            b"",
-            b"1",
+            [b"", b"1"],
             3,
             b"state: kind 5\n",
         ),
-        (b"{\"tables\":{}}", b"", b"1", 3, b"state: kind 2\n"),
+        (b"{\"tables\":{}}", [b"", b"1"], 3, b"state: kind 2\n"),
         (
             b"{\"registers\":[[\"B\",1.0]]}",
-            b"",
-            b"1",
+            [b"", b"1"],
             3,
             b"state: kind 2\n",
         ),
-    ] {
-        let trace = both_trace(alloc, first, second)?;
-        assert!(rt; replays(alloc, [PAGES, state, &trace, &schedule], status, line)?);
+    ];
+    for (state, responses, status, line) in rows {
+        assert!(rt; replays_both(alloc, state, responses, &BOTH, status, line)?);
     }
     Ok(())
 }

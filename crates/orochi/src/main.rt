@@ -9,7 +9,7 @@ use std::io::ErrorKind;
 use std::process::ExitCode;
 use std::{env, io};
 
-/// The status where memory is lacking.
+/// The status where the program ran out of memory before it could begin.
 const OUT_OF_MEMORY: u8 = 5;
 
 fn main(rt: HostRuntime) -> ExitCode {

@@ -2,6 +2,7 @@ ghost use Rattle.std.specs.Prelude.{◌≡◌};
 ghost use Rattle.basis.specs.declared.or_memory.OrMemory.TheVariants.{Memory};
 
 use std::alloc::{AllocError, AllocFailed};
+use std::fmt;
 
 /// Why a call has no value: it ran out of memory, or a fault of its own.
 #[derive(Debug, Drop, PartialEq, Eq)]
@@ -21,6 +22,15 @@ impl<E> OrMemory<E> {
         match self {
             OrMemory::Memory => OrMemory::Memory,
             OrMemory::Other(fault) => OrMemory::Other(wrap(fault)),
+        }
+    }
+}
+
+impl<E: fmt::Display> fmt::Display for OrMemory<E> {
+    fn fmt<W: fmt::Write>(&self, f: &mut fmt::Formatter<W>) -> fmt::Result {
+        match self {
+            OrMemory::Memory => write!(f, "out of memory"),
+            OrMemory::Other(fault) => write!(f, "{fault}"),
         }
     }
 }

@@ -8,6 +8,7 @@ use crate::role::Role;
 use crate::state::StateFault;
 use outside::ShelfFault;
 use std::alloc::AllocError;
+use std::fmt;
 
 /// What is wrong with a trace.
 #[derive(Clone, Copy, Debug, PartialEq, Eq)]
@@ -47,6 +48,37 @@ impl InputError {
             ShelfFault::Absent => InputError::Fault(InputFault::Absent(role)),
             ShelfFault::Failed => InputError::Halt(Halt::Failed),
             ShelfFault::Memory => InputError::Halt(Halt::Memory),
+        }
+    }
+}
+
+impl fmt::Display for TraceFault {
+    ghost use Rattle.std.specs.Prelude.{Some};
+    ghost use Rattle.command_inputs.specs.FaultTexts.{trace_fault_text};
+
+    ghost output = { λ fault. Some (trace_fault_text fault) };
+
+    fn fmt<W: fmt::Write>(&self, f: &mut fmt::Formatter<W>) -> fmt::Result {
+        match self {
+            TraceFault::Unreadable(at) => write!(f, "unreadable at {at}"),
+            TraceFault::Unbalanced(rid) => write!(f, "not balanced at request {rid}"),
+        }
+    }
+}
+
+impl fmt::Display for InputFault {
+    ghost use Rattle.std.specs.Prelude.{Some};
+    ghost use Rattle.command_inputs.specs.FaultTexts.{fault_text};
+
+    ghost output = { λ fault. Some (fault_text fault) };
+
+    fn fmt<W: fmt::Write>(&self, f: &mut fmt::Formatter<W>) -> fmt::Result {
+        match self {
+            InputFault::Absent(role) => write!(f, "{role}: absent"),
+            InputFault::TooLong(role) => write!(f, "{role}: too long"),
+            InputFault::NotBuilt => write!(f, "program: not built"),
+            InputFault::State(fault) => write!(f, "state: {fault}"),
+            InputFault::Trace(fault) => write!(f, "trace: {fault}"),
         }
     }
 }

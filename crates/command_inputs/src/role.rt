@@ -1,6 +1,8 @@
 ghost use Rattle.std.specs.Prelude.{◌≡◌};
 ghost use Rattle.command_inputs.specs.Roles.{role_name};
 
+use std::fmt;
+
 /// What an input is to a command.
 #[derive(Clone, Copy, Debug, PartialEq, Eq)]
 pub enum Role {
@@ -21,5 +23,15 @@ impl Role {
             Role::Trace => "trace",
             Role::Schedule => "schedule",
         }
+    }
+}
+
+impl fmt::Display for Role {
+    ghost use Rattle.std.specs.Prelude.{Some};
+
+    ghost output = { λ role. Some (role_name role) };
+
+    fn fmt<W: fmt::Write>(&self, f: &mut fmt::Formatter<W>) -> fmt::Result {
+        write!(f, "{}", self.name())
     }
 }

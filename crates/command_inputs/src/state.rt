@@ -20,6 +20,7 @@ use outside::Shelf;
 use replayer::Registers;
 use serde_json::Value as Json;
 use std::alloc::Global;
+use std::fmt;
 
 /// What is wrong with a state.
 #[derive(Clone, Copy, Debug, PartialEq, Eq)]
@@ -43,6 +44,17 @@ impl StateFault {
             StateFault::BeyondLimit => 4,
             StateFault::RegisterTwice => 5,
         }
+    }
+}
+
+impl fmt::Display for StateFault {
+    ghost use Rattle.std.specs.Prelude.{Some};
+    ghost use Rattle.command_inputs.specs.FaultTexts.{state_fault_text};
+
+    ghost output = { λ fault. Some (state_fault_text fault) };
+
+    fn fmt<W: fmt::Write>(&self, f: &mut fmt::Formatter<W>) -> fmt::Result {
+        write!(f, "kind {}", self.kind())
     }
 }
 

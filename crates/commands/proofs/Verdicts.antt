@@ -1,6 +1,5 @@
 -- From the outcome of a replay to what its status means.
 use Rattle.std.proofs.Common.{◌≡◌, ◌∙◌, subst, ℕ, List, Option, Some, None, Result, Ok, Err, refl, ap, sym, inl, inr}
-use Rattle.std.specs.FinMap.{get}
 use Rattle.outside.specs.Files.{Files}
 use Rattle.script_meaning.specs.Explains.{Explains}
 use Rattle.script_tree.specs.Objects.{Objects}
@@ -12,7 +11,7 @@ use Rattle.replayer.specs.declared.reason.ReplayReason.{ReplayReason}
 use Rattle.replayer.specs.Differences.{verdict}
 use Rattle.replayer.specs.Laws.{AgreesExactly, ExplainsIfRead}
 use Rattle.command_inputs.specs.Inputs.{Input, IsInput}
-use Rattle.command_inputs.specs.Trace.{SpellsTrace, trace_input}
+use Rattle.command_inputs.specs.Trace.{trace_input}
 use Rattle.commands.specs.Words.{ReplayNames, replay_names}
 use Rattle.commands.specs.Lines.{finding_of, status_of}
 use Rattle.commands.specs.Outcome.{WithInput, IsFound, IsOutcome, IsOutcomeOf, WithProgram, WithState, WithTrace}

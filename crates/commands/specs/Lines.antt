@@ -6,11 +6,7 @@ use Rattle.replayer.specs.declared.reason.ReplayReason.{ReplayReason}
 use Rattle.replayer.specs.declared.reason.ReplayReason.TheVariants as reason
 use Rattle.replayer.specs.declared.reason.Replayed.{Replayed}
 use Rattle.replayer.specs.declared.reason.Replayed.TheVariants as replayed
-use Rattle.command_inputs.specs.Roles.{role_name}
-use Rattle.command_inputs.specs.State.{fault_kind}
-use Rattle.command_inputs.specs.declared.fault.InputFault.{InputFault}
-use Rattle.command_inputs.specs.declared.fault.InputFault.TheVariants.{Absent, TooLong, NotBuilt, State, Trace}
-use Rattle.command_inputs.specs.declared.fault.TraceFault.TheVariants.{Unreadable, Unbalanced}
+use Rattle.command_inputs.specs.FaultTexts.{fault_text}
 use Rattle.commands.specs.declared.answer.Answer.{Answer}
 use Rattle.commands.specs.declared.answer.Answer.TheVariants.{Usage, Input, Replay}
 use Rattle.commands.specs.declared.answer.Finding.{Finding}
@@ -38,18 +34,8 @@ difference_line (reason.AtMoment why moment rid) =
 difference_line (reason.Open rid) =
     codes "differs " ++ (decimal 10 ++ (codes ": request " ++ (decimal rid ++ codes "\n")))
 
-abbrev pub fault_line : InputFault → List ℕ
-fault_line (Absent role) = role_name role ++ codes ": absent\n"
-fault_line (TooLong role) = role_name role ++ codes ": too long\n"
-fault_line NotBuilt = codes "program: not built\n"
-fault_line (State fault) = codes "state: kind " ++ (decimal (fault_kind fault) ++ codes "\n")
-fault_line (Trace (Unreadable at)) =
-    codes "trace: unreadable at " ++ (decimal at ++ codes "\n")
-fault_line (Trace (Unbalanced rid)) =
-    codes "trace: not balanced at request " ++ (decimal rid ++ codes "\n")
-
 abbrev pub line_of : Answer → List ℕ
 line_of (Replay (Agrees moments)) = codes "agrees: moments " ++ (decimal moments ++ codes "\n")
 line_of (Replay (Differs reason)) = difference_line reason
 line_of Usage = codes "usage\n"
-line_of (Input fault) = fault_line fault
+line_of (Input fault) = fault_text fault ++ codes "\n"

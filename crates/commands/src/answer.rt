@@ -1,7 +1,7 @@
 ghost use Rattle.std.specs.Prelude.{◌≡◌, IfOk, string_bytes};
-ghost use Rattle.commands.specs.Lines.{difference_line, fault_line, finding_of, line_of, status_of};
+ghost use Rattle.commands.specs.Lines.{difference_line, finding_of, line_of, status_of};
 
-use command_inputs::{InputFault, TraceFault};
+use command_inputs::InputFault;
 use replayer::{ReplayReason, Replayed};
 use std::alloc::{AllocError, Global};
 
@@ -54,28 +54,11 @@ impl Answer {
     {
         match self {
             Answer::Usage => String::from_str(alloc, "usage\n"),
-            Answer::Input(fault) => fault_line(alloc, fault),
+            Answer::Input(fault) => format!(in alloc; "{fault}\n"),
             Answer::Replay(Finding::Agrees(moments)) => {
                 format!(in alloc; "agrees: moments {moments}\n")
             }
             Answer::Replay(Finding::Differs(reason)) => difference_line(alloc, reason),
-        }
-    }
-}
-
-fn fault_line(alloc: Global, fault: InputFault) -> Result<String, AllocError>
-    ensures { IfOk result (λ line. string_bytes line ≡ fault_line fault) }
-{
-    match fault {
-        InputFault::Absent(role) => format!(in alloc; "{}: absent\n", role.name()),
-        InputFault::TooLong(role) => format!(in alloc; "{}: too long\n", role.name()),
-        InputFault::NotBuilt => String::from_str(alloc, "program: not built\n"),
-        InputFault::State(fault) => format!(in alloc; "state: kind {}\n", fault.kind()),
-        InputFault::Trace(TraceFault::Unreadable(at)) => {
-            format!(in alloc; "trace: unreadable at {at}\n")
-        }
-        InputFault::Trace(TraceFault::Unbalanced(rid)) => {
-            format!(in alloc; "trace: not balanced at request {rid}\n")
         }
     }
 }

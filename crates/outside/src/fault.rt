@@ -1,3 +1,5 @@
+use std::fmt;
+
 /// Why a shelf did not do what it was asked.
 #[derive(Clone, Copy, Debug, PartialEq, Eq)]
 pub enum ShelfFault {
@@ -16,4 +18,23 @@ pub enum Fault {
     Failed,
     /// It ran out of memory.
     Memory,
+}
+
+impl fmt::Display for ShelfFault {
+    fn fmt<W: fmt::Write>(&self, f: &mut fmt::Formatter<W>) -> fmt::Result {
+        match self {
+            ShelfFault::Absent => write!(f, "absent"),
+            ShelfFault::Failed => write!(f, "failed"),
+            ShelfFault::Memory => write!(f, "out of memory"),
+        }
+    }
+}
+
+impl fmt::Display for Fault {
+    fn fmt<W: fmt::Write>(&self, f: &mut fmt::Formatter<W>) -> fmt::Result {
+        match self {
+            Fault::Failed => write!(f, "failed"),
+            Fault::Memory => write!(f, "out of memory"),
+        }
+    }
 }

@@ -1,8 +1,7 @@
 -- What a program does with a request, where these are the answers to its operations.
 use Rattle.std.specs.Prelude.{ℕ, ◌+◌, Bool, List, [], ◌∷◌, ◌++◌, Option, Some, None, codes}
-use Rattle.std.specs.Fmt.{decimal}
 use Rattle.script_tree.specs.Datum.{Datum}
-use Rattle.script_tree.specs.Faults.{fault_number}
+use Rattle.script_tree.specs.Faults.{fault_text}
 use Rattle.script_tree.specs.Programs.{Program}
 use Rattle.script_tree.specs.Requests.{Request}
 use Rattle.script_tree.specs.SyntaxLists.{statements_of}
@@ -45,7 +44,7 @@ unless_left [] ending = ending
 unless_left (d ∷ ds) ending = Undefined
 
 abbrev pub fault_response : ScriptFault → Response
-fault_response f = record { status = FAULT_STATUS; body = codes "fault " ++ (decimal (fault_number f) ++ 10 ∷ []) }
+fault_response f = record { status = FAULT_STATUS; body = fault_text f ++ codes "\n" }
 
 abbrev pub over : ℕ → Progress → Response → End → Ending
 over page p response end = unless_left p.answers (Ends response (path_of page p end))

@@ -1,5 +1,5 @@
--- The numbers of script faults.
-use Rattle.std.specs.Prelude.{ℕ}
+-- The numbers of script faults, and how they are printed.
+use Rattle.std.specs.Prelude.{ℕ, List, ◌++◌, codes, decimal}
 use Rattle.script_tree.specs.declared.fault.ScriptFault.{ScriptFault}
 use Rattle.script_tree.specs.declared.fault.ScriptFault.TheVariants.{WrongKind, Overflow, ZeroDivisor, OutOfRange, TooLarge, OutOfSteps, TooManyOperations, TooDeep, BadBound}
 
@@ -13,3 +13,6 @@ fault_number OutOfSteps = 6
 fault_number TooManyOperations = 7
 fault_number TooDeep = 8
 fault_number BadBound = 9
+
+abbrev pub fault_text : ScriptFault → List ℕ
+fault_text f = codes "fault " ++ decimal (fault_number f)

@@ -54,11 +54,9 @@ pub fn no_page(alloc: Global) -> Result<WalkerStep, AllocError>
 fn fault_response(alloc: Global, fault: ScriptFault) -> Result<Response, AllocError>
     ensures { IfOk result (λ response. response ≡ fault_response fault) }
 {
-    let mut body = b"fault ".to_vec(alloc)?;
-    body.extend_from_slice(fault.number().to_string(alloc)?.as_bytes())?;
-    body.push(b'\n')?;
+    let line = format!(in alloc; "{fault}\n")?;
     Ok(Response {
         status: FAULT_STATUS,
-        body: Text::from_vec(body),
+        body: Text::from_vec(line.into_bytes()),
     })
 }

@@ -2,6 +2,7 @@ ghost use Rattle.std.specs.Prelude.{◌≡◌};
 ghost use Rattle.basis.specs.declared.or_memory.OrMemory.TheVariants.{Other};
 
 use basis::OrMemory;
+use std::fmt;
 
 /// No spelling of the field begins at this place, or none of a record that may stand there. Of a
 /// file without its magic, the place is 0.
@@ -14,6 +15,18 @@ pub struct Unreadable {
 #[derive(Clone, Copy, Debug, PartialEq, Eq)]
 pub struct PastLimit {
     pub at: usize,
+}
+
+impl fmt::Display for Unreadable {
+    fn fmt<W: fmt::Write>(&self, f: &mut fmt::Formatter<W>) -> fmt::Result {
+        write!(f, "unreadable at {}", self.at)
+    }
+}
+
+impl fmt::Display for PastLimit {
+    fn fmt<W: fmt::Write>(&self, f: &mut fmt::Formatter<W>) -> fmt::Result {
+        write!(f, "past the limit at {}", self.at)
+    }
 }
 
 impl From<Unreadable> for OrMemory<Unreadable> {

@@ -1,4 +1,4 @@
-use Rattle.std.proofs.Common.{◌≡◌, ◌∙◌, ℕ, Ok, Err, ap, sym, inr, length}
+use Rattle.std.proofs.Common.{◌∙◌, ap, inr}
 use Rattle.replayer.specs.OnRegisters.{objects_of}
 use Rattle.commands.specs.Lines.{finding_of}
 use Rattle.commands.specs.NamesView.{names_of}

@@ -1,4 +1,4 @@
-ghost use Rattle.std.specs.Prelude.{◌≡◌};
+ghost use Rattle.std.specs.Prelude.{◌≡◌, IfOk};
 ghost use Rattle.script_syntax.specs.Reader.{of_name, read_from, literal, atom, write_from, item_from, ended_item, statement_from, statement, Reads};
 
 use crate::refusal::{NotSpelled, Refusal};
@@ -9,16 +9,17 @@ use script_tree::syntax::expression::{Expression, ExpressionNode, Expressions};
 use script_tree::syntax::name::Name;
 use script_tree::syntax::statement::{Statement, StatementNode};
 use script_tree::text::Text;
-use std::alloc::Global;
+use std::alloc::{AllocError, Global};
+use std::sync::Arc;
 
-fn of_name(name: Name) -> Expression
-    ensures { result ≡ of_name name }
+fn of_name(alloc: Global, name: Name) -> Result<Expression, AllocError>
+    ensures { IfOk result (λ e. e ≡ of_name name) }
 {
     let Name { at, text } = name;
-    Expression {
+    Ok(Expression {
         at,
-        node: ExpressionNode::Text(text),
-    }
+        node: ExpressionNode::Text(Arc::new(alloc, text)?),
+    })
 }
 
 /// The rest of a read.
@@ -29,7 +30,7 @@ fn read(alloc: Global, tokens: &mut Tokens, at: usize, name: Text) -> Result<Exp
     let register = tokens.text()?;
     tokens.word(Word::Close)?;
     let mut arguments = Vec::new(alloc);
-    arguments.push(of_name(register))?;
+    arguments.push(of_name(alloc, register)?)?;
     Ok(Expression {
         at,
         node: ExpressionNode::Call(name, Expressions::from_vec(arguments)),
@@ -47,7 +48,7 @@ fn literal(alloc: Global, tokens: &mut Tokens, token: Token) -> Result<Expressio
         }),
         Kind::Text(text) => Ok(Expression {
             at,
-            node: ExpressionNode::Text(text),
+            node: ExpressionNode::Text(Arc::new(alloc, text)?),
         }),
         Kind::Name(name) => {
             if name.as_bytes() == b"read".as_slice() {
@@ -79,7 +80,7 @@ fn write(alloc: Global, tokens: &mut Tokens, at: usize, name: Text) -> Result<Ex
     let value = atom(alloc, tokens)?;
     tokens.word(Word::Close)?;
     let mut arguments = Vec::new(alloc);
-    arguments.push(of_name(register))?;
+    arguments.push(of_name(alloc, register)?)?;
     arguments.push(value)?;
     Ok(Expression {
         at,

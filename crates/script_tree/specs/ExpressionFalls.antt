@@ -33,7 +33,7 @@ each_assignment (t ∷ ts) = omega (arith, each_assignment ts)
 
 node_falls : (at : ℕ) (n : ExpressionNode) → deep-ExpressionNode n ≤ expression_weight (expression_of at n)
 node_falls at (Number n) = omega arith
-node_falls at (Text bytes) = omega arith
+node_falls at (Text shared) = omega arith
 node_falls at (Bool b) = omega arith
 node_falls at Null = omega arith
 node_falls at (Bracket e) = omega arith

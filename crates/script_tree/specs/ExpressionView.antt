@@ -17,7 +17,7 @@ assignment_of a = record { column = a.column; value = a.value }
 
 abbrev pub expression_of : ℕ → ExpressionNode → s.Expression
 expression_of at (Number n) = s.number at n
-expression_of at (Text bytes) = s.text at bytes
+expression_of at (Text shared) = s.text at shared.value
 expression_of at (Bool b) = s.truth at b
 expression_of at Null = s.null at
 expression_of at (Bracket e) = s.bracket at e.value

@@ -131,9 +131,16 @@ impl Value {
     pub fn text(alloc: Global, text: Text) -> Result<Value, AllocError>
         ensures { IfOk result (λ value. value ≡ texted text) }
     {
-        Ok(Value {
-            node: Node::Text(Arc::new(alloc, text)?),
-        })
+        Ok(Value::shared_text(Arc::new(alloc, text)?))
+    }
+
+    /// The value of a text that others have too.
+    pub fn shared_text(text: Arc<Text>) -> Value
+        ensures { result ≡ texted text.value }
+    {
+        Value {
+            node: Node::Text(text),
+        }
     }
 
     pub fn list(values: Values) -> Value

@@ -44,7 +44,7 @@ impl Walker<'_> {
             }
             ExpressionNode::Text(text) => {
                 run.charge()?;
-                Ok(Value::text(alloc, text.clone()?)?)
+                Ok(Value::shared_text(text.clone()?))
             }
             ExpressionNode::Call(name, operands) => self.eval_call(alloc, run, at, name, operands),
             _ => unreachable!(),

@@ -15,6 +15,7 @@ use script_tree::syntax::statement::{Block, Statement, StatementNode};
 use script_tree::text::Text;
 use script_tree::value::{Node, Value};
 use std::alloc::{AllocError, Global};
+use std::sync::Arc;
 use std::test::Fail;
 
 fn text(alloc: Global, bytes: &[u8]) -> Result<Text, AllocError> {
@@ -27,7 +28,7 @@ fn read(alloc: Global, register: &[u8]) -> Result<Expression, AllocError>
 {
     let name = Text::from_vec(b"read".to_vec(alloc)?);
     let mut operands = Vec::new(alloc);
-    let register = ExpressionNode::Text(text(alloc, register)?);
+    let register = ExpressionNode::Text(Arc::new(alloc, text(alloc, register)?)?);
     operands.push(Expression {
         at: 0,
         node: register,
@@ -44,7 +45,7 @@ fn write(alloc: Global, register: &[u8], number: i64) -> Result<Expression, Allo
 {
     let name = Text::from_vec(b"write".to_vec(alloc)?);
     let mut operands = Vec::new(alloc);
-    let register = ExpressionNode::Text(text(alloc, register)?);
+    let register = ExpressionNode::Text(Arc::new(alloc, text(alloc, register)?)?);
     operands.push(Expression {
         at: 0,
         node: register,

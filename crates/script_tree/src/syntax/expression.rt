@@ -4,6 +4,7 @@ use crate::syntax::operator::{BinaryOperator, UnaryOperator};
 use crate::text::Text;
 use basis::Items;
 use std::marker::Model;
+use std::sync::Arc;
 
 /// An expression.
 #[cycle(expression)]
@@ -18,7 +19,8 @@ pub struct Expression {
 #[derive(Drop)]
 pub enum ExpressionNode {
     Number(i64),
-    Text(Text),
+    /// A literal. The values that it is evaluated to share it.
+    Text(Arc<Text>),
     Bool(bool),
     Null,
     Bracket(Box<Expression>),

@@ -43,12 +43,13 @@ pub fn put_answer(
     place: usize,
     answer: Value,
 ) -> Result<(), AllocError>
-    requires { place < vec_len standings.old }
     ensures put { OnOk result (PutsAnswer standings.old.items place answer standings.new.items) }
     ensures refused { OnErr result (standings.new.items ≡ standings.old.items) }
     ensures len { vec_len standings.new ≡ vec_len standings.old }
 {
-    if let Standing::Open(answers) = &mut standings[place] {
+    if place < standings.len()
+        && let Standing::Open(answers) = &mut standings[place]
+    {
         answers.push(answer)?;
     }
     Ok(())
@@ -66,12 +67,11 @@ fn is_departed(standings: &[Standing], place: Option<usize>) -> bool
 
 /// Whether a response stands here whose request has not departed.
 fn waits(trace: &IndexedTrace, standings: &[Standing], place: usize) -> bool
-    requires { place < length trace.now }
     ensures { IsWaiting trace.now standings.now place result }
 {
-    match &trace.events()[place] {
-        TraceEvent::Asked(..) => false,
-        TraceEvent::Answered(..) => !is_departed(standings, trace.partner(place)),
+    match trace.events().get(place) {
+        Some(TraceEvent::Answered(..)) => !is_departed(standings, trace.partner(place)),
+        Some(TraceEvent::Asked(..)) | None => false,
     }
 }
 

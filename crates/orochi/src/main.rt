@@ -1,6 +1,9 @@
 //! The program: does what its words ask, and ends with the status.
 #![tactic(auto)]
 
+ghost use Rattle.std.specs.Prelude.{◌≡◌, IfOk, OnErr};
+ghost use Rattle.orochi.specs.declared.TheConstants.{OUT_OF_MEMORY};
+
 use commands::run::run;
 use commands::words::Words;
 use outside::{FixedClock, MemHouse, OpenGate};
@@ -13,7 +16,15 @@ use std::{env, io};
 const OUT_OF_MEMORY: u8 = 5;
 
 fn main(rt: HostRuntime) -> ExitCode {
-    ExitCode::from(status_of(rt).unwrap_or(OUT_OF_MEMORY))
+    ExitCode::from(exit_status(status_of(rt)))
+}
+
+/// The status of the program, where what was asked ended so, or did not begin.
+fn exit_status(outcome: io::Result<u8>) -> u8
+    ensures asked { IfOk outcome (λ status. result ≡ status) }
+    ensures out_of_memory { OnErr outcome (result ≡ OUT_OF_MEMORY) }
+{
+    outcome.unwrap_or(OUT_OF_MEMORY)
 }
 
 /// The words after the program's name. There are none where one isn't UTF-8, which asks for the usage.

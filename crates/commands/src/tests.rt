@@ -387,15 +387,15 @@ fn long_inputs(rt: HostRuntime) -> Result<(), Fail> {
     let state = repeated(alloc, front, b"t", 65_535, b"\"],[\"B\",5]]}")?;
     let mut trace = both_trace(alloc, b"5", b"1")?;
     let mut schedule = schedule_of(alloc, &BOTH)?;
-    for rid in 2u32..4_000 {
+    for rid in 2u32..33_000 {
         push_exchange(&mut trace, rid, b"/h", 404, b"no page\n")?;
         push_moment(&mut schedule, Moment::Arrive(rid))?;
         push_moment(&mut schedule, Moment::Depart(rid))?;
     }
-    let line = b"agrees: moments 8004\n";
+    let line = b"agrees: moments 66004\n";
     assert!(rt; replays(alloc, [&program, &state, &trace, &schedule], 0, line)?);
     schedule.push(0)?;
-    let line = b"differs 1: unreadable at 72048\n";
+    let line = b"differs 1: unreadable at 594048\n";
     assert!(rt; replays(alloc, [&program, &state, &trace, &schedule], 1, line)?);
     Ok(())
 }

@@ -45,5 +45,11 @@ pub const MOST_NUMBER: u64 = 9_223_372_036_854_775_807;
 /// How many bytes the content of a text in a program may have.
 pub const MOST_LITERAL_BYTES: usize = 65_535;
 
+/// How many brackets may be open at a place of a program.
+pub const MOST_OPEN_BRACKETS: usize = 64;
+
+/// How many operators, prefixes or indexings may stand in one row of a program.
+pub const MOST_REPEATS: usize = 64;
+
 /// How many declarations a program has fewer than, so that 32 bits number them.
 pub const TOO_MANY_DECLARATIONS: usize = 4_294_967_296;

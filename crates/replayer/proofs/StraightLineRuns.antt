@@ -22,7 +22,7 @@ use Rattle.script_tree.specs.declared.request.Response.{Response}
 use Rattle.script_tree.specs.declared.syntax.declaration.Declaration.{Declaration}
 use Rattle.script_tree.specs.declared.syntax.declaration.Declaration.TheVariants.{Page}
 use Rattle.script_meaning.specs.Conduct.{Wants, Ends, Undefined, unless_left, ended, conduct, on_page, start}
-use Rattle.script_meaning.specs.Declarations.{NumberedPage, page_from, page_in, function_from, Callee, callee, callee_in}
+use Rattle.script_tree.specs.Declarations.{NumberedPage, page_from, page_in, function_from, Callee, callee, callee_in}
 use Rattle.script_meaning.specs.Evaluate.{Setting, Later, Flow, on, back, node, issue_unless_fault, called, names_store, store_name, print, print_value, eval, eval_all, eval_others, then_on, exec, block, run}
 use Rattle.script_meaning.specs.Operands.{OpAnswer, first, name_in, read_op, write_op}
 use Rattle.script_meaning.specs.Operators.{Answer, printed}

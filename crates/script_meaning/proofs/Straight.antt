@@ -13,7 +13,7 @@ use Rattle.script_tree.specs.declared.syntax.builtin.Builtin.{Builtin}
 use Rattle.script_tree.specs.declared.syntax.builtin.Builtin.TheVariants.{Read, Write}
 use Rattle.script_tree.specs.declared.syntax.declaration.Declaration.{Declaration}
 use Rattle.script_tree.specs.declared.syntax.declaration.Declaration.TheVariants.{Page}
-use Rattle.script_meaning.specs.Declarations.{NumberedPage, page_from, page_in, function_from, Callee, built, callee, callee_in}
+use Rattle.script_tree.specs.Declarations.{NumberedPage, page_from, page_in, function_from, Callee, built, callee, callee_in}
 use Rattle.script_meaning.specs.Evaluate.{Setting, Later, eval, eval_all, eval_others, names_store, store_name, called, issue_unless_fault}
 use Rattle.script_meaning.specs.Operands.{OpAnswer, read_op, write_op}
 use Rattle.script_meaning.specs.Run.{Run, taking, charge, ◌>>◌, ◌>>=◌}

@@ -14,7 +14,7 @@ use Rattle.script_tree.specs.declared.path.Path.{Path}
 use Rattle.script_tree.specs.declared.limits.TheConstants.{MOST_STEPS}
 use Rattle.script_meaning.specs.declared.status.TheConstants.{USUAL_STATUS, NO_PAGE_STATUS, FAULT_STATUS}
 use Rattle.script_meaning.specs.Operations.{Op}
-use Rattle.script_meaning.specs.Declarations.{NumberedPage, page_in}
+use Rattle.script_tree.specs.Declarations.{NumberedPage, page_in}
 use Rattle.script_meaning.specs.Run.{Mark, decided, issued, Progress, wants, fault, answer_fault, Outcome, goes, stops}
 use Rattle.script_meaning.specs.Evaluate.{Flow, run}
 

@@ -17,7 +17,7 @@ use Rattle.script_meaning.specs.Operators.{Answer, printed, listed, indexed, una
 use Rattle.script_meaning.specs.Operands as u
 use Rattle.script_meaning.specs.Operands.{OpAnswer, Unchecked, values_of_all, transact_op, status_in}
 use Rattle.script_meaning.specs.BuiltinCalls.{Call, plain, of_request, operation, built_in}
-use Rattle.script_meaning.specs.Declarations.{DeclaredFunction, NumberedTable, Callee, own, built, unknown, callee_in, table_in, column_in}
+use Rattle.script_tree.specs.Declarations.{DeclaredFunction, NumberedTable, Callee, own, built, unknown, callee_in, table_in, column_in}
 use Rattle.script_meaning.specs.Variables.{Variables, value_in, declared, assigned, bound}
 
 -- what stays the same in a run
@@ -80,7 +80,7 @@ called w later depth unknown store ds = charge (taking ds) >> fails WrongKind
 -- whether the first argument of a call is the bare name of a store
 abbrev pub names_store : Callee → Bool
 names_store (own f) = false
-names_store (built b) = takes_store (Some b)
+names_store (built b) = takes_store b
 names_store unknown = false
 
 -- the bare name of a store

@@ -1,6 +1,5 @@
 pub mod BuiltinCalls
 pub mod Conduct
-pub mod Declarations
 pub mod Evaluate
 pub mod Explains
 pub mod Kinds

@@ -20,8 +20,43 @@ abbrev pub builtin_of : List ℕ → Option Builtin
 builtin_of name = named_in builtins name
 
 -- whether its first argument is the bare name of a store
-abbrev pub takes_store : Option Builtin → Bool
-takes_store (Some Get) = true
-takes_store (Some Put) = true
-takes_store (Some Remove) = true
-takes_store b = false
+abbrev pub takes_store : Builtin → Bool
+takes_store Len = false
+takes_store Str = false
+takes_store Escape = false
+takes_store Num = false
+takes_store Slice = false
+takes_store Append = false
+takes_store Kind = false
+takes_store Param = false
+takes_store Method = false
+takes_store Path = false
+takes_store Body = false
+takes_store Read = false
+takes_store Write = false
+takes_store Get = true
+takes_store Put = true
+takes_store Remove = true
+takes_store Clock = false
+takes_store Random = false
+
+-- how many arguments it takes
+abbrev pub arity_of : Builtin → ℕ
+arity_of Len = 1
+arity_of Str = 1
+arity_of Escape = 1
+arity_of Num = 1
+arity_of Slice = 3
+arity_of Append = 2
+arity_of Kind = 1
+arity_of Param = 1
+arity_of Method = 0
+arity_of Path = 0
+arity_of Body = 0
+arity_of Read = 1
+arity_of Write = 2
+arity_of Get = 2
+arity_of Put = 3
+arity_of Remove = 2
+arity_of Clock = 0
+arity_of Random = 1

@@ -31,7 +31,7 @@ stage_after (Answered rid x) = Closed
 abbrev pub stage_of : BTreeMap ℕ Stage → ℕ → Option Stage
 stage_of stages rid = get nat_cmp stages rid
 
--- the map with the stage of the event's id behind it
+-- the map with the stage of the event's id after it
 abbrev pub IsNoted : TraceEvent → BTreeMap ℕ Stage → BTreeMap ℕ Stage → Type 0
 IsNoted event old new = Updates nat_cmp old new (id_of event) (Some (stage_after event))
 

@@ -2,7 +2,7 @@
 use Rattle.std.proofs.Common.{◌≡◌, List, Some, sym, ap, subst}
 use Rattle.script_tree.specs.Datum.{Datum}
 use Rattle.script_meaning.specs.Conduct.{on_page}
-use Rattle.script_meaning.specs.Declarations.{NumberedPage, page_in}
+use Rattle.script_tree.specs.Declarations.{NumberedPage, page_in}
 use Rattle.script_meaning.specs.Evaluate.{Setting}
 use Rattle.walker.specs.PageParts.{page_later, page_ending}
 use Rattle.walker.specs.WalkerSteps.{Tells, ending_after}

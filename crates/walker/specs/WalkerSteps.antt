@@ -4,7 +4,7 @@ use Rattle.std.specs.Prelude.{◌≡◌, ◌≢◌, ℕ, List}
 use Rattle.script_tree.specs.Datum.{Datum}
 use Rattle.script_meaning.specs.Conduct.{conduct, Ending, Wants, Ends, Undefined}
 use Rattle.script_tree.specs.Syntax.{Statement}
-use Rattle.script_meaning.specs.Declarations.{NumberedPage}
+use Rattle.script_tree.specs.Declarations.{NumberedPage}
 use Rattle.script_meaning.specs.Evaluate.{Setting}
 use Rattle.walker.specs.declared.ending.WalkerStep.{WalkerStep}
 use Rattle.walker.specs.declared.ending.WalkerStep.TheVariants as code

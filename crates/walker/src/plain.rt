@@ -2,7 +2,7 @@ ghost use Rattle.std.specs.Prelude.{◌≡◌, true, IfOk};
 ghost use Rattle.std.specs.List.{list_all};
 ghost use Rattle.std.specs.Option.{option_map};
 ghost use Rattle.script_tree.specs.StraightLine.{is_straight_statement};
-ghost use Rattle.script_meaning.specs.Declarations.{page_in};
+ghost use Rattle.script_tree.specs.Declarations.{page_in};
 ghost use Rattle.walker.specs.PageParts.{page_ending};
 ghost use Rattle.walker.specs.WalkerSteps.{Tells, ending_after, numbered};
 

@@ -78,9 +78,11 @@ list_spelling ds = to_be_bytes w32 (length ds) ++ values_spelling (data_of ds)
 -- Each number in the value is one of 64 bits.
 abbrev mutual
   pub HasWideNumbers : Datum → Type 0
+  HasWideNumbers null = Unit {0}
+  HasWideNumbers (bool b) = Unit {0}
   HasWideNumbers (number n) = FitsSigned w64 n
+  HasWideNumbers (text bytes) = Unit {0}
   HasWideNumbers (list ds) = HaveWideNumbers ds
-  HasWideNumbers d = Unit {0}
 
   pub HaveWideNumbers : Data → Type 0
   HaveWideNumbers none = Unit {0}

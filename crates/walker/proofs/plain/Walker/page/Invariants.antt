@@ -1,5 +1,5 @@
 use Rattle.std.proofs.Common.{◌≡◌, ◌≤◌, drop}
-use Rattle.script_meaning.specs.Declarations.{page_from}
+use Rattle.script_tree.specs.Declarations.{page_from}
 use Rattle.walker.proofs.plain.Walker.page.Given as goal
 
 -- the page is among what is left

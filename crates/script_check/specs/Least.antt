@@ -1,0 +1,31 @@
+-- The least fault.
+use Rattle.std.specs.Prelude.{◌≡◌, ℕ, ◌<◌, ◌≤◌, ◌⊎◌, List, Contains, Result, Ok, Err}
+use Rattle.basis.specs.declared.or_memory.OrMemory.{OrMemory}
+use Rattle.basis.specs.UnlessMemory.{UnlessMemory}
+use Rattle.script_tree.specs.Programs.{Program}
+use Rattle.script_tree.specs.declared.syntax.declaration.Declaration.{Declaration}
+use Rattle.script_check.specs.Validity.{faults_of, IsValid}
+use Rattle.script_check.specs.declared.fault.CheckFault.{CheckFault}
+use Rattle.script_check.specs.declared.fault.CheckFaultKind.{CheckFaultKind}
+use Rattle.script_check.specs.declared.fault.CheckFaultKind.TheVariants.{Undeclared, DeclaredTwice, WrongCount, Unknown, KeyWritten, PageTwice}
+
+abbrev pub number_of : CheckFaultKind → ℕ
+number_of Undeclared = 1
+number_of DeclaredTwice = 2
+number_of WrongCount = 3
+number_of Unknown = 4
+number_of KeyWritten = 5
+number_of PageTwice = 6
+
+-- It stands before the other one; or at one place, its kind is no greater.
+abbrev pub IsNotAbove : CheckFault → CheckFault → Type 0
+IsNotAbove a b = (a.at < b.at) ⊎ ((a.at ≡ b.at) × (number_of a.kind ≤ number_of b.kind))
+
+-- one of the tree's faults, and none is below it
+pub record IsLeastFault (tree : List Declaration) (fault : CheckFault) : Type 0 where
+  pub there : Contains (faults_of tree) fault
+  pub least : (other : CheckFault) → Contains (faults_of tree) other → IsNotAbove fault other
+
+-- The program of a valid tree; the least fault of another.
+abbrev pub IsChecked : List Declaration → Result Program (OrMemory CheckFault) → Type 0
+IsChecked tree result = UnlessMemory (λ program. (program.declarations ≡ tree) × IsValid tree) (IsLeastFault tree) result

@@ -1,0 +1,198 @@
+-- When a tree is a program: docs/language.md, "Check" and "Scope". Each part of the tree has these faults, in the order of the text.
+use Rattle.std.specs.Prelude.{◌≡◌, ℕ, suc, ◌==◌, ◌&&◌, ◌||◌, List, [], ◌∷◌, ◌++◌, length, map, Bool, true, false, not, Option, Some, None, is_some}
+use Rattle.std.specs.Str.{bytes_eq}
+use Rattle.script_tree.specs.Builtins.{builtin_of, takes_store, arity_of}
+use Rattle.script_tree.specs.Declarations.{NumberedTable, table_from, DeclaredFunction, function_from, NumberedPage, page_from}
+use Rattle.script_tree.specs.Fit.{declares_store}
+use Rattle.script_tree.specs.SyntaxPlaces.{place_of}
+use Rattle.script_tree.specs.Syntax.{Expression, number, text, truth, null, bracket, variable, call, list, transact, unary, binary, and_, or_, index, Expressions, no_expression, expression, Query, insert, select, update, delete, expect, Queries, no_query, query, Conditions, no_condition, condition, Assignments, no_assignment, assignment, Statement, let_, set_, if_, while_, for_, echo, status, return, do_, Else, no_else, else_, Statements, no_statement, statement}
+use Rattle.script_tree.specs.declared.syntax.builtin.Builtin.{Builtin}
+use Rattle.script_tree.specs.declared.syntax.name.Name.{Name}
+use Rattle.script_tree.specs.declared.syntax.declaration.Declaration.{Declaration}
+use Rattle.script_tree.specs.declared.syntax.declaration.Declaration.TheVariants.{Store, Table, Function, Page}
+use Rattle.script_check.specs.declared.fault.CheckFault.{CheckFault}
+use Rattle.script_check.specs.declared.fault.CheckFaultKind.{CheckFaultKind}
+use Rattle.script_check.specs.declared.fault.CheckFaultKind.TheVariants.{Undeclared, DeclaredTwice, WrongCount, Unknown, KeyWritten, PageTwice}
+
+abbrev pub fault : ℕ → CheckFaultKind → List CheckFault
+fault at kind = record { at = at; kind = kind } ∷ []
+
+-- this fault, but where that holds
+abbrev pub fault_unless : Bool → ℕ → CheckFaultKind → List CheckFault
+fault_unless true at kind = []
+fault_unless false at kind = fault at kind
+
+-- whether the name is one of these
+abbrev pub has : List (List ℕ) → List ℕ → Bool
+has [] x = false
+has (y ∷ ys) x = bytes_eq x y || has ys x
+
+abbrev pub texts : List Name → List (List ℕ)
+texts [] = []
+texts (x ∷ xs) = x.text ∷ texts xs
+
+-- a name that is declared where these are known
+abbrev pub declared_where : List (List ℕ) → Name → List CheckFault
+declared_where known x = fault_unless (not (has known x.text)) x.at DeclaredTwice
+
+-- names that are declared one after another
+abbrev pub declared_in_turn : List (List ℕ) → List Name → List CheckFault
+declared_in_turn known [] = []
+declared_in_turn known (x ∷ xs) = declared_where known x ++ declared_in_turn (x.text ∷ known) xs
+
+-- ---- expressions, where the program's declarations are these and these variables are known
+
+abbrev pub how_many : Expressions → ℕ
+how_many no_expression = 0
+how_many (expression e es) = suc (how_many es)
+
+-- a call of so many arguments: of a built-in function, else of a function of the program
+abbrev pub call_faults : ℕ → ℕ → Option Builtin → Option DeclaredFunction → List CheckFault
+call_faults at count (Some b) own = fault_unless (count == arity_of b) at WrongCount
+call_faults at count None (Some f) = fault_unless (count == length f.parameters) at WrongCount
+call_faults at count None None = fault at Undeclared
+
+-- whether the first argument is to be the bare name of a store
+abbrev pub names_store : Option Builtin → Bool
+names_store None = false
+names_store (Some b) = takes_store b
+
+abbrev pub store_faults : List Declaration → Expression → List CheckFault
+store_faults ds (variable at x) = fault_unless (declares_store ds x) at Unknown
+store_faults ds e = fault (place_of e) Unknown
+
+abbrev pub has_column : NumberedTable → List ℕ → Bool
+has_column t x = has (texts t.columns) x
+
+abbrev pub is_key : List Name → List ℕ → Bool
+is_key [] x = false
+is_key (key ∷ columns) x = bytes_eq x key.text
+
+-- the table's name
+abbrev pub table_faults : Option NumberedTable → Name → List CheckFault
+table_faults table name = fault_unless (is_some table) name.at Unknown
+
+-- a row of so many values; where the table is unknown, that is its only fault
+abbrev pub row_faults : Option NumberedTable → Name → ℕ → List CheckFault
+row_faults None name count = []
+row_faults (Some t) name count = fault_unless (count == length t.columns) name.at WrongCount
+
+-- a column that is named; where the table is unknown, that is no fault
+abbrev pub column_faults : Option NumberedTable → Name → List CheckFault
+column_faults None x = []
+column_faults (Some t) x = fault_unless (has_column t x.text) x.at Unknown
+
+abbrev pub columns_faults : Option NumberedTable → List Name → List CheckFault
+columns_faults table [] = []
+columns_faults table (x ∷ xs) = column_faults table x ++ columns_faults table xs
+
+-- a column that is set: the key isn't
+abbrev pub set_faults : Option NumberedTable → Name → List CheckFault
+set_faults None x = []
+set_faults (Some t) x = fault_unless (has_column t x.text) x.at Unknown ++ fault_unless (not (is_key t.columns x.text)) x.at KeyWritten
+
+abbrev mutual
+  pub expression_faults : List Declaration → List (List ℕ) → Expression → List CheckFault
+  expression_faults ds known (number at n) = []
+  expression_faults ds known (text at bytes) = []
+  expression_faults ds known (truth at b) = []
+  expression_faults ds known (null at) = []
+  expression_faults ds known (bracket at e) = expression_faults ds known e
+  expression_faults ds known (variable at x) = fault_unless (has known x) at Undeclared
+  expression_faults ds known (call at f es) = call_faults at (how_many es) (builtin_of f) (function_from f ds) ++ arguments_faults ds known (names_store (builtin_of f)) es
+  expression_faults ds known (list at es) = expressions_faults ds known es
+  expression_faults ds known (transact at qs) = queries_faults ds known qs
+  expression_faults ds known (unary at operator e) = expression_faults ds known e
+  expression_faults ds known (binary at operator left right) = expression_faults ds known left ++ expression_faults ds known right
+  expression_faults ds known (and_ at left right) = expression_faults ds known left ++ expression_faults ds known right
+  expression_faults ds known (or_ at left right) = expression_faults ds known left ++ expression_faults ds known right
+  expression_faults ds known (index at whole place) = expression_faults ds known whole ++ expression_faults ds known place
+
+  pub expressions_faults : List Declaration → List (List ℕ) → Expressions → List CheckFault
+  expressions_faults ds known no_expression = []
+  expressions_faults ds known (expression e es) = expression_faults ds known e ++ expressions_faults ds known es
+
+  -- the arguments of a call; a store's name isn't searched for other faults
+  pub arguments_faults : List Declaration → List (List ℕ) → (store_first : Bool) → Expressions → List CheckFault
+  arguments_faults ds known store_first no_expression = []
+  arguments_faults ds known false (expression e es) = expression_faults ds known e ++ expressions_faults ds known es
+  arguments_faults ds known true (expression e es) = store_faults ds e ++ expressions_faults ds known es
+
+  pub query_faults : List Declaration → List (List ℕ) → Query → List CheckFault
+  query_faults ds known (insert at t es) = let table = table_from 0 t.text ds in table_faults table t ++ row_faults table t (how_many es) ++ expressions_faults ds known es
+  query_faults ds known (select at columns t cs) = let table = table_from 0 t.text ds in columns_faults table columns ++ table_faults table t ++ conditions_faults ds known table cs
+  query_faults ds known (update at t sets cs) = let table = table_from 0 t.text ds in table_faults table t ++ assignments_faults ds known table sets ++ conditions_faults ds known table cs
+  query_faults ds known (delete at t cs) = let table = table_from 0 t.text ds in table_faults table t ++ conditions_faults ds known table cs
+  query_faults ds known (expect at e t cs) = let table = table_from 0 t.text ds in expression_faults ds known e ++ table_faults table t ++ conditions_faults ds known table cs
+
+  pub queries_faults : List Declaration → List (List ℕ) → Queries → List CheckFault
+  queries_faults ds known no_query = []
+  queries_faults ds known (query q qs) = query_faults ds known q ++ queries_faults ds known qs
+
+  pub conditions_faults : List Declaration → List (List ℕ) → Option NumberedTable → Conditions → List CheckFault
+  conditions_faults ds known table no_condition = []
+  conditions_faults ds known table (condition x comparison e cs) = column_faults table x ++ expression_faults ds known e ++ conditions_faults ds known table cs
+
+  pub assignments_faults : List Declaration → List (List ℕ) → Option NumberedTable → Assignments → List CheckFault
+  assignments_faults ds known table no_assignment = []
+  assignments_faults ds known table (assignment x e sets) = set_faults table x ++ expression_faults ds known e ++ assignments_faults ds known table sets
+
+-- ---- statements
+
+-- the variables that are known after a statement
+abbrev pub known_after : List (List ℕ) → Statement → List (List ℕ)
+known_after known (let_ at x e) = x.text ∷ known
+known_after known (set_ at x e) = known
+known_after known (if_ at e body other) = known
+known_after known (while_ at e body) = known
+known_after known (for_ at x e body) = known
+known_after known (echo at e) = known
+known_after known (status at e) = known
+known_after known (return at e) = known
+known_after known (do_ at e) = known
+
+abbrev mutual
+  pub statement_faults : List Declaration → List (List ℕ) → Statement → List CheckFault
+  statement_faults ds known (let_ at x e) = declared_where known x ++ expression_faults ds known e
+  statement_faults ds known (set_ at x e) = fault_unless (has known x.text) x.at Undeclared ++ expression_faults ds known e
+  statement_faults ds known (if_ at e body other) = expression_faults ds known e ++ statements_faults ds known body ++ else_faults ds known other
+  statement_faults ds known (while_ at e body) = expression_faults ds known e ++ statements_faults ds known body
+  statement_faults ds known (for_ at x e body) = declared_where known x ++ expression_faults ds known e ++ statements_faults ds (x.text ∷ known) body
+  statement_faults ds known (echo at e) = expression_faults ds known e
+  statement_faults ds known (status at e) = expression_faults ds known e
+  statement_faults ds known (return at e) = expression_faults ds known e
+  statement_faults ds known (do_ at e) = expression_faults ds known e
+
+  pub else_faults : List Declaration → List (List ℕ) → Else → List CheckFault
+  else_faults ds known no_else = []
+  else_faults ds known (else_ body) = statements_faults ds known body
+
+  -- what a block declares is known up to its end
+  pub statements_faults : List Declaration → List (List ℕ) → Statements → List CheckFault
+  statements_faults ds known no_statement = []
+  statements_faults ds known (statement s ss) = statement_faults ds known s ++ statements_faults ds (known_after known s) ss
+
+abbrev pub block_faults : List Declaration → List (List ℕ) → List Statement → List CheckFault
+block_faults ds known [] = []
+block_faults ds known (s ∷ ss) = statement_faults ds known s ++ block_faults ds (known_after known s) ss
+
+-- ---- declarations, of which these stand before
+
+abbrev pub names_function : List Declaration → List ℕ → Bool
+names_function earlier f = is_some (builtin_of f) || is_some (function_from f earlier)
+
+abbrev pub declaration_faults : (program earlier : List Declaration) → Declaration → List CheckFault
+declaration_faults program earlier (Store at name) = fault_unless (not (declares_store earlier name.text)) name.at DeclaredTwice
+declaration_faults program earlier (Table at name columns) = fault_unless (not (is_some (table_from 0 name.text earlier))) name.at DeclaredTwice ++ declared_in_turn [] columns
+declaration_faults program earlier (Function at name parameters body) = fault_unless (not (names_function earlier name.text)) name.at DeclaredTwice ++ declared_in_turn [] parameters ++ block_faults program (texts parameters) body
+declaration_faults program earlier (Page at path body) = fault_unless (not (is_some (page_from 0 path.text earlier))) path.at PageTwice ++ block_faults program [] body
+
+abbrev pub faults_behind : (program earlier later : List Declaration) → List CheckFault
+faults_behind program earlier [] = []
+faults_behind program earlier (d ∷ ds) = declaration_faults program earlier d ++ faults_behind program (earlier ++ d ∷ []) ds
+
+abbrev pub faults_of : List Declaration → List CheckFault
+faults_of program = faults_behind program [] program
+
+abbrev pub IsValid : List Declaration → Type 0
+IsValid program = faults_of program ≡ []

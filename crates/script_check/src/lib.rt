@@ -1,0 +1,4 @@
+//! Which trees are programs: docs/language.md, "Check" and "Scope".
+#![tactic(auto)]
+
+pub mod fault;

@@ -1,0 +1,4 @@
+pub mod Added
+pub mod Complete
+pub mod Levels
+pub mod Steps

@@ -1,0 +1,4 @@
+pub mod Grammar
+pub mod Grouping
+pub mod Machine
+pub mod Spelling

@@ -1,0 +1,2 @@
+//! Which tokens spell which tree: docs/language.md, "Grammar".
+#![tactic(auto)]

@@ -512,3 +512,167 @@ mutual
       begun_anywhere (kind.fixed w.Comma) (λ k. more_sets ∷ k) (λ at k vs. refl)
       (reads_name x (mark.word w.Becomes ∷ spelling e o) then reads_word w.Becomes (spelling e o)
       then operand_from e o g.0 (sets_free ss cs n) (reads e g.0 6 (level_most e) o (lower 6 o (sets_free ss cs n))) then acts adds_set o then more_sets_read ss g.1 cs n)
+
+-- ---- statements
+
+else_ends : (n : List Mark) → First (IsNot w.Else) n → Reads (λ k. else_part ∷ k) (λ vs. of_else no_else ∷ vs) n n
+else_ends n f = record { goes = λ ts h. (ts, h, λ k vs. ends ts h k vs) }
+  where
+    ends : (ts : List Token) → AreTokens n ts → (k : List Symbol) (vs : List Val) → run ts (else_part ∷ k) vs ≡ run ts k (of_else no_else ∷ vs)
+    ends [] h k vs = refl
+    ends (t ∷ ts) h k vs = let g : IsNot w.Else t.kind = first_is (IsNot w.Else) n t ts f h in same_step t ts (else_part ∷ k) k vs (of_else no_else ∷ vs) (rw g refl)
+
+-- no closing brace, and no else
+abbrev pub IsStarting : Kind → Type 0
+IsStarting t = IsNot w.BraceClose t × IsNot w.Else t
+
+pub statement_first : (s : Statement) (n : List Mark) → First IsStarting (statement_spelling s n)
+statement_first (let_ at x e) n = (refl, refl)
+statement_first (set_ at x e) n = (refl, refl)
+statement_first (if_ at e body other) n = (refl, refl)
+statement_first (while_ at e body) n = (refl, refl)
+statement_first (for_ at x e body) n = (refl, refl)
+statement_first (echo at e) n = (refl, refl)
+statement_first (status at e) n = (refl, refl)
+statement_first (return at e) n = (refl, refl)
+statement_first (do_ at e) n = (refl, refl)
+
+starts : (m : List Mark) → First IsStarting m → First (IsNot w.BraceClose) m
+starts [] f = tt
+starts (x ∷ xs) f = f.0
+
+no_else_starts : (m : List Mark) → First IsStarting m → First (IsNot w.Else) m
+no_else_starts [] f = tt
+no_else_starts (x ∷ xs) f = f.1
+
+after_statement : (ss : Statements) (n : List Mark) → First (IsNot w.Else) (statements_spelling ss (mark.word w.BraceClose ∷ n))
+after_statement no_statement n = refl
+after_statement (statement s ss) n = let o = statements_spelling ss (mark.word w.BraceClose ∷ n) in no_else_starts (statement_spelling s o) (statement_first s o)
+
+after_member : (ss : List Statement) (n : List Mark) → First (IsNot w.Else) (block_spelling ss (mark.word w.BraceClose ∷ n))
+after_member [] n = refl
+after_member (s ∷ ss) n = let o = block_spelling ss (mark.word w.BraceClose ∷ n) in no_else_starts (statement_spelling s o) (statement_first s o)
+
+statements_begin : (s : Statement) (n : List Mark) (ts : List Token) → AreTokens (statement_spelling s n) ts → (k : List Symbol) (vs : List Val) → run ts (statements ∷ k) vs ≡ run ts (a_statement ∷ act adds_statement ∷ statements ∷ k) vs
+statements_begin s n [] h k vs = refl
+statements_begin s n (t ∷ ts) h k vs =
+    let g : IsNot w.BraceClose t.kind = first_is (IsNot w.BraceClose) (statement_spelling s n) t ts (starts (statement_spelling s n) (statement_first s n)) h in
+    same_step t ts (statements ∷ k) (a_statement ∷ act adds_statement ∷ statements ∷ k) vs vs (rw g refl)
+
+-- an expression before a word after which none goes on
+expression_read : (e : Expression) → IsGrouped e → (v : Word) → From 7 (kind.fixed v) → (n : List Mark) → Reads (λ k. operand 6 ∷ k) (λ vs. of_expression e ∷ vs) (spelling e (mark.word v ∷ n)) (mark.word v ∷ n)
+expression_read e g v f n = operand_from e (mark.word v ∷ n) g f (reads e g 6 (level_most e) (mark.word v ∷ n) (lower 6 (mark.word v ∷ n) f))
+
+ended_read : (e : Expression) → IsGrouped e → (n : List Mark) → Reads (λ k. operand 6 ∷ word w.Semicolon ∷ k) (λ vs. of_expression e ∷ vs) (spelling e (mark.word w.Semicolon ∷ n)) n
+ended_read e g n = expression_read e g w.Semicolon (free 7 w.Semicolon refl refl) n then reads_word w.Semicolon n
+
+-- an expression, and the brace of the block after it
+opened_read : (e : Expression) → IsGrouped e → (n : List Mark) → Reads (λ k. operand 6 ∷ word w.BraceOpen ∷ act (puts (of_statements [])) ∷ k) (λ vs. of_statements [] ∷ of_expression e ∷ vs) (spelling e (mark.word w.BraceOpen ∷ n)) n
+opened_read e g n = expression_read e g w.BraceOpen (free 7 w.BraceOpen refl refl) n then reads_word w.BraceOpen n then acts (puts (of_statements [])) n
+
+bound_read : (x : Name) (e : Expression) → IsGrouped e → (n : List Mark) → Reads (λ k. a_name ∷ word w.Becomes ∷ operand 6 ∷ word w.Semicolon ∷ k) (λ vs. of_expression e ∷ of_name x ∷ vs) (named x ∷ mark.word w.Becomes ∷ spelling e (mark.word w.Semicolon ∷ n)) n
+bound_read x e g n =
+    let o : List Mark = spelling e (mark.word w.Semicolon ∷ n) in
+    reads_name x (mark.word w.Becomes ∷ o) then reads_word w.Becomes o then ended_read e g n
+
+valued_if : (at : ℕ) (e : Expression) (ss : Statements) (other : Else) (vs : List Val) → apply (branched at) (of_else other ∷ with_statements ss (of_statements [] ∷ of_expression e ∷ vs)) ≡ of_statement (if_ at e ss other) ∷ vs
+valued_if at e ss other vs = ap (λ us. apply (branched at) (of_else other ∷ us)) (all_statements ss [] (of_expression e ∷ vs)) ∙ ap (λ x. of_statement (if_ at e x other) ∷ vs) (statements_again ss)
+
+valued_while : (at : ℕ) (e : Expression) (ss : Statements) (vs : List Val) → apply (repeated at) (with_statements ss (of_statements [] ∷ of_expression e ∷ vs)) ≡ of_statement (while_ at e ss) ∷ vs
+valued_while at e ss vs = ap (apply (repeated at)) (all_statements ss [] (of_expression e ∷ vs)) ∙ ap (λ x. of_statement (while_ at e x) ∷ vs) (statements_again ss)
+
+valued_for : (at : ℕ) (x : Name) (e : Expression) (ss : Statements) (vs : List Val) → apply (turned at) (with_statements ss (of_statements [] ∷ of_expression e ∷ of_name x ∷ vs)) ≡ of_statement (for_ at x e ss) ∷ vs
+valued_for at x e ss vs = ap (apply (turned at)) (all_statements ss [] (of_expression e ∷ of_name x ∷ vs)) ∙ ap (λ z. of_statement (for_ at x e z) ∷ vs) (statements_again ss)
+
+valued_else : (ss : Statements) (vs : List Val) → apply otherwise (with_statements ss (of_statements [] ∷ vs)) ≡ of_else (else_ ss) ∷ vs
+valued_else ss vs = ap (apply otherwise) (all_statements ss [] vs) ∙ ap (λ x. of_else (else_ x) ∷ vs) (statements_again ss)
+
+mutual
+  pub statement_read : (s : Statement) → IsGroupedStatement s → (n : List Mark) → First (IsNot w.Else) n → Reads (λ k. a_statement ∷ k) (λ vs. of_statement s ∷ vs) (statement_spelling s n) n
+  statement_read (let_ at x e) g n f = begun at (kind.fixed w.Let) (λ k. a_statement ∷ k) (λ k vs. refl) (bound_read x e g n then acts (bound (let_ at)) n)
+  statement_read (set_ at x e) g n f = begun at (kind.fixed w.Set) (λ k. a_statement ∷ k) (λ k vs. refl) (bound_read x e g n then acts (bound (set_ at)) n)
+  statement_read (if_ at e body other) g n f =
+      let o : List Mark = else_spelling other n in
+      valued (valued_if at e body other) (begun at (kind.fixed w.If) (λ k. a_statement ∷ k) (λ k vs. refl)
+      (opened_read e g.0 (statements_spelling body (mark.word w.BraceClose ∷ o)) then statements_read body g.1 o then else_read other g.2 n f then acts (branched at) n))
+  statement_read (while_ at e body) g n f =
+      valued (valued_while at e body) (begun at (kind.fixed w.While) (λ k. a_statement ∷ k) (λ k vs. refl)
+      (opened_read e g.0 (statements_spelling body (mark.word w.BraceClose ∷ n)) then statements_read body g.1 n then acts (repeated at) n))
+  statement_read (for_ at x e body) g n f =
+      let o : List Mark = spelling e (mark.word w.BraceOpen ∷ statements_spelling body (mark.word w.BraceClose ∷ n)) in
+      valued (valued_for at x e body) (begun at (kind.fixed w.For) (λ k. a_statement ∷ k) (λ k vs. refl)
+      (reads_name x (mark.word w.In ∷ o) then reads_word w.In o then opened_read e g.0 (statements_spelling body (mark.word w.BraceClose ∷ n)) then statements_read body g.1 n then acts (turned at) n))
+  statement_read (echo at e) g n f = begun at (kind.fixed w.Echo) (λ k. a_statement ∷ k) (λ k vs. refl) (ended_read e g n then acts (said (echo at)) n)
+  statement_read (status at e) g n f = begun at (kind.fixed w.Status) (λ k. a_statement ∷ k) (λ k vs. refl) (ended_read e g n then acts (said (status at)) n)
+  statement_read (return at e) g n f = begun at (kind.fixed w.Return) (λ k. a_statement ∷ k) (λ k vs. refl) (ended_read e g n then acts (said (return at)) n)
+  statement_read (do_ at e) g n f = begun at (kind.fixed w.Do) (λ k. a_statement ∷ k) (λ k vs. refl) (ended_read e g n then acts (said (do_ at)) n)
+
+  pub else_read : (other : Else) → IsGroupedElse other → (n : List Mark) → First (IsNot w.Else) n → Reads (λ k. else_part ∷ k) (λ vs. of_else other ∷ vs) (else_spelling other n) n
+  else_read no_else g n f = else_ends n f
+  else_read (else_ body) g n f =
+      let o : List Mark = statements_spelling body (mark.word w.BraceClose ∷ n) in
+      valued (valued_else body) (begun_anywhere (kind.fixed w.Else) (λ k. else_part ∷ k) (λ at k vs. refl)
+      (reads_word w.BraceOpen o then acts (puts (of_statements [])) o then statements_read body g n then acts otherwise n))
+
+  -- up to the closing brace
+  pub statements_read : (ss : Statements) → AreGroupedStatements ss → (n : List Mark) → Reads (λ k. statements ∷ k) (with_statements ss) (statements_spelling ss (mark.word w.BraceClose ∷ n)) n
+  statements_read no_statement g n = begun_anywhere (kind.fixed w.BraceClose) (λ k. statements ∷ k) (λ at k vs. refl) (nothing n)
+  statements_read (statement s ss) g n =
+      let o : List Mark = statements_spelling ss (mark.word w.BraceClose ∷ n) in
+      instead (statements_begin s o) (statement_read s g.0 o (after_statement ss n) then acts adds_statement o then statements_read ss g.1 n)
+
+pub block_read : (ss : List Statement) → IsGroupedBlock ss → (n : List Mark) → Reads (λ k. statements ∷ k) (with_block ss) (block_spelling ss (mark.word w.BraceClose ∷ n)) n
+block_read [] g n = begun_anywhere (kind.fixed w.BraceClose) (λ k. statements ∷ k) (λ at k vs. refl) (nothing n)
+block_read (s ∷ ss) g n =
+    let o : List Mark = block_spelling ss (mark.word w.BraceClose ∷ n) in
+    instead (statements_begin s o) (statement_read s g.0 o (after_member ss n) then acts adds_statement o then block_read ss g.1 n)
+
+-- ---- declarations
+
+opened_block : (ss : List Statement) → IsGroupedBlock ss → (n : List Mark) → Reads (λ k. word w.BraceOpen ∷ act (puts (of_statements [])) ∷ statements ∷ k) (λ vs. of_statements ss ∷ vs) (mark.word w.BraceOpen ∷ block_spelling ss (mark.word w.BraceClose ∷ n)) n
+opened_block ss g n =
+    let o : List Mark = block_spelling ss (mark.word w.BraceClose ∷ n) in
+    valued (λ vs. all_of_block ss [] vs) (reads_word w.BraceOpen o then acts (puts (of_statements [])) o then block_read ss g n)
+
+valued_table : (at : ℕ) (x : Name) (xs : List Name) (vs : List Val) → apply (tabled at) (with_names xs (of_names [] ∷ of_name x ∷ vs)) ≡ of_declaration (declared.Table at x xs) ∷ vs
+valued_table at x xs vs = ap (apply (tabled at)) (all_names xs [] (of_name x ∷ vs))
+
+valued_function : (at : ℕ) (f : Name) (xs : List Name) (ss : List Statement) (vs : List Val) → apply (defined at) (of_statements ss ∷ with_names xs (of_names [] ∷ of_name f ∷ vs)) ≡ of_declaration (declared.Function at f xs ss) ∷ vs
+valued_function at f xs ss vs = ap (λ us. apply (defined at) (of_statements ss ∷ us)) (all_names xs [] (of_name f ∷ vs))
+
+pub declarations_read : (ds : List Declaration) → AreGroupedDeclarations ds → Reads (λ k. declarations ∷ k) (with_declarations ds) (program_spelling ds) []
+declarations_read [] g = record { goes = λ ts h. (ts, h, λ k vs. ends ts h k vs) }
+  where
+    ends : (ts : List Token) → ts ≡ [] → (k : List Symbol) (vs : List Val) → run ts (declarations ∷ k) vs ≡ run ts k vs
+    ends ts h k vs = rw h refl
+declarations_read (declared.Store at x ∷ ds) g =
+    let n : List Mark = program_spelling ds in
+    begun at (kind.fixed w.Store) (λ k. declarations ∷ k) (λ k vs. refl)
+    (reads_name x (mark.word w.Semicolon ∷ n) then reads_word w.Semicolon n then acts (stored at) n then acts adds_declaration n then declarations_read ds g.1)
+declarations_read (declared.Table at x [] ∷ ds) g = absurd (g.0 refl)
+declarations_read (declared.Table at x (c ∷ cs) ∷ ds) g =
+    let n : List Mark = program_spelling ds in
+    let o : List Mark = names_before cs (mark.word w.Close ∷ mark.word w.Semicolon ∷ n) in
+    valued (λ vs. ap (λ us. with_declarations ds (apply adds_declaration us)) (valued_table at x (c ∷ cs) vs)) (begun at (kind.fixed w.Table) (λ k. declarations ∷ k) (λ k vs. refl)
+    (reads_name x (mark.word w.Open ∷ named c ∷ o) then reads_word w.Open (named c ∷ o) then acts (puts (of_names [])) (named c ∷ o) then reads_name c o then acts adds_name o then more_names_read round cs (mark.word w.Semicolon ∷ n)
+    then reads_word w.Semicolon n then acts (tabled at) n then acts adds_declaration n then declarations_read ds g.1))
+declarations_read (declared.Function at f xs ss ∷ ds) g =
+    let n : List Mark = program_spelling ds in
+    let b : List Mark = mark.word w.BraceOpen ∷ block_spelling ss (mark.word w.BraceClose ∷ n) in
+    let o : List Mark = names xs (mark.word w.Close ∷ b) in
+    valued (λ vs. ap (λ us. with_declarations ds (apply adds_declaration us)) (valued_function at f xs ss vs)) (begun at (kind.fixed w.Function) (λ k. declarations ∷ k) (λ k vs. refl)
+    (reads_name f (mark.word w.Open ∷ o) then reads_word w.Open o then acts (puts (of_names [])) o then parameters_read xs b then opened_block ss g.0 n
+    then acts (defined at) n then acts adds_declaration n then declarations_read ds g.1))
+declarations_read (declared.Page at path ss ∷ ds) g =
+    let n : List Mark = program_spelling ds in
+    let b : List Mark = mark.word w.BraceOpen ∷ block_spelling ss (mark.word w.BraceClose ∷ n) in
+    begun at (kind.fixed w.Page) (λ k. declarations ∷ k) (λ k vs. refl)
+    (reads_path path b then opened_block ss g.0 n then acts (paged at) n then acts adds_declaration n then declarations_read ds g.1)
+
+-- the whole of it
+pub whole_read : (ts : List Token) (ds : List Declaration) → AreTokens (program_spelling ds) ts → AreGroupedDeclarations ds → run_file ts ≡ done (of_declarations ds ∷ [])
+whole_read ts ds h g =
+    let a = (declarations_read ds g).goes ts h in
+    a.2 [] (of_declarations [] ∷ [])
+    ∙ ap (λ us. run us [] (with_declarations ds (of_declarations [] ∷ []))) a.1
+    ∙ ap done (all_declarations ds [] [])

@@ -316,35 +316,35 @@ from_called : (n : List Mark) (l : ℕ) → First (From l) n → First (IsNot w.
 from_called [] l f = tt
 from_called (m ∷ ms) l f = f.0
 
-valued_call : (at : ℕ) (f : List ℕ) (es : Expressions) (vs : List Val) → apply (called at f) (with_expressions es (of_expressions [] ∷ vs)) ≡ of_expression (call at f es) ∷ vs
+pub valued_call : (at : ℕ) (f : List ℕ) (es : Expressions) (vs : List Val) → apply (called at f) (with_expressions es (of_expressions [] ∷ vs)) ≡ of_expression (call at f es) ∷ vs
 valued_call at f es vs = ap (apply (called at f)) (all_expressions es [] vs) ∙ ap (λ x. of_expression (call at f x) ∷ vs) (expressions_again es)
 
-valued_list : (at : ℕ) (es : Expressions) (vs : List Val) → apply (listed at) (with_expressions es (of_expressions [] ∷ vs)) ≡ of_expression (list at es) ∷ vs
+pub valued_list : (at : ℕ) (es : Expressions) (vs : List Val) → apply (listed at) (with_expressions es (of_expressions [] ∷ vs)) ≡ of_expression (list at es) ∷ vs
 valued_list at es vs = ap (apply (listed at)) (all_expressions es [] vs) ∙ ap (λ x. of_expression (list at x) ∷ vs) (expressions_again es)
 
-valued_transact : (at : ℕ) (qs : Queries) (vs : List Val) → apply (transacted at) (with_queries qs (of_queries [] ∷ vs)) ≡ of_expression (transact at qs) ∷ vs
+pub valued_transact : (at : ℕ) (qs : Queries) (vs : List Val) → apply (transacted at) (with_queries qs (of_queries [] ∷ vs)) ≡ of_expression (transact at qs) ∷ vs
 valued_transact at qs vs = ap (apply (transacted at)) (all_queries qs [] vs) ∙ ap (λ x. of_expression (transact at x) ∷ vs) (queries_again qs)
 
-valued_insert : (at : ℕ) (t : Name) (es : Expressions) (vs : List Val) → apply (inserted at) (with_expressions es (of_expressions [] ∷ of_name t ∷ vs)) ≡ of_query (insert at t es) ∷ vs
+pub valued_insert : (at : ℕ) (t : Name) (es : Expressions) (vs : List Val) → apply (inserted at) (with_expressions es (of_expressions [] ∷ of_name t ∷ vs)) ≡ of_query (insert at t es) ∷ vs
 valued_insert at t es vs = ap (apply (inserted at)) (all_expressions es [] (of_name t ∷ vs)) ∙ ap (λ x. of_query (insert at t x) ∷ vs) (expressions_again es)
 
-valued_select : (at : ℕ) (xs : List Name) (t : Name) (cs : Conditions) (vs : List Val) → apply (selected at) (with_conditions cs (of_tests [] ∷ of_name t ∷ with_names xs (of_names [] ∷ vs))) ≡ of_query (select at xs t cs) ∷ vs
+pub valued_select : (at : ℕ) (xs : List Name) (t : Name) (cs : Conditions) (vs : List Val) → apply (selected at) (with_conditions cs (of_tests [] ∷ of_name t ∷ with_names xs (of_names [] ∷ vs))) ≡ of_query (select at xs t cs) ∷ vs
 valued_select at xs t cs vs =
     ap (λ us. apply (selected at) (with_conditions cs (of_tests [] ∷ of_name t ∷ us))) (all_names xs [] vs)
     ∙ ap (apply (selected at)) (all_conditions cs [] (of_name t ∷ of_names xs ∷ vs))
     ∙ ap (λ x. of_query (select at xs t x) ∷ vs) (conditions_again cs)
 
-valued_update : (at : ℕ) (t : Name) (ss : Assignments) (cs : Conditions) (vs : List Val) → apply (updated at) (with_conditions cs (of_tests [] ∷ with_assignments ss (of_sets [] ∷ of_name t ∷ vs))) ≡ of_query (update at t ss cs) ∷ vs
+pub valued_update : (at : ℕ) (t : Name) (ss : Assignments) (cs : Conditions) (vs : List Val) → apply (updated at) (with_conditions cs (of_tests [] ∷ with_assignments ss (of_sets [] ∷ of_name t ∷ vs))) ≡ of_query (update at t ss cs) ∷ vs
 valued_update at t ss cs vs =
     ap (λ us. apply (updated at) (with_conditions cs (of_tests [] ∷ us))) (all_assignments ss [] (of_name t ∷ vs))
     ∙ ap (apply (updated at)) (all_conditions cs [] (of_sets (assignments_in ss) ∷ of_name t ∷ vs))
     ∙ ap (λ x. of_query (update at t x (conditions_of (conditions_in cs))) ∷ vs) (assignments_again ss)
     ∙ ap (λ x. of_query (update at t ss x) ∷ vs) (conditions_again cs)
 
-valued_delete : (at : ℕ) (t : Name) (cs : Conditions) (vs : List Val) → apply (deleted at) (with_conditions cs (of_tests [] ∷ of_name t ∷ vs)) ≡ of_query (delete at t cs) ∷ vs
+pub valued_delete : (at : ℕ) (t : Name) (cs : Conditions) (vs : List Val) → apply (deleted at) (with_conditions cs (of_tests [] ∷ of_name t ∷ vs)) ≡ of_query (delete at t cs) ∷ vs
 valued_delete at t cs vs = ap (apply (deleted at)) (all_conditions cs [] (of_name t ∷ vs)) ∙ ap (λ x. of_query (delete at t x) ∷ vs) (conditions_again cs)
 
-valued_expect : (at : ℕ) (e : Expression) (t : Name) (cs : Conditions) (vs : List Val) → apply (expected at) (with_conditions cs (of_tests [] ∷ of_name t ∷ of_expression e ∷ vs)) ≡ of_query (expect at e t cs) ∷ vs
+pub valued_expect : (at : ℕ) (e : Expression) (t : Name) (cs : Conditions) (vs : List Val) → apply (expected at) (with_conditions cs (of_tests [] ∷ of_name t ∷ of_expression e ∷ vs)) ≡ of_query (expect at e t cs) ∷ vs
 valued_expect at e t cs vs = ap (apply (expected at)) (all_conditions cs [] (of_name t ∷ of_expression e ∷ vs)) ∙ ap (λ x. of_query (expect at e t x) ∷ vs) (conditions_again cs)
 
 none_given : {A : Type 0} (x : A) → (x ≢ x) → ⊥
@@ -575,16 +575,16 @@ bound_read x e g n =
     let o : List Mark = spelling e (mark.word w.Semicolon ∷ n) in
     reads_name x (mark.word w.Becomes ∷ o) then reads_word w.Becomes o then ended_read e g n
 
-valued_if : (at : ℕ) (e : Expression) (ss : Statements) (other : Else) (vs : List Val) → apply (branched at) (of_else other ∷ with_statements ss (of_statements [] ∷ of_expression e ∷ vs)) ≡ of_statement (if_ at e ss other) ∷ vs
+pub valued_if : (at : ℕ) (e : Expression) (ss : Statements) (other : Else) (vs : List Val) → apply (branched at) (of_else other ∷ with_statements ss (of_statements [] ∷ of_expression e ∷ vs)) ≡ of_statement (if_ at e ss other) ∷ vs
 valued_if at e ss other vs = ap (λ us. apply (branched at) (of_else other ∷ us)) (all_statements ss [] (of_expression e ∷ vs)) ∙ ap (λ x. of_statement (if_ at e x other) ∷ vs) (statements_again ss)
 
-valued_while : (at : ℕ) (e : Expression) (ss : Statements) (vs : List Val) → apply (repeated at) (with_statements ss (of_statements [] ∷ of_expression e ∷ vs)) ≡ of_statement (while_ at e ss) ∷ vs
+pub valued_while : (at : ℕ) (e : Expression) (ss : Statements) (vs : List Val) → apply (repeated at) (with_statements ss (of_statements [] ∷ of_expression e ∷ vs)) ≡ of_statement (while_ at e ss) ∷ vs
 valued_while at e ss vs = ap (apply (repeated at)) (all_statements ss [] (of_expression e ∷ vs)) ∙ ap (λ x. of_statement (while_ at e x) ∷ vs) (statements_again ss)
 
-valued_for : (at : ℕ) (x : Name) (e : Expression) (ss : Statements) (vs : List Val) → apply (turned at) (with_statements ss (of_statements [] ∷ of_expression e ∷ of_name x ∷ vs)) ≡ of_statement (for_ at x e ss) ∷ vs
+pub valued_for : (at : ℕ) (x : Name) (e : Expression) (ss : Statements) (vs : List Val) → apply (turned at) (with_statements ss (of_statements [] ∷ of_expression e ∷ of_name x ∷ vs)) ≡ of_statement (for_ at x e ss) ∷ vs
 valued_for at x e ss vs = ap (apply (turned at)) (all_statements ss [] (of_expression e ∷ of_name x ∷ vs)) ∙ ap (λ z. of_statement (for_ at x e z) ∷ vs) (statements_again ss)
 
-valued_else : (ss : Statements) (vs : List Val) → apply otherwise (with_statements ss (of_statements [] ∷ vs)) ≡ of_else (else_ ss) ∷ vs
+pub valued_else : (ss : Statements) (vs : List Val) → apply otherwise (with_statements ss (of_statements [] ∷ vs)) ≡ of_else (else_ ss) ∷ vs
 valued_else ss vs = ap (apply otherwise) (all_statements ss [] vs) ∙ ap (λ x. of_else (else_ x) ∷ vs) (statements_again ss)
 
 mutual
@@ -634,10 +634,10 @@ opened_block ss g n =
     let o : List Mark = block_spelling ss (mark.word w.BraceClose ∷ n) in
     valued (λ vs. all_of_block ss [] vs) (reads_word w.BraceOpen o then acts (puts (of_statements [])) o then block_read ss g n)
 
-valued_table : (at : ℕ) (x : Name) (xs : List Name) (vs : List Val) → apply (tabled at) (with_names xs (of_names [] ∷ of_name x ∷ vs)) ≡ of_declaration (declared.Table at x xs) ∷ vs
+pub valued_table : (at : ℕ) (x : Name) (xs : List Name) (vs : List Val) → apply (tabled at) (with_names xs (of_names [] ∷ of_name x ∷ vs)) ≡ of_declaration (declared.Table at x xs) ∷ vs
 valued_table at x xs vs = ap (apply (tabled at)) (all_names xs [] (of_name x ∷ vs))
 
-valued_function : (at : ℕ) (f : Name) (xs : List Name) (ss : List Statement) (vs : List Val) → apply (defined at) (of_statements ss ∷ with_names xs (of_names [] ∷ of_name f ∷ vs)) ≡ of_declaration (declared.Function at f xs ss) ∷ vs
+pub valued_function : (at : ℕ) (f : Name) (xs : List Name) (ss : List Statement) (vs : List Val) → apply (defined at) (of_statements ss ∷ with_names xs (of_names [] ∷ of_name f ∷ vs)) ≡ of_declaration (declared.Function at f xs ss) ∷ vs
 valued_function at f xs ss vs = ap (λ us. apply (defined at) (of_statements ss ∷ us)) (all_names xs [] (of_name f ∷ vs))
 
 pub declarations_read : (ds : List Declaration) → AreGroupedDeclarations ds → Reads (λ k. declarations ∷ k) (with_declarations ds) (program_spelling ds) []

@@ -608,3 +608,143 @@ declaration_back at w.Page k vs s ts out h y =
      λ n g. (ts, refl, (z.1, z.2, (z3.0, z3.1, z3.2, block_spelled z4.0 z3.1 z4.1 z4.3 (declarations_before z5.0 n) (z5.3 n g)))),
      with_values k (with_declarations z5.0 (apply adds_declaration (apply (paged at) (with_statements z4.0 (of_statements [] ∷ of_name z.0 ∷ vs))))) (with_declarations (declared.Page at z.0 ss ∷ z5.0) vs) z5.1 out (ap (λ us. with_declarations z5.0 (apply adds_declaration us)) value) z5.4)
 declaration_back at v k vs s ts out h y = no_state s h
+
+-- ---- all of them
+
+by_word_back : (t : Kind) (begin : Word → Option State) (s : State) → by_word begin t ≡ Some s → (v : Word) × (t ≡ kind.fixed v) × (begin v ≡ Some s)
+by_word_back (kind.fixed v) begin s h = (v, refl, h)
+by_word_back (kind.name x) begin s h = no_state s h
+by_word_back (kind.number n) begin s h = no_state s h
+by_word_back (kind.text x) begin s h = no_state s h
+
+at_word_first : (P : List Token → Type 0) (t : Token) (ts : List Token) (v : Word) → t.kind ≡ kind.fixed v → P (token t.at (kind.fixed v) ∷ ts) → P (t ∷ ts)
+at_word_first P t ts v e p = subst P (sym (first_word t ts v e)) p
+
+pub back : (t : Token) (k : List Symbol) (vs : List Val) (s : State) → feed t k vs ≡ Some s → (ts : List Token) (out : List Val) → Yields s.0 s.1 ts out → Yields k vs (t ∷ ts) out
+back t [] vs s h ts out y = no_state s h
+back t (act a ∷ k) vs s h ts out y = back t k (apply a vs) s h ts out y
+back t (word v ∷ k) vs s h ts out y =
+    elim (one_of (is v t.kind) (Some (k, vs)) None s h) [
+      inl q ↦ (t.at, ts, heads t.at v t.kind ts q.0, land k vs s ts out q.1 y)
+    | inr q ↦ no_state s q.1
+    ]
+back t (a_name ∷ k) vs s h ts out y = let r = name_back t.at t.kind k vs s ts out h y in (r.0, ts, r.1, r.2)
+back t (a_path ∷ k) vs s h ts out y = let r = path_back t.at t.kind k vs s ts out h y in (r.0, ts, r.1, r.2)
+back t (a_comparison ∷ k) vs s h ts out y = comparison_back (comparison_of t.kind) t k vs s ts out refl h y
+back t (operand l ∷ k) vs s h ts out y = operand_back l t k vs s ts out h y
+back t (prefixes left ∷ k) vs s h ts out y = prefix_back t.at left t.kind k vs s ts out h y
+back t (atom ∷ k) vs s h ts out y = let r = atom_back t.at t.kind k vs s ts out h y in (r.read, r.level_is, r.row_is, r.after)
+back t (tail l left ∷ k) vs s h ts out y = tail_back (joint_of t.kind) l left t k vs s ts out refl (λ g. back t k vs s g ts out y) h y
+back t (name_tail at x ∷ k) vs s h ts out y =
+    elim (one_of (is w.Open t.kind) (Some (arguments w.Close ∷ act (called at x) ∷ k, of_expressions [] ∷ vs)) (feed t k (of_expression (variable at x) ∷ vs)) s h) [
+      inl q ↦
+        let z : Yields (arguments w.Close ∷ act (called at x) ∷ k) (of_expressions [] ∷ vs) ts out = land (arguments w.Close ∷ act (called at x) ∷ k) (of_expressions [] ∷ vs) s ts out q.1 y in
+        (record { tree = call at x z.0; next = z.1; grouped = z.2; spelled = λ n g. (t ∷ ts, refl, (t.at, ts, heads t.at w.Open t.kind ts q.0, z.3 n g)) }, omega arith, refl,
+         with_values k (apply (called at x) (with_expressions z.0 (of_expressions [] ∷ vs))) (of_expression (call at x z.0) ∷ vs) z.1 out (valued_call at x z.0 vs) z.4)
+    | inr q ↦ (record { tree = variable at x; next = t ∷ ts; grouped = tt; spelled = λ n g. (t ∷ ts, refl, g) }, omega arith, refl, back t k (of_expression (variable at x) ∷ vs) s q.1 ts out y)
+    ]
+back t (arguments close ∷ k) vs s h ts out y =
+    elim (one_of (is close t.kind) (Some (k, vs)) (begin_operand t.at t.kind 6 (act adds_expression ∷ more_arguments close ∷ k) vs) s h) [
+      inl q ↦ (no_expression, ts, tt, λ n g. (t.at, ts, heads t.at close t.kind ts q.0, g), land k vs s ts out q.1 y)
+    | inr q ↦
+        let a : Yields (operand 6 ∷ act adds_expression ∷ more_arguments close ∷ k) vs (t ∷ ts) out = operand_back 6 t (act adds_expression ∷ more_arguments close ∷ k) vs s ts out q.1 y in
+        let z = a.2 in
+        (expression a.0.tree z.0, z.1, (a.0.grouped, z.2), λ n g. a.0.spelled (more_spelling z.0 (mark.word close ∷ n)) (z.3 n g), z.4)
+    ]
+back t (more_arguments close ∷ k) vs s h ts out y =
+    elim (one_of (is close t.kind) (Some (k, vs)) (if is w.Comma t.kind then Some (operand 6 ∷ act adds_expression ∷ more_arguments close ∷ k, vs) else None) s h) [
+      inl q ↦ (no_expression, ts, tt, λ n g. (t.at, ts, heads t.at close t.kind ts q.0, g), land k vs s ts out q.1 y)
+    | inr q ↦ elim (one_of (is w.Comma t.kind) (Some (operand 6 ∷ act adds_expression ∷ more_arguments close ∷ k, vs)) None s q.1) [
+        inl q ↦
+          let a : Yields (operand 6 ∷ act adds_expression ∷ more_arguments close ∷ k) vs ts out = land (operand 6 ∷ act adds_expression ∷ more_arguments close ∷ k) vs s ts out q.1 y in
+          let z = a.2 in
+          (expression a.0.tree z.0, z.1, (a.0.grouped, z.2), λ n g. (t.at, ts, heads t.at w.Comma t.kind ts q.0, a.0.spelled (more_spelling z.0 (mark.word close ∷ n)) (z.3 n g)), z.4)
+      | inr q ↦ no_state s q.1
+      ]
+    ]
+back t (parameters ∷ k) vs s h ts out y =
+    elim (one_of (is w.Close t.kind) (Some (k, vs)) (take_name t.at t.kind (act adds_name ∷ more_names w.Close ∷ k) vs) s h) [
+      inl q ↦ ([], ts, λ n g. (t.at, ts, heads t.at w.Close t.kind ts q.0, g), land k vs s ts out q.1 y)
+    | inr q ↦
+        let r = name_back t.at t.kind (act adds_name ∷ more_names w.Close ∷ k) vs s ts out q.1 y in
+        let z = r.2 in
+        (r.0 ∷ z.0, z.1, λ n g. (ts, r.1, z.2 n g), z.3)
+    ]
+back t (more_names close ∷ k) vs s h ts out y =
+    elim (one_of (is close t.kind) (Some (k, vs)) (if is w.Comma t.kind then Some (a_name ∷ act adds_name ∷ more_names close ∷ k, vs) else None) s h) [
+      inl q ↦ ([], ts, λ n g. (t.at, ts, heads t.at close t.kind ts q.0, g), land k vs s ts out q.1 y)
+    | inr q ↦ elim (one_of (is w.Comma t.kind) (Some (a_name ∷ act adds_name ∷ more_names close ∷ k, vs)) None s q.1) [
+        inl q ↦
+          let a : Yields (a_name ∷ act adds_name ∷ more_names close ∷ k) vs ts out = land (a_name ∷ act adds_name ∷ more_names close ∷ k) vs s ts out q.1 y in
+          let z = a.3 in
+          (a.0 ∷ z.0, z.1, λ n g. (t.at, ts, heads t.at w.Comma t.kind ts q.0, (a.1, a.2, z.2 n g)), z.3)
+      | inr q ↦ no_state s q.1
+      ]
+    ]
+back t (a_query ∷ k) vs s h ts out y =
+    let b = by_word_back t.kind (λ v. begin_query t.at v k vs) s h in
+    let r = query_back t.at b.0 k vs s ts out b.2 y in
+    (r.tree, r.next, r.grouped, λ n g. at_word_first (AreTokens (query_spelling r.tree n)) t ts b.0 b.1 (r.spelled n g), r.after)
+back t (more_queries ∷ k) vs s h ts out y =
+    elim (one_of (is w.BraceClose t.kind) (Some (k, vs)) (by_word (λ v. begin_query t.at v (act adds_query ∷ more_queries ∷ k) vs) t.kind) s h) [
+      inl q ↦ (no_query, ts, tt, λ n g. (t.at, ts, heads t.at w.BraceClose t.kind ts q.0, g), land k vs s ts out q.1 y)
+    | inr q ↦
+        let b = by_word_back t.kind (λ v. begin_query t.at v (act adds_query ∷ more_queries ∷ k) vs) s q.1 in
+        let r = query_back t.at b.0 (act adds_query ∷ more_queries ∷ k) vs s ts out b.2 y in
+        let z = r.after in
+        (query r.tree z.0, z.1, (r.grouped, z.2), λ n g. at_word_first (AreTokens (query_spelling r.tree (queries_spelling z.0 (mark.word w.BraceClose ∷ n)))) t ts b.0 b.1 (r.spelled (queries_spelling z.0 (mark.word w.BraceClose ∷ n)) (z.3 n g)), z.4)
+    ]
+back t (filter ∷ k) vs s h ts out y =
+    elim (one_of (is w.Where t.kind) (Some (test (more_tests ∷ k), vs)) (feed t k vs) s h) [
+      inl q ↦
+        let a : Yields (test (more_tests ∷ k)) vs ts out = land (test (more_tests ∷ k)) vs s ts out q.1 y in
+        let b = a.3 in
+        let e = b.4 in
+        let z = e.2 in
+        (condition a.0 b.0 e.0.tree z.0, z.1, (e.1, e.0.grouped, z.2), λ n g. (t.at, ts, heads t.at w.Where t.kind ts q.0, (a.1, a.2, (b.1, b.2, b.3, e.0.spelled (and_spelling z.0 n) (z.3 n g)))), z.4)
+    | inr q ↦ (no_condition, t ∷ ts, tt, λ n g. g, back t k vs s q.1 ts out y)
+    ]
+back t (more_tests ∷ k) vs s h ts out y =
+    elim (one_of (is w.And t.kind) (Some (test (more_tests ∷ k), vs)) (feed t k vs) s h) [
+      inl q ↦
+        let a : Yields (test (more_tests ∷ k)) vs ts out = land (test (more_tests ∷ k)) vs s ts out q.1 y in
+        let b = a.3 in
+        let e = b.4 in
+        let z = e.2 in
+        (condition a.0 b.0 e.0.tree z.0, z.1, (e.1, e.0.grouped, z.2), λ n g. (t.at, ts, heads t.at w.And t.kind ts q.0, (a.1, a.2, (b.1, b.2, b.3, e.0.spelled (and_spelling z.0 n) (z.3 n g)))), z.4)
+    | inr q ↦ (no_condition, t ∷ ts, tt, λ n g. g, back t k vs s q.1 ts out y)
+    ]
+back t (more_sets ∷ k) vs s h ts out y =
+    elim (one_of (is w.Comma t.kind) (Some (assigns (more_sets ∷ k), vs)) (feed t k vs) s h) [
+      inl q ↦
+        let a : Yields (assigns (more_sets ∷ k)) vs ts out = land (assigns (more_sets ∷ k)) vs s ts out q.1 y in
+        let b = a.3 in
+        let e = b.3 in
+        let z = e.2 in
+        (assignment a.0 e.0.tree z.0, z.1, (e.0.grouped, z.2), λ n g. (t.at, ts, heads t.at w.Comma t.kind ts q.0, (a.1, a.2, (b.0, b.1, b.2, e.0.spelled (more_sets_spelling z.0 n) (z.3 n g)))), z.4)
+    | inr q ↦ (no_assignment, t ∷ ts, tt, λ n g. g, back t k vs s q.1 ts out y)
+    ]
+back t (a_statement ∷ k) vs s h ts out y =
+    let b = by_word_back t.kind (λ v. begin_statement t.at v k vs) s h in
+    let r = statement_back t.at b.0 k vs s ts out b.2 y in
+    (r.tree, r.next, r.grouped, λ n g. at_word_first (AreTokens (statement_spelling r.tree n)) t ts b.0 b.1 (r.spelled n g), r.after)
+back t (statements ∷ k) vs s h ts out y =
+    elim (one_of (is w.BraceClose t.kind) (Some (k, vs)) (by_word (λ v. begin_statement t.at v (act adds_statement ∷ statements ∷ k) vs) t.kind) s h) [
+      inl q ↦ (no_statement, ts, tt, λ n g. (t.at, ts, heads t.at w.BraceClose t.kind ts q.0, g), land k vs s ts out q.1 y)
+    | inr q ↦
+        let b = by_word_back t.kind (λ v. begin_statement t.at v (act adds_statement ∷ statements ∷ k) vs) s q.1 in
+        let r = statement_back t.at b.0 (act adds_statement ∷ statements ∷ k) vs s ts out b.2 y in
+        let z = r.after in
+        (statement r.tree z.0, z.1, (r.grouped, z.2), λ n g. at_word_first (AreTokens (statement_spelling r.tree (statements_spelling z.0 (mark.word w.BraceClose ∷ n)))) t ts b.0 b.1 (r.spelled (statements_spelling z.0 (mark.word w.BraceClose ∷ n)) (z.3 n g)), z.4)
+    ]
+back t (else_part ∷ k) vs s h ts out y =
+    elim (one_of (is w.Else t.kind) (Some (block (act otherwise ∷ k), vs)) (feed t k (of_else no_else ∷ vs)) s h) [
+      inl q ↦
+        let a : Yields (block (act otherwise ∷ k)) vs ts out = land (block (act otherwise ∷ k)) vs s ts out q.1 y in
+        let z = a.3 in
+        (else_ z.0, z.1, z.2, λ n g. (t.at, ts, heads t.at w.Else t.kind ts q.0, (a.0, a.1, a.2, z.3 n g)), with_values k (apply otherwise (with_statements z.0 (of_statements [] ∷ vs))) (of_else (else_ z.0) ∷ vs) z.1 out (valued_else z.0 vs) z.4)
+    | inr q ↦ (no_else, t ∷ ts, tt, λ n g. g, back t k (of_else no_else ∷ vs) s q.1 ts out y)
+    ]
+back t (declarations ∷ k) vs s h ts out y =
+    let b = by_word_back t.kind (λ v. begin_declaration t.at v (act adds_declaration ∷ declarations ∷ k) vs) s h in
+    at_word_first (λ us. Yields (declarations ∷ k) vs us out) t ts b.0 b.1 (declaration_back t.at b.0 k vs s ts out b.2 y)

@@ -1,3 +1,4 @@
+pub mod Files
 pub mod Grammar
 pub mod Grouping
 pub mod Machine

@@ -1,0 +1,5 @@
+pub mod Runs
+pub mod ScansAgain
+pub mod Spelled
+pub mod Texts
+pub mod TokensAgain

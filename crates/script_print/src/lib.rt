@@ -1,0 +1,4 @@
+//! The normal spelling of a program: docs/language.md, "How a program text prints".
+#![tactic(auto)]
+
+pub mod laws;

@@ -6,8 +6,8 @@ use Rattle.script_tokens.specs.Kinds.{Kind, fixed, name, number, text}
 use Rattle.script_tokens.specs.Texts.{between}
 use Rattle.script_tokens.specs.Words.{spelling_of}
 
--- a byte of a text: a quote (34), a backslash (92), an LF and a tab by their letters, a byte that isn't printable by
--- two hexadecimal digits, every other as it is
+-- how a text shows a byte: a quote (34) and a backslash (92) behind a backslash, an LF and a tab by a letter, every
+-- other byte outside 0x20 to 0x7e by two hexadecimal digits, and those within as they are
 abbrev pub printed_byte : ℕ → List ℕ
 printed_byte b =
     if b == 34 then codes "\\\""

@@ -2,3 +2,7 @@
 #![tactic(auto)]
 
 pub mod laws;
+pub mod printer;
+#[cfg(test)]
+mod tests;
+pub mod text;

@@ -1,5 +1,5 @@
 -- The space behind the last token becomes an LF.
-use Rattle.std.proofs.Common.{◌≡◌, ◌≤◌, ◌<◌, ◌-◌, ◌+◌, ℕ, zero, suc, List, [], ◌∷◌, ◌++◌, length, set, refl, sym, ap, ◌∙◌, arith, length-append}
+use Rattle.std.proofs.Common.{◌≡◌, ◌≤◌, ◌<◌, ◌-◌, ◌+◌, ℕ, suc, List, [], ◌∷◌, ◌++◌, length, set, refl, ap, ◌∙◌, arith, length-append}
 use Rattle.std.proofs.lemmas.List.{set-append_right}
 use Rattle.script_tokens.specs.Kinds.{Kind}
 use Rattle.script_print.specs.Prints.{printed, spaced, joined}

@@ -1,5 +1,5 @@
 -- Runs of bytes of one class.
-use Rattle.std.proofs.Common.{◌≡◌, ℕ, zero, suc, List, [], ◌∷◌, ◌++◌, take, Bool, true, false, if◌then◌else◌, refl, ap, ◌∙◌}
+use Rattle.std.proofs.Common.{◌≡◌, ℕ, suc, List, [], ◌∷◌, ◌++◌, take, Bool, true, false, if◌then◌else◌, refl, ap}
 use Rattle.script_tokens.specs.Tokens.{in_class, span, run}
 use Rattle.script_tokens.specs.declared.lexeme.Class.{Class}
 

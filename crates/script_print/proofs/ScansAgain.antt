@@ -1,9 +1,9 @@
 -- The scan of what was printed finds the tokens that were printed.
-use Rattle.std.proofs.Common.{◌≡◌, ◌≤◌, ◌<◌, ◌-◌, ◌+◌, ℕ, zero, suc, List, [], ◌∷◌, ◌++◌, length, map, Option, Some, None, Bool, true, false, refl, sym, ap, ◌∙◌, subst, arith, append_assoc, length-append}
+use Rattle.std.proofs.Common.{◌≡◌, ◌-◌, ◌+◌, ℕ, suc, List, [], ◌∷◌, ◌++◌, length, Option, Some, None, true, refl, sym, ap, ◌∙◌, subst, arith, length-append}
 use Rattle.std.specs.List.{All}
 use Rattle.script_tokens.specs.Kinds.{Kind, Token, token}
 use Rattle.script_tokens.specs.Scans.{Scan, scan, scanned, counted, before, bracket_of, open_behind}
-use Rattle.script_tokens.specs.Tokens.{Lexeme, blank, whole, wrong, lexeme, is_blank, IsSpelled}
+use Rattle.script_tokens.specs.Tokens.{blank, whole, lexeme, is_blank, IsSpelled}
 use Rattle.script_tokens.specs.declared.fault.End.TheVariants.{File}
 use Rattle.script_print.specs.Laws.{NestsWithin, Finds, ReadsAgain}
 use Rattle.script_print.specs.Prints.{printed, separator, joined}

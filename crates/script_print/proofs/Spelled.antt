@@ -1,6 +1,5 @@
 -- What is so of a token that some bytes spell.
-use Rattle.std.proofs.Common.{◌≡◌, ◌≤◌, ◌-◌, ◌+◌, ◌*◌, ℕ, ℤ, zero, suc, pos, List, [], ◌∷◌, length, take, Option, Some, None, Bool, true, false, ◌==◌, ◌||◌, if◌then◌else◌, refl, subst, arith}
-use Rattle.std.proofs.lemmas.Bool.Decides.{nat_tests}
+use Rattle.std.proofs.Common.{◌≡◌, ◌+◌, ℕ, pos, List, [], ◌∷◌, length, take, Option, Some, None, Bool, true, false, ◌==◌, if◌then◌else◌, refl, subst}
 use Rattle.std.specs.Bool.{nat_le}
 use Rattle.script_tree.specs.declared.limits.TheConstants.{MOST_IDENTIFIER_BYTES, MOST_LITERAL_BYTES, MOST_NUMBER}
 use Rattle.script_tokens.specs.Kinds.{Kind, fixed, name, number, text}

@@ -1,10 +1,9 @@
 -- A printed text is read again.
-use Rattle.std.proofs.Common.{◌≡◌, ◌<◌, ◌≤◌, ◌+◌, ◌-◌, ◌*◌, ◌/◌, ◌%◌, ℕ, zero, suc, List, [], ◌∷◌, ◌++◌, length, Option, Some, None, Bool, true, false, ◌==◌, ◌||◌, if◌then◌else◌, refl, sym, ap, subst, ◌∙◌, arith, append_assoc, length-append}
+use Rattle.std.proofs.Common.{◌≡◌, ◌<◌, ◌+◌, ◌*◌, ◌/◌, ◌%◌, ℕ, List, [], ◌∷◌, ◌++◌, length, Option, Some, None, Bool, true, false, ◌==◌, ◌||◌, refl, sym, ap, subst, ◌∙◌, arith, append_assoc, length-append}
 use Rattle.std.proofs.lemmas.Bool.Decides.{nat_tests}
 use Rattle.std.specs.Fmt.{digit_glyph}
-use Rattle.script_tokens.specs.Texts.{text_from, text_step, stepped, behind, hex_value, between}
-use Rattle.script_tokens.specs.declared.text.Mode.{Mode}
-use Rattle.script_tokens.specs.declared.text.Mode.TheVariants.{Plain, Escaped, High, Low}
+use Rattle.script_tokens.specs.Texts.{text_from, behind, hex_value, between}
+use Rattle.script_tokens.specs.declared.text.Mode.TheVariants.{Plain}
 use Rattle.script_print.specs.Prints.{printed_byte, printed_content}
 
 glyph_value : (d : ℕ) → d < 16 → hex_value (digit_glyph false d) ≡ Some d

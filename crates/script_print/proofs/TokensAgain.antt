@@ -1,22 +1,20 @@
 -- A printed token is what stands at the front of its bytes.
-use Rattle.std.proofs.Common.{◌≡◌, ◌≤◌, ◌<◌, ◌-◌, ◌+◌, ◌*◌, ◌/◌, ◌%◌, ◌^◌, ℕ, ℤ, zero, suc, pos, List, [], ◌∷◌, ◌++◌, length, Option, Some, None, Bool, true, false, ◌==◌, ◌||◌, if◌then◌else◌, refl, sym, ap, ◌∙◌, subst, arith, append_assoc, length-append}
+use Rattle.std.proofs.Common.{◌≡◌, ◌≤◌, ◌<◌, ◌-◌, ◌+◌, ◌*◌, ◌/◌, ◌%◌, ◌^◌, ℕ, suc, pos, List, [], ◌∷◌, ◌++◌, length, None, true, false, ◌==◌, refl, ap, ◌∙◌, arith, append_assoc, length-append}
 use Rattle.std.proofs.lemmas.Bool.Decides.{nat_tests}
 use Rattle.std.proofs.lemmas.Fmt.{decimal_by_steps}
 use Rattle.std.specs.Bool.{nat_le}
 use Rattle.std.specs.Fmt.{decimal}
 use Rattle.script_tree.specs.declared.limits.TheConstants.{MOST_IDENTIFIER_BYTES, MOST_LITERAL_BYTES, MOST_NUMBER}
 use Rattle.script_tokens.specs.Kinds.{Kind, fixed, name, number, text}
-use Rattle.script_tokens.specs.Texts.{text_from}
 use Rattle.script_tokens.specs.Tokens as tokens
 use Rattle.script_tokens.specs.Tokens.{Lexeme, blank, whole, wrong, lexeme, is_letter, is_digit, is_blank, in_class, run, named, within_limit, value_from}
 use Rattle.script_tokens.specs.Words.{words, word_of, spelling_of}
 use Rattle.script_tokens.specs.declared.lexeme.Class.TheVariants.{Name as Names, Digit}
-use Rattle.script_tokens.specs.declared.text.Mode.TheVariants.{Plain}
 use Rattle.script_tokens.specs.declared.word.Word.{Word}
 use Rattle.script_tokens.specs.declared.word.Word.TheVariants as w
 use Rattle.script_print.specs.Prints.{printed, printed_content, printed_text, separator}
 use Rattle.script_print.proofs.Runs.{AllIn, run_up_to, all_push}
-use Rattle.script_print.proofs.Spelled.{IsName, BeginsWithLetter, IsFit}
+use Rattle.script_print.proofs.Spelled.{BeginsWithLetter, IsFit}
 use Rattle.script_print.proofs.Texts.{content_read}
 
 -- ---- words

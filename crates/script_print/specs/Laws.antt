@@ -1,7 +1,7 @@
 -- What was printed is read again.
 use Rattle.std.specs.Prelude.{◌≡◌, ℕ, List, [], ◌∷◌, length, map, Option, Some, None}
 use Rattle.std.specs.List.{All}
-use Rattle.script_tokens.specs.Kinds.{Kind, Token}
+use Rattle.script_tokens.specs.Kinds.{Kind}
 use Rattle.script_tokens.specs.Scans.{Scan, bracket_of, open_behind, scan_of}
 use Rattle.script_tokens.specs.Tokens.{IsSpelled}
 use Rattle.script_tokens.specs.declared.fault.End.TheVariants.{File}

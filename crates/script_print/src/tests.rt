@@ -12,7 +12,7 @@ enum Token {
     Text(&'static [u8]),
 }
 
-fn printed(alloc: Global, tokens: &[Token]) -> Result<Vec<u8>, AllocError> {
+fn prints_as(alloc: Global, tokens: &[Token], expected: &[u8]) -> Result<bool, AllocError> {
     let mut printer = Printer::new(alloc);
     for token in tokens {
         match *token {
@@ -22,7 +22,7 @@ fn printed(alloc: Global, tokens: &[Token]) -> Result<Vec<u8>, AllocError> {
             Token::Text(content) => printer.text(content)?,
         }
     }
-    Ok(printer.finish())
+    Ok(printer.finish().as_slice() == expected)
 }
 
 #[test]
@@ -38,23 +38,14 @@ fn tokens_print(rt: HostRuntime) -> Result<(), Fail> {
         Token::Word(Word::Semicolon),
         Token::Word(Word::BraceClose),
     ];
-    let table = [
+    let store = [
         Token::Word(Word::Store),
         Token::Name(b"hits".as_slice()),
         Token::Word(Word::Semicolon),
     ];
-    let cases = [
-        (
-            page.as_slice(),
-            b"page \"/e\" { echo 1 + 2 ; }\n".as_slice(),
-        ),
-        (table.as_slice(), b"store hits ;\n".as_slice()),
-        (&[], b"".as_slice()),
-    ];
-    for (tokens, expected) in cases {
-        let bytes = printed(rt.alloc(), tokens)?;
-        assert!(rt; bytes.as_slice() == expected);
-    }
+    assert!(rt; prints_as(rt.alloc(), &page, b"page \"/e\" { echo 1 + 2 ; }\n")?);
+    assert!(rt; prints_as(rt.alloc(), &store, b"store hits ;\n")?);
+    assert!(rt; prints_as(rt.alloc(), &[], b"")?);
     Ok(())
 }
 

@@ -1,2 +1,5 @@
 pub mod Bytes
+pub mod Contents
+pub mod Scans
+pub mod Sizes
 pub mod WordTests

@@ -3,5 +3,7 @@
 
 pub mod fault;
 mod lexeme;
+pub mod scan;
+pub mod shape;
 mod text;
 pub mod word;

@@ -1,5 +1,6 @@
 ghost use Rattle.std.specs.Prelude.{◌≡◌, ◌<◌, ◌≤◌, length, IfOk, IfSome, ◌^◌};
 ghost use Rattle.script_tokens.specs.Texts.{hex_value, text_step, text_from};
+ghost use Rattle.script_tokens.specs.Shapes.{sizes_of};
 ghost use Rattle.script_tokens.specs.declared.text.Mode.TheVariants.{Plain, Escaped, Low};
 
 use crate::lexeme::is_digit;
@@ -84,6 +85,29 @@ fn low_step(high: u8, byte: u8) -> Step
         None => Step::Fails,
         Some(low) => Step::Puts(Mode::Plain, high % 16 * 16 + low),
     }
+}
+
+/// How many bytes the content of a text has, and how many stand behind its first quote, with its last one.
+pub fn measure(bytes: &[u8]) -> Option<(usize, usize)>
+    ensures is { result ≡ sizes_of (text_from Plain bytes.now) }
+    ensures within { IfSome result (λ t. (0 < t.1) × (t.1 ≤ length bytes.now)) }
+{
+    let mut mode = Mode::Plain;
+    let mut content = 0usize;
+    let mut i = 0usize;
+    while i < bytes.len() {
+        match step_of(mode, bytes[i]) {
+            Step::Ends => return Some((content, i + 1)),
+            Step::Fails => return None,
+            Step::Goes(next) => mode = next,
+            Step::Puts(next, _) => {
+                content += 1;
+                mode = next;
+            }
+        }
+        i += 1;
+    }
+    None
 }
 
 /// The content of a text behind its first quote, and how many bytes it takes with its last one.

@@ -1,3 +1,4 @@
+pub mod Beginnings
 pub mod Feed
 pub mod Fronts
 pub mod Kinds

@@ -2,6 +2,7 @@ pub mod Beginnings
 pub mod Feed
 pub mod Fronts
 pub mod Kinds
+pub mod Laws
 pub mod Scans
 pub mod Shapes
 pub mod Texts

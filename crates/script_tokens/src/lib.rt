@@ -2,6 +2,7 @@
 #![tactic(auto)]
 
 pub mod fault;
+pub mod laws;
 mod lexeme;
 pub mod scan;
 pub mod shape;

@@ -8,7 +8,7 @@ ghost use Rattle.script_tokens.specs.Feed.{shape_at, stands, place_at, name_at, 
 use crate::fault::{End, SyntaxFault, SyntaxFaultKind};
 use crate::lexeme::{Lexeme, front};
 use crate::shape::Shape;
-use crate::text::text;
+use crate::text::content;
 use crate::word::Word;
 use script_tree::limits::MOST_OPEN_BRACKETS;
 use script_tree::syntax::name::Name;
@@ -222,8 +222,8 @@ impl<'a> Tokens<'a> {
         match self.front {
             Front::Token(Shape::Text, _) => {
                 let at = self.at;
-                match text(alloc, &self.rest[1..])? {
-                    Some((text, _)) => {
+                match content(alloc, &self.rest[1..])? {
+                    Some(text) => {
                         self.skip();
                         Ok(Some(Name { at, text }))
                     }

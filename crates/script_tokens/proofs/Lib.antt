@@ -1,2 +1,7 @@
 pub mod Bytes
+pub mod Contents
+pub mod Places
+pub mod Scans
+pub mod Sizes
+pub mod Spelled
 pub mod WordTests

@@ -1,5 +1,10 @@
+pub mod Beginnings
+pub mod Feed
+pub mod Fronts
 pub mod Kinds
+pub mod Laws
 pub mod Scans
+pub mod Shapes
 pub mod Texts
 pub mod Tokens
 pub mod Words

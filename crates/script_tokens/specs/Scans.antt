@@ -1,13 +1,12 @@
 -- The tokens of a file, and what stands behind the last one.
-use Rattle.std.specs.Prelude.{◌≡◌, ℕ, zero, suc, ◌+◌, ◌-◌, List, [], ◌∷◌, ◌++◌, Option, Some, None, Bool, true, false, if◌then◌else◌, nat_le}
+use Rattle.std.specs.Prelude.{ℕ, zero, suc, ◌+◌, ◌-◌, List, [], ◌∷◌, Option, Some, None, if◌then◌else◌, nat_le}
 use Rattle.script_tree.specs.declared.limits.TheConstants.{MOST_OPEN_BRACKETS}
-use Rattle.script_tokens.specs.Kinds.{Kind, fixed, name, number, text, Token, token}
+use Rattle.script_tokens.specs.Kinds.{Kind, fixed, Token, token}
 use Rattle.script_tokens.specs.Tokens.{Lexeme, blank, whole, wrong, lexeme_of}
 use Rattle.script_tokens.specs.declared.fault.SyntaxFaultKind.{SyntaxFaultKind}
 use Rattle.script_tokens.specs.declared.fault.SyntaxFaultKind.TheVariants.{Grammar}
 use Rattle.script_tokens.specs.declared.fault.End.{End}
 use Rattle.script_tokens.specs.declared.fault.End.TheVariants.{File, Fault}
-use Rattle.script_tokens.specs.declared.word.Word.{Word}
 use Rattle.script_tokens.specs.declared.word.Word.TheVariants.{Open, Close, BraceOpen, BraceClose, SquareOpen, SquareClose}
 
 pub record Scan : Type 0 where

@@ -1,5 +1,5 @@
 -- What stands at the front of a program's text.
-use Rattle.std.specs.Prelude.{◌≡◌, ℕ, zero, suc, ◌+◌, ◌-◌, ◌*◌, ◌<◌, ◌≤◌, pos, List, [], ◌∷◌, length, take, Option, Some, None, Bool, true, false, if◌then◌else◌, nat_le, ◌==◌, ◌||◌}
+use Rattle.std.specs.Prelude.{◌≡◌, ℕ, suc, ◌+◌, ◌-◌, ◌*◌, ◌<◌, ◌≤◌, pos, List, [], ◌∷◌, length, take, Option, Some, None, Bool, true, false, if◌then◌else◌, nat_le, ◌==◌, ◌||◌}
 use Rattle.script_tree.specs.declared.limits.TheConstants.{MOST_IDENTIFIER_BYTES, MOST_LITERAL_BYTES, MOST_NUMBER}
 use Rattle.script_tokens.specs.Texts.{between, text_from}
 use Rattle.script_tokens.specs.Words.{word_of}

@@ -2,6 +2,11 @@
 #![tactic(auto)]
 
 pub mod fault;
+pub mod laws;
 mod lexeme;
+pub mod scan;
+pub mod shape;
+#[cfg(test)]
+mod tests;
 mod text;
 pub mod word;

@@ -1,5 +1,6 @@
 ghost use Rattle.std.specs.Prelude.{◌≡◌, ◌<◌, ◌≤◌, length, IfOk, IfSome, ◌^◌};
 ghost use Rattle.script_tokens.specs.Texts.{hex_value, text_step, text_from};
+ghost use Rattle.script_tokens.specs.Shapes.{sizes_of, content_of};
 ghost use Rattle.script_tokens.specs.declared.text.Mode.TheVariants.{Plain, Escaped, Low};
 
 use crate::lexeme::is_digit;
@@ -86,17 +87,36 @@ fn low_step(high: u8, byte: u8) -> Step
     }
 }
 
-/// The content of a text behind its first quote, and how many bytes it takes with its last one.
-pub fn text(alloc: Global, bytes: &[u8]) -> Result<Option<(Text, usize)>, AllocError>
-    ensures is { IfOk result (λ o. o ≡ text_from Plain bytes.now) }
-    ensures within { IfOk result (λ o. IfSome o (λ t. (0 < t.1) × (t.1 ≤ length bytes.now))) }
+/// How many bytes the content of a text has, and how many stand behind its first quote, with its last one.
+pub fn measure(bytes: &[u8]) -> Option<(usize, usize)>
+    ensures is { result ≡ sizes_of (text_from Plain bytes.now) }
+    ensures within { IfSome result (λ t. (0 < t.1) × (t.1 ≤ length bytes.now)) }
+{
+    let mut mode = Mode::Plain;
+    let mut content = 0usize;
+    for (i, byte) in bytes.iter().enumerate() {
+        match step_of(mode, *byte) {
+            Step::Ends => return Some((content, i + 1)),
+            Step::Fails => return None,
+            Step::Goes(next) => mode = next,
+            Step::Puts(next, _) => {
+                content += 1;
+                mode = next;
+            }
+        }
+    }
+    None
+}
+
+/// The content of a text behind its first quote; none where it doesn't end.
+pub fn content(alloc: Global, bytes: &[u8]) -> Result<Option<Text>, AllocError>
+    ensures { IfOk result (λ o. o ≡ content_of (text_from Plain bytes.now)) }
 {
     let mut content = Vec::new(alloc);
     let mut mode = Mode::Plain;
-    let mut i = 0usize;
-    while i < bytes.len() {
-        match step_of(mode, bytes[i]) {
-            Step::Ends => return Ok(Some((Text::from_vec(content), i + 1))),
+    for byte in bytes {
+        match step_of(mode, *byte) {
+            Step::Ends => return Ok(Some(Text::from_vec(content))),
             Step::Fails => return Ok(None),
             Step::Goes(next) => mode = next,
             Step::Puts(next, byte) => {
@@ -104,7 +124,6 @@ pub fn text(alloc: Global, bytes: &[u8]) -> Result<Option<(Text, usize)>, AllocE
                 mode = next;
             }
         }
-        i += 1;
     }
     Ok(None)
 }

@@ -1,6 +1,7 @@
 ghost use Rattle.std.specs.Prelude.{◌≡◌, find};
 ghost use Rattle.std.specs.Str.{bytes_eq};
 ghost use Rattle.script_tokens.specs.Words.{spelling_of, word_of};
+ghost use Rattle.script_tokens.specs.Beginnings.{beginning_with};
 
 /// A token that is always written the same: a keyword or a sign.
 #[derive(Clone, Copy, Debug, PartialEq, Eq)]
@@ -57,58 +58,6 @@ pub enum Word {
 }
 
 impl Word {
-    const ALL: [Word; 49] = [
-        Word::Store,
-        Word::Table,
-        Word::Function,
-        Word::Page,
-        Word::Let,
-        Word::Set,
-        Word::If,
-        Word::Else,
-        Word::While,
-        Word::For,
-        Word::In,
-        Word::Echo,
-        Word::Status,
-        Word::Return,
-        Word::Do,
-        Word::Or,
-        Word::And,
-        Word::Not,
-        Word::True,
-        Word::False,
-        Word::Null,
-        Word::Transact,
-        Word::Insert,
-        Word::Select,
-        Word::From,
-        Word::Update,
-        Word::Delete,
-        Word::Expect,
-        Word::Where,
-        Word::Semicolon,
-        Word::Comma,
-        Word::Open,
-        Word::Close,
-        Word::BraceOpen,
-        Word::BraceClose,
-        Word::SquareOpen,
-        Word::SquareClose,
-        Word::Becomes,
-        Word::Equal,
-        Word::Unequal,
-        Word::Less,
-        Word::AtMost,
-        Word::Greater,
-        Word::AtLeast,
-        Word::Plus,
-        Word::Minus,
-        Word::Times,
-        Word::Over,
-        Word::Percent,
-    ];
-
     /// How it is written.
     pub fn spelling(self) -> &'static [u8]
         ensures { result.now ≡ spelling_of self }
@@ -170,7 +119,50 @@ impl Word {
     pub fn spelled(bytes: &[u8]) -> Option<Word>
         ensures { result ≡ word_of bytes.now }
     {
-        first_spelled(&Word::ALL, bytes)
+        match bytes {
+            [] => None,
+            [first, ..] => first_spelled(Word::beginning_with(*first), bytes),
+        }
+    }
+
+    /// The words that begin with this byte.
+    fn beginning_with(byte: u8) -> &'static [Word]
+        ensures { result.now ≡ beginning_with byte }
+    {
+        match byte {
+            b'a' => &[Word::And],
+            b'd' => &[Word::Do, Word::Delete],
+            b'e' => &[Word::Else, Word::Echo, Word::Expect],
+            b'f' => &[Word::Function, Word::For, Word::False, Word::From],
+            b'i' => &[Word::If, Word::In, Word::Insert],
+            b'l' => &[Word::Let],
+            b'n' => &[Word::Not, Word::Null],
+            b'o' => &[Word::Or],
+            b'p' => &[Word::Page],
+            b'r' => &[Word::Return],
+            b's' => &[Word::Store, Word::Set, Word::Status, Word::Select],
+            b't' => &[Word::Table, Word::True, Word::Transact],
+            b'u' => &[Word::Update],
+            b'w' => &[Word::While, Word::Where],
+            b';' => &[Word::Semicolon],
+            b',' => &[Word::Comma],
+            b'(' => &[Word::Open],
+            b')' => &[Word::Close],
+            b'{' => &[Word::BraceOpen],
+            b'}' => &[Word::BraceClose],
+            b'[' => &[Word::SquareOpen],
+            b']' => &[Word::SquareClose],
+            b'=' => &[Word::Becomes, Word::Equal],
+            b'!' => &[Word::Unequal],
+            b'<' => &[Word::Less, Word::AtMost],
+            b'>' => &[Word::Greater, Word::AtLeast],
+            b'+' => &[Word::Plus],
+            b'-' => &[Word::Minus],
+            b'*' => &[Word::Times],
+            b'/' => &[Word::Over],
+            b'%' => &[Word::Percent],
+            _ => &[],
+        }
     }
 }
 

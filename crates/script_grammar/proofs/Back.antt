@@ -22,7 +22,10 @@ use Rattle.script_tokens.proofs.WordTests.{spelled_once}
 use Rattle.script_grammar.specs.Spelling as mark
 use Rattle.script_grammar.specs.Spelling.{Mark, placed, anywhere, at_word, named, comparison_word, infix_word, prefix_word, names_before, names, spelling, list_spelling, more_spelling, query_spelling, queries_spelling, where_spelling, and_spelling, sets_spelling, more_sets_spelling, statement_spelling, else_spelling, statements_spelling, block_spelling, declaration_spelling, program_spelling, AreTokens}
 use Rattle.script_grammar.specs.Grouping.{operator_level, level, if_same, row, repeats, most_repeats, IsJoined, IsPrefixed, IsIndexed, IsGrouped, AreGrouped, IsGroupedQuery, AreGroupedQueries, AreGroupedTests, AreGroupedSets, IsGroupedStatement, IsGroupedElse, AreGroupedStatements, IsGroupedBlock, IsGroupedDeclaration, AreGroupedDeclarations}
-use Rattle.script_grammar.specs.Machine.{Joint, indexing, both, either, joins, joint_level, joined, word_joint, joint_of, word_prefix, prefix_of, word_comparison, comparison_of, Val, of_name, of_names, of_expression, of_expressions, of_comparison, of_tests, of_sets, of_query, of_queries, of_statement, of_statements, of_else, of_declaration, of_declarations, Act, puts, adds_name, adds_expression, adds_test, adds_set, adds_query, adds_statement, adds_declaration, joined_by, prefixed, bracketed, called, listed, transacted, inserted, selected, updated, deleted, expected, bound, said, branched, otherwise, repeated, turned, stored, tabled, defined, paged, apply, Symbol, act, word, a_name, a_path, a_comparison, operand, prefixes, atom, tail, name_tail, arguments, more_arguments, parameters, more_names, a_query, more_queries, filter, more_tests, more_sets, a_statement, statements, else_part, declarations, State, is, chain, test, assignment as assigns, filtered, block, begin_word, begin_atom, begin_prefix, begin_prefixed, begin_operand, after_joint, go_on, joined_on, begin_query, begin_statement, begin_declaration, by_word, take_name, take_path, take_comparison, feed}
+use Rattle.script_grammar.specs.Machine.{joint_level, joined, word_joint, joint_of, word_prefix, prefix_of, word_comparison, comparison_of, Val, of_name, of_names, of_expression, of_expressions, of_comparison, of_tests, of_sets, of_query, of_queries, of_statement, of_statements, of_else, of_declaration, of_declarations, Act, puts, adds_name, adds_expression, adds_test, adds_set, adds_query, adds_statement, adds_declaration, joined_by, prefixed, bracketed, called, listed, transacted, inserted, selected, updated, deleted, expected, bound, said, branched, otherwise, repeated, turned, stored, tabled, defined, paged, apply, Symbol, act, word, a_name, a_path, a_comparison, operand, prefixes, atom, tail, name_tail, arguments, more_arguments, parameters, more_names, a_query, more_queries, filter, more_tests, more_sets, a_statement, statements, else_part, declarations, State, chain, test, assignment as assigns, filtered, block, begin_word, begin_atom, begin_prefix, begin_prefixed, begin_operand, after_joint, go_on, joined_on, begin_query, begin_statement, begin_declaration, by_word, take_name, take_path, take_comparison, feed}
+use Rattle.script_grammar.specs.declared.joint.Joint.{Joint}
+use Rattle.script_grammar.specs.declared.joint.Joint.TheVariants.{Indexing, And, Or, Operator}
+use Rattle.script_tokens.specs.Feed.{is_word}
 use Rattle.script_grammar.proofs.Added.{statements_in, statements_again, with_names, with_expressions, with_queries, with_conditions, with_assignments, with_statements, with_declarations, all_names, all_statements}
 use Rattle.script_grammar.proofs.Complete.{itself, valued_call, valued_list, valued_transact, valued_insert, valued_select, valued_update, valued_delete, valued_expect, valued_if, valued_while, valued_for, valued_else, valued_table}
 use Rattle.script_grammar.proofs.Yields.{Spelled, joint_word, joint_spelling, IsRight, Turn, Turns, Read, most_level, declarations_before, Yields}
@@ -48,14 +51,14 @@ with_values k vs us ts out e y = subst (λ x. Yields k x ts out) e y
 false_true : {P : Type 0} → false ≡ true → P
 false_true h = cc
 
-pub is_word : (v : Word) (t : Kind) → is v t ≡ true → t ≡ kind.fixed v
-is_word v (kind.fixed u) h = ap kind.fixed (spelled_once u v ((bytes_eq-Decides (spelling_of u) (spelling_of v)).0 h))
-is_word v (kind.name x) h = false_true h
-is_word v (kind.number n) h = false_true h
-is_word v (kind.text x) h = false_true h
+pub word_is : (v : Word) (t : Kind) → is_word v t ≡ true → t ≡ kind.fixed v
+word_is v (kind.fixed u) h = ap kind.fixed (spelled_once u v ((bytes_eq-Decides (spelling_of u) (spelling_of v)).0 h))
+word_is v (kind.name x) h = false_true h
+word_is v (kind.number n) h = false_true h
+word_is v (kind.text x) h = false_true h
 
-pub heads : (at : ℕ) (v : Word) (t : Kind) (ts : List Token) → is v t ≡ true → token at t ∷ ts ≡ token at (kind.fixed v) ∷ ts
-heads at v t ts h = ap (λ k. token at k ∷ ts) (is_word v t h)
+pub heads : (at : ℕ) (v : Word) (t : Kind) (ts : List Token) → is_word v t ≡ true → token at t ∷ ts ≡ token at (kind.fixed v) ∷ ts
+heads at v t ts h = ap (λ k. token at k ∷ ts) (word_is v t h)
 
 no_prefix_of : {P : Type 0} (operator : UnaryOperator) → None ≡ Some operator → P
 no_prefix_of operator h = cc
@@ -78,20 +81,20 @@ the_joint : (a b : Joint) → Some a ≡ Some b → a ≡ b
 the_joint a b h = cc
 
 pub joint_is : (t : Kind) (j : Joint) → joint_of t ≡ Some j → t ≡ kind.fixed (joint_word j)
-joint_is (kind.fixed w.SquareOpen) j h = ap (λ i. kind.fixed (joint_word i)) (the_joint indexing j h)
-joint_is (kind.fixed w.And) j h = ap (λ i. kind.fixed (joint_word i)) (the_joint both j h)
-joint_is (kind.fixed w.Or) j h = ap (λ i. kind.fixed (joint_word i)) (the_joint either j h)
-joint_is (kind.fixed w.Plus) j h = ap (λ i. kind.fixed (joint_word i)) (the_joint (joins two.Plus) j h)
-joint_is (kind.fixed w.Minus) j h = ap (λ i. kind.fixed (joint_word i)) (the_joint (joins two.Minus) j h)
-joint_is (kind.fixed w.Times) j h = ap (λ i. kind.fixed (joint_word i)) (the_joint (joins two.Times) j h)
-joint_is (kind.fixed w.Over) j h = ap (λ i. kind.fixed (joint_word i)) (the_joint (joins two.Quotient) j h)
-joint_is (kind.fixed w.Percent) j h = ap (λ i. kind.fixed (joint_word i)) (the_joint (joins two.Remainder) j h)
-joint_is (kind.fixed w.Equal) j h = ap (λ i. kind.fixed (joint_word i)) (the_joint (joins (two.Compare compared.Equal)) j h)
-joint_is (kind.fixed w.Unequal) j h = ap (λ i. kind.fixed (joint_word i)) (the_joint (joins (two.Compare compared.Unequal)) j h)
-joint_is (kind.fixed w.Less) j h = ap (λ i. kind.fixed (joint_word i)) (the_joint (joins (two.Compare compared.Less)) j h)
-joint_is (kind.fixed w.AtMost) j h = ap (λ i. kind.fixed (joint_word i)) (the_joint (joins (two.Compare compared.AtMost)) j h)
-joint_is (kind.fixed w.Greater) j h = ap (λ i. kind.fixed (joint_word i)) (the_joint (joins (two.Compare compared.Greater)) j h)
-joint_is (kind.fixed w.AtLeast) j h = ap (λ i. kind.fixed (joint_word i)) (the_joint (joins (two.Compare compared.AtLeast)) j h)
+joint_is (kind.fixed w.SquareOpen) j h = ap (λ i. kind.fixed (joint_word i)) (the_joint Indexing j h)
+joint_is (kind.fixed w.And) j h = ap (λ i. kind.fixed (joint_word i)) (the_joint And j h)
+joint_is (kind.fixed w.Or) j h = ap (λ i. kind.fixed (joint_word i)) (the_joint Or j h)
+joint_is (kind.fixed w.Plus) j h = ap (λ i. kind.fixed (joint_word i)) (the_joint (Operator two.Plus) j h)
+joint_is (kind.fixed w.Minus) j h = ap (λ i. kind.fixed (joint_word i)) (the_joint (Operator two.Minus) j h)
+joint_is (kind.fixed w.Times) j h = ap (λ i. kind.fixed (joint_word i)) (the_joint (Operator two.Times) j h)
+joint_is (kind.fixed w.Over) j h = ap (λ i. kind.fixed (joint_word i)) (the_joint (Operator two.Quotient) j h)
+joint_is (kind.fixed w.Percent) j h = ap (λ i. kind.fixed (joint_word i)) (the_joint (Operator two.Remainder) j h)
+joint_is (kind.fixed w.Equal) j h = ap (λ i. kind.fixed (joint_word i)) (the_joint (Operator (two.Compare compared.Equal)) j h)
+joint_is (kind.fixed w.Unequal) j h = ap (λ i. kind.fixed (joint_word i)) (the_joint (Operator (two.Compare compared.Unequal)) j h)
+joint_is (kind.fixed w.Less) j h = ap (λ i. kind.fixed (joint_word i)) (the_joint (Operator (two.Compare compared.Less)) j h)
+joint_is (kind.fixed w.AtMost) j h = ap (λ i. kind.fixed (joint_word i)) (the_joint (Operator (two.Compare compared.AtMost)) j h)
+joint_is (kind.fixed w.Greater) j h = ap (λ i. kind.fixed (joint_word i)) (the_joint (Operator (two.Compare compared.Greater)) j h)
+joint_is (kind.fixed w.AtLeast) j h = ap (λ i. kind.fixed (joint_word i)) (the_joint (Operator (two.Compare compared.AtLeast)) j h)
 joint_is (kind.fixed v) j h = no_joint_of j h
 joint_is (kind.name x) j h = no_joint_of j h
 joint_is (kind.number n) j h = no_joint_of j h
@@ -131,10 +134,10 @@ pub record Joined (j : Joint) (l : ℕ) (x y : Expression) : Type 0 where
   pub row_is : repeats l (joined j x y) ≡ suc (repeats l x)
 
 join_at : (j : Joint) (x y : Expression) → IsGrouped x → level x ≤ joint_level j → repeats (joint_level j) x < most_repeats (joint_level j) → IsGrouped y → IsRight j y → Joined j (joint_level j) x y
-join_at indexing x y gx h few gy r = record { grouped = (record { place = refl; level_is = h; few = few }, gx, gy); level_is = refl; row_is = refl }
-join_at both x y gx h few gy r = record { grouped = (record { place = refl; left_level = h; right_level = r; few = few }, gx, gy); level_is = refl; row_is = refl }
-join_at either x y gx h few gy r = record { grouped = (record { place = refl; left_level = h; right_level = r; few = few }, gx, gy); level_is = refl; row_is = refl }
-join_at (joins operator) x y gx h few gy r =
+join_at Indexing x y gx h few gy r = record { grouped = (record { place = refl; level_is = h; few = few }, gx, gy); level_is = refl; row_is = refl }
+join_at And x y gx h few gy r = record { grouped = (record { place = refl; left_level = h; right_level = r; few = few }, gx, gy); level_is = refl; row_is = refl }
+join_at Or x y gx h few gy r = record { grouped = (record { place = refl; left_level = h; right_level = r; few = few }, gx, gy); level_is = refl; row_is = refl }
+join_at (Operator operator) x y gx h few gy r =
     record { grouped = (record { place = refl; left_level = h; right_level = r; few = few }, gx, gy); level_is = refl; row_is = few_in_a_row (operator_level operator) (suc (repeats (operator_level operator) x)) }
 
 pub join : (j : Joint) (l : ℕ) (x y : Expression) → joint_level j ≡ l → IsGrouped x → level x ≤ l → repeats l x < most_repeats l → IsGrouped y → IsRight j y → Joined j l x y
@@ -143,10 +146,10 @@ join j l x y e gx h few gy r =
     subst P e (λ h few. join_at j x y gx h few gy r) h few
 
 pub joined_spelling : (j : Joint) (x y : Expression) (n : List Mark) → spelling (joined j x y) n ≡ spelling x (joint_spelling j y n)
-joined_spelling indexing x y n = refl
-joined_spelling both x y n = refl
-joined_spelling either x y n = refl
-joined_spelling (joins operator) x y n = refl
+joined_spelling Indexing x y n = refl
+joined_spelling And x y n = refl
+joined_spelling Or x y n = refl
+joined_spelling (Operator operator) x y n = refl
 
 joined_value : (j : Joint) (x y : Expression) (vs : List Val) → apply (joined_by j) (of_expression y ∷ of_expression x ∷ vs) ≡ of_expression (joined j x y) ∷ vs
 joined_value j x y vs = refl
@@ -309,55 +312,55 @@ first_word : (t : Token) (ts : List Token) (v : Word) → t.kind ≡ kind.fixed 
 first_word t ts v e = ap (λ x. token t.at x ∷ ts) e
 
 joint_back : (j : Joint) (l left : ℕ) (t : Token) (k : List Symbol) (vs : List Val) (s : State) (ts : List Token) (out : List Val) → joint_of t.kind ≡ Some j → joint_level j ≡ l → Some (after_joint j l left k, vs) ≡ Some s → Yields s.0 s.1 ts out → Yields (tail l (suc left) ∷ k) vs (t ∷ ts) out
-joint_back indexing l left t k vs s ts out e q h y =
-    let z : Yields (operand 6 ∷ word w.SquareClose ∷ act (joined_by indexing) ∷ tail l left ∷ k) vs ts out = land (after_joint indexing l left k) vs s ts out h y in
+joint_back Indexing l left t k vs s ts out e q h y =
+    let z : Yields (operand 6 ∷ word w.SquareClose ∷ act (joined_by Indexing) ∷ tail l left ∷ k) vs ts out = land (after_joint Indexing l left k) vs s ts out h y in
     let r : Turn l (t ∷ ts) = record {
-      joint = indexing;
+      joint = Indexing;
       right = z.0.tree;
       next = z.2.1;
       level_is = q;
       grouped = z.0.grouped;
       is_right = tt;
-      spelled = λ n g. (t.at, ts, first_word t ts w.SquareOpen (joint_is t.kind indexing e), z.0.spelled (mark.word w.SquareClose ∷ n) (z.2.0, z.2.1, z.2.2, g));
+      spelled = λ n g. (t.at, ts, first_word t ts w.SquareOpen (joint_is t.kind Indexing e), z.0.spelled (mark.word w.SquareClose ∷ n) (z.2.0, z.2.1, z.2.2, g));
     } in
     let t = z.2.3 in (suc t.0, t.1, t.2, omega (arith, t.3), (r, t.4), t.5)
-joint_back both l left t k vs s ts out e q h y =
-    let z : Yields (operand (l - 1) ∷ act (joined_by both) ∷ tail l left ∷ k) vs ts out = land (after_joint both l left k) vs s ts out h y in
-    let b : level z.0.tree < l = right_of both l z.0.tree (omega (arith, q)) z.1 in
+joint_back And l left t k vs s ts out e q h y =
+    let z : Yields (operand (l - 1) ∷ act (joined_by And) ∷ tail l left ∷ k) vs ts out = land (after_joint And l left k) vs s ts out h y in
+    let b : level z.0.tree < l = right_of And l z.0.tree (omega (arith, q)) z.1 in
     let r : Turn l (t ∷ ts) = record {
-      joint = both;
+      joint = And;
       right = z.0.tree;
       next = z.0.next;
       level_is = q;
       grouped = z.0.grouped;
       is_right = omega (arith, b, q);
-      spelled = λ n g. (t.at, ts, first_word t ts w.And (joint_is t.kind both e), z.0.spelled n g);
+      spelled = λ n g. (t.at, ts, first_word t ts w.And (joint_is t.kind And e), z.0.spelled n g);
     } in
     let t = z.2 in (suc t.0, t.1, t.2, omega (arith, t.3), (r, t.4), t.5)
-joint_back either l left t k vs s ts out e q h y =
-    let z : Yields (operand (l - 1) ∷ act (joined_by either) ∷ tail l left ∷ k) vs ts out = land (after_joint either l left k) vs s ts out h y in
-    let b : level z.0.tree < l = right_of either l z.0.tree (omega (arith, q)) z.1 in
+joint_back Or l left t k vs s ts out e q h y =
+    let z : Yields (operand (l - 1) ∷ act (joined_by Or) ∷ tail l left ∷ k) vs ts out = land (after_joint Or l left k) vs s ts out h y in
+    let b : level z.0.tree < l = right_of Or l z.0.tree (omega (arith, q)) z.1 in
     let r : Turn l (t ∷ ts) = record {
-      joint = either;
+      joint = Or;
       right = z.0.tree;
       next = z.0.next;
       level_is = q;
       grouped = z.0.grouped;
       is_right = omega (arith, b, q);
-      spelled = λ n g. (t.at, ts, first_word t ts w.Or (joint_is t.kind either e), z.0.spelled n g);
+      spelled = λ n g. (t.at, ts, first_word t ts w.Or (joint_is t.kind Or e), z.0.spelled n g);
     } in
     let t = z.2 in (suc t.0, t.1, t.2, omega (arith, t.3), (r, t.4), t.5)
-joint_back (joins operator) l left t k vs s ts out e q h y =
-    let z : Yields (operand (l - 1) ∷ act (joined_by (joins operator)) ∷ tail l left ∷ k) vs ts out = land (after_joint (joins operator) l left k) vs s ts out h y in
-    let b : level z.0.tree < l = right_of (joins operator) l z.0.tree (omega (arith, q, operator_big operator)) z.1 in
+joint_back (Operator operator) l left t k vs s ts out e q h y =
+    let z : Yields (operand (l - 1) ∷ act (joined_by (Operator operator)) ∷ tail l left ∷ k) vs ts out = land (after_joint (Operator operator) l left k) vs s ts out h y in
+    let b : level z.0.tree < l = right_of (Operator operator) l z.0.tree (omega (arith, q, operator_big operator)) z.1 in
     let r : Turn l (t ∷ ts) = record {
-      joint = joins operator;
+      joint = Operator operator;
       right = z.0.tree;
       next = z.0.next;
       level_is = q;
       grouped = z.0.grouped;
       is_right = omega (arith, b, q);
-      spelled = λ n g. (t.at, ts, first_word t ts (infix_word operator) (joint_is t.kind (joins operator) e), z.0.spelled n g);
+      spelled = λ n g. (t.at, ts, first_word t ts (infix_word operator) (joint_is t.kind (Operator operator) e), z.0.spelled n g);
     } in
     let t = z.2 in (suc t.0, t.1, t.2, omega (arith, t.3), (r, t.4), t.5)
 
@@ -624,7 +627,7 @@ pub back : (t : Token) (k : List Symbol) (vs : List Val) (s : State) → feed t 
 back t [] vs s h ts out y = no_state s h
 back t (act a ∷ k) vs s h ts out y = back t k (apply a vs) s h ts out y
 back t (word v ∷ k) vs s h ts out y =
-    elim (one_of (is v t.kind) (Some (k, vs)) None s h) [
+    elim (one_of (is_word v t.kind) (Some (k, vs)) None s h) [
       inl q ↦ (t.at, ts, heads t.at v t.kind ts q.0, land k vs s ts out q.1 y)
     | inr q ↦ no_state s q.1
     ]
@@ -636,7 +639,7 @@ back t (prefixes left ∷ k) vs s h ts out y = prefix_back t.at left t.kind k vs
 back t (atom ∷ k) vs s h ts out y = let r = atom_back t.at t.kind k vs s ts out h y in (r.read, r.level_is, r.row_is, r.after)
 back t (tail l left ∷ k) vs s h ts out y = tail_back (joint_of t.kind) l left t k vs s ts out refl (λ g. back t k vs s g ts out y) h y
 back t (name_tail at x ∷ k) vs s h ts out y =
-    elim (one_of (is w.Open t.kind) (Some (arguments w.Close ∷ act (called at x) ∷ k, of_expressions [] ∷ vs)) (feed t k (of_expression (variable at x) ∷ vs)) s h) [
+    elim (one_of (is_word w.Open t.kind) (Some (arguments w.Close ∷ act (called at x) ∷ k, of_expressions [] ∷ vs)) (feed t k (of_expression (variable at x) ∷ vs)) s h) [
       inl q ↦
         let z : Yields (arguments w.Close ∷ act (called at x) ∷ k) (of_expressions [] ∷ vs) ts out = land (arguments w.Close ∷ act (called at x) ∷ k) (of_expressions [] ∷ vs) s ts out q.1 y in
         (record { tree = call at x z.0; next = z.1; grouped = z.2; spelled = λ n g. (t ∷ ts, refl, (t.at, ts, heads t.at w.Open t.kind ts q.0, z.3 n g)) }, omega arith, refl,
@@ -644,7 +647,7 @@ back t (name_tail at x ∷ k) vs s h ts out y =
     | inr q ↦ (record { tree = variable at x; next = t ∷ ts; grouped = tt; spelled = λ n g. (t ∷ ts, refl, g) }, omega arith, refl, back t k (of_expression (variable at x) ∷ vs) s q.1 ts out y)
     ]
 back t (arguments close ∷ k) vs s h ts out y =
-    elim (one_of (is close t.kind) (Some (k, vs)) (begin_operand t.at t.kind 6 (act adds_expression ∷ more_arguments close ∷ k) vs) s h) [
+    elim (one_of (is_word close t.kind) (Some (k, vs)) (begin_operand t.at t.kind 6 (act adds_expression ∷ more_arguments close ∷ k) vs) s h) [
       inl q ↦ (no_expression, ts, tt, λ n g. (t.at, ts, heads t.at close t.kind ts q.0, g), land k vs s ts out q.1 y)
     | inr q ↦
         let a : Yields (operand 6 ∷ act adds_expression ∷ more_arguments close ∷ k) vs (t ∷ ts) out = operand_back 6 t (act adds_expression ∷ more_arguments close ∷ k) vs s ts out q.1 y in
@@ -652,9 +655,9 @@ back t (arguments close ∷ k) vs s h ts out y =
         (expression a.0.tree z.0, z.1, (a.0.grouped, z.2), λ n g. a.0.spelled (more_spelling z.0 (mark.word close ∷ n)) (z.3 n g), z.4)
     ]
 back t (more_arguments close ∷ k) vs s h ts out y =
-    elim (one_of (is close t.kind) (Some (k, vs)) (if is w.Comma t.kind then Some (operand 6 ∷ act adds_expression ∷ more_arguments close ∷ k, vs) else None) s h) [
+    elim (one_of (is_word close t.kind) (Some (k, vs)) (if is_word w.Comma t.kind then Some (operand 6 ∷ act adds_expression ∷ more_arguments close ∷ k, vs) else None) s h) [
       inl q ↦ (no_expression, ts, tt, λ n g. (t.at, ts, heads t.at close t.kind ts q.0, g), land k vs s ts out q.1 y)
-    | inr q ↦ elim (one_of (is w.Comma t.kind) (Some (operand 6 ∷ act adds_expression ∷ more_arguments close ∷ k, vs)) None s q.1) [
+    | inr q ↦ elim (one_of (is_word w.Comma t.kind) (Some (operand 6 ∷ act adds_expression ∷ more_arguments close ∷ k, vs)) None s q.1) [
         inl q ↦
           let a : Yields (operand 6 ∷ act adds_expression ∷ more_arguments close ∷ k) vs ts out = land (operand 6 ∷ act adds_expression ∷ more_arguments close ∷ k) vs s ts out q.1 y in
           let z = a.2 in
@@ -663,7 +666,7 @@ back t (more_arguments close ∷ k) vs s h ts out y =
       ]
     ]
 back t (parameters ∷ k) vs s h ts out y =
-    elim (one_of (is w.Close t.kind) (Some (k, vs)) (take_name t.at t.kind (act adds_name ∷ more_names w.Close ∷ k) vs) s h) [
+    elim (one_of (is_word w.Close t.kind) (Some (k, vs)) (take_name t.at t.kind (act adds_name ∷ more_names w.Close ∷ k) vs) s h) [
       inl q ↦ ([], ts, λ n g. (t.at, ts, heads t.at w.Close t.kind ts q.0, g), land k vs s ts out q.1 y)
     | inr q ↦
         let r = name_back t.at t.kind (act adds_name ∷ more_names w.Close ∷ k) vs s ts out q.1 y in
@@ -671,9 +674,9 @@ back t (parameters ∷ k) vs s h ts out y =
         (r.0 ∷ z.0, z.1, λ n g. (ts, r.1, z.2 n g), z.3)
     ]
 back t (more_names close ∷ k) vs s h ts out y =
-    elim (one_of (is close t.kind) (Some (k, vs)) (if is w.Comma t.kind then Some (a_name ∷ act adds_name ∷ more_names close ∷ k, vs) else None) s h) [
+    elim (one_of (is_word close t.kind) (Some (k, vs)) (if is_word w.Comma t.kind then Some (a_name ∷ act adds_name ∷ more_names close ∷ k, vs) else None) s h) [
       inl q ↦ ([], ts, λ n g. (t.at, ts, heads t.at close t.kind ts q.0, g), land k vs s ts out q.1 y)
-    | inr q ↦ elim (one_of (is w.Comma t.kind) (Some (a_name ∷ act adds_name ∷ more_names close ∷ k, vs)) None s q.1) [
+    | inr q ↦ elim (one_of (is_word w.Comma t.kind) (Some (a_name ∷ act adds_name ∷ more_names close ∷ k, vs)) None s q.1) [
         inl q ↦
           let a : Yields (a_name ∷ act adds_name ∷ more_names close ∷ k) vs ts out = land (a_name ∷ act adds_name ∷ more_names close ∷ k) vs s ts out q.1 y in
           let z = a.3 in
@@ -686,7 +689,7 @@ back t (a_query ∷ k) vs s h ts out y =
     let r = query_back t.at b.0 k vs s ts out b.2 y in
     (r.tree, r.next, r.grouped, λ n g. at_word_first (AreTokens (query_spelling r.tree n)) t ts b.0 b.1 (r.spelled n g), r.after)
 back t (more_queries ∷ k) vs s h ts out y =
-    elim (one_of (is w.BraceClose t.kind) (Some (k, vs)) (by_word (λ v. begin_query t.at v (act adds_query ∷ more_queries ∷ k) vs) t.kind) s h) [
+    elim (one_of (is_word w.BraceClose t.kind) (Some (k, vs)) (by_word (λ v. begin_query t.at v (act adds_query ∷ more_queries ∷ k) vs) t.kind) s h) [
       inl q ↦ (no_query, ts, tt, λ n g. (t.at, ts, heads t.at w.BraceClose t.kind ts q.0, g), land k vs s ts out q.1 y)
     | inr q ↦
         let b = by_word_back t.kind (λ v. begin_query t.at v (act adds_query ∷ more_queries ∷ k) vs) s q.1 in
@@ -695,7 +698,7 @@ back t (more_queries ∷ k) vs s h ts out y =
         (query r.tree z.0, z.1, (r.grouped, z.2), λ n g. at_word_first (AreTokens (query_spelling r.tree (queries_spelling z.0 (mark.word w.BraceClose ∷ n)))) t ts b.0 b.1 (r.spelled (queries_spelling z.0 (mark.word w.BraceClose ∷ n)) (z.3 n g)), z.4)
     ]
 back t (filter ∷ k) vs s h ts out y =
-    elim (one_of (is w.Where t.kind) (Some (test (more_tests ∷ k), vs)) (feed t k vs) s h) [
+    elim (one_of (is_word w.Where t.kind) (Some (test (more_tests ∷ k), vs)) (feed t k vs) s h) [
       inl q ↦
         let a : Yields (test (more_tests ∷ k)) vs ts out = land (test (more_tests ∷ k)) vs s ts out q.1 y in
         let b = a.3 in
@@ -705,7 +708,7 @@ back t (filter ∷ k) vs s h ts out y =
     | inr q ↦ (no_condition, t ∷ ts, tt, λ n g. g, back t k vs s q.1 ts out y)
     ]
 back t (more_tests ∷ k) vs s h ts out y =
-    elim (one_of (is w.And t.kind) (Some (test (more_tests ∷ k), vs)) (feed t k vs) s h) [
+    elim (one_of (is_word w.And t.kind) (Some (test (more_tests ∷ k), vs)) (feed t k vs) s h) [
       inl q ↦
         let a : Yields (test (more_tests ∷ k)) vs ts out = land (test (more_tests ∷ k)) vs s ts out q.1 y in
         let b = a.3 in
@@ -715,7 +718,7 @@ back t (more_tests ∷ k) vs s h ts out y =
     | inr q ↦ (no_condition, t ∷ ts, tt, λ n g. g, back t k vs s q.1 ts out y)
     ]
 back t (more_sets ∷ k) vs s h ts out y =
-    elim (one_of (is w.Comma t.kind) (Some (assigns (more_sets ∷ k), vs)) (feed t k vs) s h) [
+    elim (one_of (is_word w.Comma t.kind) (Some (assigns (more_sets ∷ k), vs)) (feed t k vs) s h) [
       inl q ↦
         let a : Yields (assigns (more_sets ∷ k)) vs ts out = land (assigns (more_sets ∷ k)) vs s ts out q.1 y in
         let b = a.3 in
@@ -729,7 +732,7 @@ back t (a_statement ∷ k) vs s h ts out y =
     let r = statement_back t.at b.0 k vs s ts out b.2 y in
     (r.tree, r.next, r.grouped, λ n g. at_word_first (AreTokens (statement_spelling r.tree n)) t ts b.0 b.1 (r.spelled n g), r.after)
 back t (statements ∷ k) vs s h ts out y =
-    elim (one_of (is w.BraceClose t.kind) (Some (k, vs)) (by_word (λ v. begin_statement t.at v (act adds_statement ∷ statements ∷ k) vs) t.kind) s h) [
+    elim (one_of (is_word w.BraceClose t.kind) (Some (k, vs)) (by_word (λ v. begin_statement t.at v (act adds_statement ∷ statements ∷ k) vs) t.kind) s h) [
       inl q ↦ (no_statement, ts, tt, λ n g. (t.at, ts, heads t.at w.BraceClose t.kind ts q.0, g), land k vs s ts out q.1 y)
     | inr q ↦
         let b = by_word_back t.kind (λ v. begin_statement t.at v (act adds_statement ∷ statements ∷ k) vs) s q.1 in
@@ -738,7 +741,7 @@ back t (statements ∷ k) vs s h ts out y =
         (statement r.tree z.0, z.1, (r.grouped, z.2), λ n g. at_word_first (AreTokens (statement_spelling r.tree (statements_spelling z.0 (mark.word w.BraceClose ∷ n)))) t ts b.0 b.1 (r.spelled (statements_spelling z.0 (mark.word w.BraceClose ∷ n)) (z.3 n g)), z.4)
     ]
 back t (else_part ∷ k) vs s h ts out y =
-    elim (one_of (is w.Else t.kind) (Some (block (act otherwise ∷ k), vs)) (feed t k (of_else no_else ∷ vs)) s h) [
+    elim (one_of (is_word w.Else t.kind) (Some (block (act otherwise ∷ k), vs)) (feed t k (of_else no_else ∷ vs)) s h) [
       inl q ↦
         let a : Yields (block (act otherwise ∷ k)) vs ts out = land (block (act otherwise ∷ k)) vs s ts out q.1 y in
         let z = a.3 in

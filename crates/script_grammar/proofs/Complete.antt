@@ -20,7 +20,10 @@ use Rattle.script_tokens.specs.declared.word.Word.TheVariants as w
 use Rattle.script_grammar.specs.Spelling as mark
 use Rattle.script_grammar.specs.Spelling.{Mark, placed, anywhere, at_word, named, comparison_word, infix_word, prefix_word, truth_word, names_before, names, spelling, list_spelling, more_spelling, query_spelling, queries_spelling, where_spelling, and_spelling, sets_spelling, more_sets_spelling, statement_spelling, else_spelling, statements_spelling, block_spelling, declaration_spelling, program_spelling, AreTokens}
 use Rattle.script_grammar.specs.Grouping.{operator_level, level, row, repeats, most_repeats, IsJoined, IsPrefixed, IsIndexed, IsGrouped, AreGrouped, IsGroupedQuery, AreGroupedQueries, AreGroupedTests, AreGroupedSets, IsGroupedStatement, IsGroupedElse, AreGroupedStatements, IsGroupedBlock, IsGroupedDeclaration, AreGroupedDeclarations}
-use Rattle.script_grammar.specs.Machine.{Joint, indexing, both, either, joins, joint_level, joined, word_joint, joint_of, word_prefix, prefix_of, word_comparison, comparison_of, Val, of_name, of_names, of_expression, of_expressions, of_comparison, of_tests, of_sets, of_query, of_queries, of_statement, of_statements, of_else, of_declaration, of_declarations, Act, puts, adds_name, adds_expression, adds_test, adds_set, adds_query, adds_statement, adds_declaration, joined_by, prefixed, bracketed, called, listed, transacted, inserted, selected, updated, deleted, expected, bound, said, branched, otherwise, repeated, turned, stored, tabled, defined, paged, apply, Symbol, act, word, a_name, a_path, a_comparison, operand, prefixes, atom, tail, name_tail, arguments, more_arguments, parameters, more_names, a_query, more_queries, filter, more_tests, more_sets, a_statement, statements, else_part, declarations, State, is, chain, after_joint, go_on, joined_on, feed, Outcome, done, stuck, run, run_file}
+use Rattle.script_grammar.specs.Machine.{joint_level, joined, word_joint, joint_of, word_prefix, prefix_of, word_comparison, comparison_of, Val, of_name, of_names, of_expression, of_expressions, of_comparison, of_tests, of_sets, of_query, of_queries, of_statement, of_statements, of_else, of_declaration, of_declarations, Act, puts, adds_name, adds_expression, adds_test, adds_set, adds_query, adds_statement, adds_declaration, joined_by, prefixed, bracketed, called, listed, transacted, inserted, selected, updated, deleted, expected, bound, said, branched, otherwise, repeated, turned, stored, tabled, defined, paged, apply, Symbol, act, word, a_name, a_path, a_comparison, operand, prefixes, atom, tail, name_tail, arguments, more_arguments, parameters, more_names, a_query, more_queries, filter, more_tests, more_sets, a_statement, statements, else_part, declarations, State, chain, after_joint, go_on, joined_on, feed, Outcome, done, stuck, run, run_file}
+use Rattle.script_grammar.specs.declared.joint.Joint.{Joint}
+use Rattle.script_grammar.specs.declared.joint.Joint.TheVariants.{Indexing, And, Or, Operator}
+use Rattle.script_tokens.specs.Feed.{is_word}
 use Rattle.script_grammar.proofs.Added.{expressions_in, queries_in, conditions_in, assignments_in, statements_in, expressions_again, queries_again, conditions_again, assignments_again, statements_again, with_names, with_expressions, with_queries, with_conditions, with_assignments, with_statements, with_block, with_declarations, all_names, all_expressions, all_queries, all_conditions, all_assignments, all_statements, all_of_block, all_declarations}
 use Rattle.script_grammar.proofs.Levels.{From, from_lower, free, opening, closing, Part, Whole, whole_of, IsNoPrefix, climb, operand_of, few}
 use Rattle.script_grammar.proofs.Steps.{is_same, step_on, same_step, act_runs, Reads, ◌then◌, instead, valued, begun, begun_anywhere, nothing, reads_word, reads_name, reads_path, acts, kind_of, First, first_is, IsNot}
@@ -60,7 +63,7 @@ itself n = grind (arith, nat_tests)
 joint_feeds : (at : ℕ) (v : Word) (j : Joint) (l left : ℕ) (k : List Symbol) (vs : List Val) → word_joint v ≡ Some j → joint_level j ≡ l → feed (token at (kind.fixed v)) (tail l (suc left) ∷ k) vs ≡ Some (after_joint j l left k, vs)
 joint_feeds at v j l left k vs e q = rw (e, q, itself) refl
 
--- what a joint joins
+-- what a joint Operator
 pub joint_part : (j : Joint) (v : Word) (l : ℕ) (x y : Expression) (m o n : List Mark) (body : List Symbol → List Symbol) → word_joint v ≡ Some j → joint_level j ≡ l → repeats l (joined j x y) ≡ suc (repeats l x)
     → ((left : ℕ) (k : List Symbol) → closing l left k ≡ tail l left ∷ k) → ((left : ℕ) (k : List Symbol) → after_joint j l left k ≡ body (tail l left ∷ k))
     → Part l x m (mark.word v ∷ o) → Reads body (λ vs. apply (joined_by j) (of_expression y ∷ vs)) o n → Part l (joined j x y) m n
@@ -128,7 +131,7 @@ opening_first (index at x y) n = opening_first x (mark.word w.SquareOpen ∷ spe
 
 -- ---- operators
 
-pub infix_joint : (operator : BinaryOperator) → word_joint (infix_word operator) ≡ Some (joins operator)
+pub infix_joint : (operator : BinaryOperator) → word_joint (infix_word operator) ≡ Some (Operator operator)
 infix_joint (two.Compare compared.Equal) = refl
 infix_joint (two.Compare compared.Unequal) = refl
 infix_joint (two.Compare compared.Less) = refl
@@ -141,7 +144,7 @@ infix_joint two.Times = refl
 infix_joint two.Quotient = refl
 infix_joint two.Remainder = refl
 
-pub infix_open : (operator : BinaryOperator) → is w.Open (kind.fixed (infix_word operator)) ≡ false
+pub infix_open : (operator : BinaryOperator) → is_word w.Open (kind.fixed (infix_word operator)) ≡ false
 infix_open (two.Compare compared.Equal) = refl
 infix_open (two.Compare compared.Unequal) = refl
 infix_open (two.Compare compared.Less) = refl
@@ -165,7 +168,7 @@ operator_levels two.Remainder = (0, refl, refl)
 the_joint : (a b : Joint) → Some a ≡ Some b → b ≡ a
 the_joint a b h = cc
 
-pub from_joint : (v : Word) (j : Joint) → word_joint v ≡ Some j → is w.Open (kind.fixed v) ≡ false → (l : ℕ) → l ≤ joint_level j → From l (kind.fixed v)
+pub from_joint : (v : Word) (j : Joint) → word_joint v ≡ Some j → is_word w.Open (kind.fixed v) ≡ false → (l : ℕ) → l ≤ joint_level j → From l (kind.fixed v)
 from_joint v j e o l h = (o, λ i q. let s : i ≡ j = the_joint j i (sym e ∙ q) in rw s h)
 
 pub row_again : (l l' : ℕ) (n : ℕ) (x : Expression) → l ≡ l' → (if nat_eq l l' then suc n else 0) ≡ suc n
@@ -202,7 +205,7 @@ closing_free round = free 7 w.Close refl refl
 closing_free square = free 7 w.SquareClose refl refl
 closing_free source = free 7 w.From refl refl
 
-closing_comma : (c : Closing) → is (closing_word c) (kind.fixed w.Comma) ≡ false
+closing_comma : (c : Closing) → is_word (closing_word c) (kind.fixed w.Comma) ≡ false
 closing_comma round = refl
 closing_comma square = refl
 closing_comma source = refl
@@ -266,7 +269,7 @@ more_free c (expression e es) n = free 7 w.Comma refl refl
 
 and_free : (cs : Conditions) (n : List Mark) → First (From 4) (and_spelling cs (mark.word w.Semicolon ∷ n))
 and_free no_condition n = free 4 w.Semicolon refl refl
-and_free (condition x c e cs) n = from_joint w.And both refl refl 4 (omega arith)
+and_free (condition x c e cs) n = from_joint w.And And refl refl 4 (omega arith)
 
 where_free : (cs : Conditions) (n : List Mark) → First (From 7) (where_spelling cs (mark.word w.Semicolon ∷ n))
 where_free no_condition n = free 7 w.Semicolon refl refl
@@ -402,35 +405,35 @@ mutual
       let q = operator_levels operator in
       let o : List Mark = spelling y n in
       let m : List Mark = mark.word (infix_word operator) ∷ o in
-      let px : Part (operator_level operator) x (spelling x m) m = reads x g.1 (operator_level operator) g.0.left_level m (from_joint (infix_word operator) (joins operator) (infix_joint operator) (infix_open operator) (operator_level operator) (omega arith)) in
+      let px : Part (operator_level operator) x (spelling x m) m = reads x g.1 (operator_level operator) g.0.left_level m (from_joint (infix_word operator) (Operator operator) (infix_joint operator) (infix_open operator) (operator_level operator) (omega arith)) in
       let py : Part (suc q.0) y o n = reads y g.2 (suc q.0) (omega (arith, g.0.right_level, q.1)) n (from_lower l (suc q.0) n (omega (arith, h, q.1)) f) in
       let wy : Whole (suc q.0) y o n = whole_of (suc q.0) y o n (from_lower l (suc (suc q.0)) n (omega (arith, h, q.1)) f) (few y g.2 (suc q.0)) py in
-      let more : repeats (suc (suc q.0)) (joined (joins operator) x y) ≡ suc (repeats (suc (suc q.0)) x) = rw (q.1, itself) refl in
-      let p : Part (suc (suc q.0)) (joined (joins operator) x y) (spelling x m) n = operator_part (joins operator) (infix_word operator) q.0 x y (spelling x m) o n (infix_joint operator) q.1 more (λ left k. let d : suc (suc q.0) - 1 ≡ suc q.0 = omega arith in ap (λ z. operand z ∷ act (joined_by (joins operator)) ∷ tail (suc (suc q.0)) left ∷ k) d) (subst (λ z. Part z x (spelling x m) m) q.1 px) wy in
+      let more : repeats (suc (suc q.0)) (joined (Operator operator) x y) ≡ suc (repeats (suc (suc q.0)) x) = rw (q.1, itself) refl in
+      let p : Part (suc (suc q.0)) (joined (Operator operator) x y) (spelling x m) n = operator_part (Operator operator) (infix_word operator) q.0 x y (spelling x m) o n (infix_joint operator) q.1 more (λ left k. let d : suc (suc q.0) - 1 ≡ suc q.0 = omega arith in ap (λ z. operand z ∷ act (joined_by (Operator operator)) ∷ tail (suc (suc q.0)) left ∷ k) d) (subst (λ z. Part z x (spelling x m) m) q.1 px) wy in
       climb l (suc (suc q.0)) (binary at operator x y) (spelling x m) n (omega (arith, h, q.1)) (omega (arith, q.1)) (λ z. absurd (omega (arith, z))) f (few (binary at operator x y) g) (subst (λ a. Part (suc (suc q.0)) (binary a operator x y) (spelling x m) n) (sym g.0.place) p)
   reads (and_ at x y) g l h n f =
       let o : List Mark = spelling y n in
       let m : List Mark = mark.word w.And ∷ o in
-      let px : Part 5 x (spelling x m) m = reads x g.1 5 g.0.left_level m (from_joint w.And both refl refl 5 (omega arith)) in
+      let px : Part 5 x (spelling x m) m = reads x g.1 5 g.0.left_level m (from_joint w.And And refl refl 5 (omega arith)) in
       let py : Part 4 y o n = reads y g.2 4 (omega (arith, g.0.right_level)) n (from_lower l 4 n (omega (arith, h)) f) in
       let wy : Whole 4 y o n = whole_of 4 y o n (from_lower l 5 n h f) (few y g.2 4) py in
-      let p : Part 5 (joined both x y) (spelling x m) n = operator_part both w.And 3 x y (spelling x m) o n refl refl refl (λ left k. refl) px wy in
+      let p : Part 5 (joined And x y) (spelling x m) n = operator_part And w.And 3 x y (spelling x m) o n refl refl refl (λ left k. refl) px wy in
       climb l 5 (and_ at x y) (spelling x m) n h (omega arith) (λ z. absurd (omega (arith, z))) f (few (and_ at x y) g) (subst (λ a. Part 5 (and_ a x y) (spelling x m) n) (sym g.0.place) p)
   reads (or_ at x y) g l h n f =
       let o : List Mark = spelling y n in
       let m : List Mark = mark.word w.Or ∷ o in
-      let px : Part 6 x (spelling x m) m = reads x g.1 6 g.0.left_level m (from_joint w.Or either refl refl 6 (omega arith)) in
+      let px : Part 6 x (spelling x m) m = reads x g.1 6 g.0.left_level m (from_joint w.Or Or refl refl 6 (omega arith)) in
       let py : Part 5 y o n = reads y g.2 5 (omega (arith, g.0.right_level)) n (from_lower l 5 n (omega (arith, h)) f) in
       let wy : Whole 5 y o n = whole_of 5 y o n (from_lower l 6 n h f) (few y g.2 5) py in
-      let p : Part 6 (joined either x y) (spelling x m) n = operator_part either w.Or 4 x y (spelling x m) o n refl refl refl (λ left k. refl) px wy in
+      let p : Part 6 (joined Or x y) (spelling x m) n = operator_part Or w.Or 4 x y (spelling x m) o n refl refl refl (λ left k. refl) px wy in
       climb l 6 (or_ at x y) (spelling x m) n h (omega arith) (λ z. absurd (omega (arith, z))) f (few (or_ at x y) g) (subst (λ a. Part 6 (or_ a x y) (spelling x m) n) (sym g.0.place) p)
   reads (index at x y) g l h n f =
       let o : List Mark = mark.word w.SquareClose ∷ n in
       let c : First (From 7) o = free 7 w.SquareClose refl refl in
       let m : List Mark = mark.word w.SquareOpen ∷ spelling y o in
-      let px : Part 0 x (spelling x m) m = reads x g.1 0 g.0.level_is m (from_joint w.SquareOpen indexing refl refl 0 (omega arith)) in
+      let px : Part 0 x (spelling x m) m = reads x g.1 0 g.0.level_is m (from_joint w.SquareOpen Indexing refl refl 0 (omega arith)) in
       let ry : Reads (λ k. operand 6 ∷ k) (λ vs. of_expression y ∷ vs) (spelling y o) o = operand_from y o g.2 c (reads y g.2 6 (level_most y) o (lower 6 o c)) in
-      let p : Part 0 (joined indexing x y) (spelling x m) n = joint_part indexing w.SquareOpen 0 x y (spelling x m) (spelling y o) n (λ k. operand 6 ∷ word w.SquareClose ∷ act (joined_by indexing) ∷ k) refl refl refl (λ left k. refl) (λ left k. refl) px (ry then reads_word w.SquareClose n then acts (joined_by indexing) n) in
+      let p : Part 0 (joined Indexing x y) (spelling x m) n = joint_part Indexing w.SquareOpen 0 x y (spelling x m) (spelling y o) n (λ k. operand 6 ∷ word w.SquareClose ∷ act (joined_by Indexing) ∷ k) refl refl refl (λ left k. refl) (λ left k. refl) px (ry then reads_word w.SquareClose n then acts (joined_by Indexing) n) in
       climb l 0 (index at x y) (spelling x m) n h (omega arith) (λ z. no_prefix_first x m g.1 g.0.level_is) f (few (index at x y) g) (subst (λ a. Part 0 (index a x y) (spelling x m) n) (sym g.0.place) p)
 
   pub arguments_read : (c : Closing) (es : Expressions) → AreGrouped es → (n : List Mark) → Reads (λ k. arguments (closing_word c) ∷ k) (with_expressions es) (list_spelling es (mark.word (closing_word c) ∷ n)) n

@@ -8,7 +8,9 @@ use Rattle.script_tokens.specs.Kinds.{Kind, Token, token}
 use Rattle.script_tokens.specs.declared.word.Word.{Word}
 use Rattle.script_tokens.specs.declared.word.Word.TheVariants as w
 use Rattle.script_grammar.specs.Spelling.{Mark, placed, anywhere, AreTokens}
-use Rattle.script_grammar.specs.Machine.{Joint, joint_level, joint_of, word_joint, prefix_of, Val, of_expression, Symbol, operand, prefixes, atom, tail, chain, State, is, begin_prefix, joined_on, feed, run}
+use Rattle.script_grammar.specs.Machine.{joint_level, joint_of, word_joint, prefix_of, Val, of_expression, Symbol, operand, prefixes, atom, tail, chain, State, begin_prefix, joined_on, feed, run}
+use Rattle.script_grammar.specs.declared.joint.Joint.{Joint}
+use Rattle.script_tokens.specs.Feed.{is_word}
 use Rattle.script_grammar.specs.Grouping.{operator_level, level, if_same, row, repeats, most_repeats, IsJoined, IsPrefixed, IsIndexed, IsGrouped}
 use Rattle.script_grammar.proofs.Steps.{same_step, operand_runs, Reads, instead, First, first_is, IsNot}
 
@@ -25,7 +27,7 @@ from_lower l s (m ∷ ms) h f = (f.0, λ j e. let g = f.1 j e in omega (arith, g
 pub no_joint : (j : Joint) → None ≡ Some j → ⊥
 no_joint j h = cc
 
-pub free : (l : ℕ) (v : Word) → is w.Open (kind.fixed v) ≡ false → word_joint v ≡ None → From l (kind.fixed v)
+pub free : (l : ℕ) (v : Word) → is_word w.Open (kind.fixed v) ≡ false → word_joint v ≡ None → From l (kind.fixed v)
 free l v o n = (o, λ j e. absurd (no_joint j (sym n ∙ e)))
 
 pub not_joined : (o : Option Joint) (l left : ℕ) (k : List Symbol) (vs : List Val) (other : Option State) → ((j : Joint) → o ≡ Some j → suc l ≤ joint_level j) → joined_on o l left k vs other ≡ other

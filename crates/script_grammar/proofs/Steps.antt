@@ -10,10 +10,12 @@ use Rattle.script_tokens.specs.declared.word.Word.{Word}
 use Rattle.script_tokens.specs.declared.word.Word.TheVariants as w
 use Rattle.script_grammar.specs.Spelling as mark
 use Rattle.script_grammar.specs.Spelling.{Mark, placed, anywhere, at_word, named, AreTokens}
-use Rattle.script_grammar.specs.Machine.{Joint, joint_level, joint_of, Val, of_name, of_comparison, Act, apply, Symbol, act, word, a_name, a_path, operand, prefixes, tail, chain, State, is, joined_on, feed, Outcome, done, stuck, fed, settle, run}
+use Rattle.script_grammar.specs.Machine.{joint_level, joint_of, Val, of_name, of_comparison, Act, apply, Symbol, act, word, a_name, a_path, operand, prefixes, tail, chain, State, joined_on, feed, Outcome, done, stuck, fed, settle, run}
+use Rattle.script_grammar.specs.declared.joint.Joint.{Joint}
+use Rattle.script_tokens.specs.Feed.{is_word}
 use Rattle.script_grammar.specs.Grouping.{most_repeats}
 
-pub is_same : (v : Word) → is v (kind.fixed v) ≡ true
+pub is_same : (v : Word) → is_word v (kind.fixed v) ≡ true
 is_same v = (bytes_eq-Decides (spelling_of v) (spelling_of v)).1 refl
 
 pub step_on : (t : Token) (ts : List Token) (k l : List Symbol) (vs us : List Val) → feed t k vs ≡ Some (l, us) → run (t ∷ ts) k vs ≡ run ts l us
@@ -114,4 +116,4 @@ first_is P (placed at x ∷ m) t ts p h = subst P (same_kind at x t ts h.0 h.1) 
 first_is P (anywhere x ∷ m) t ts p h = subst P (same_kind h.0 x t ts h.1 h.2) p
 
 abbrev pub IsNot : Word → Kind → Type 0
-IsNot v t = is v t ≡ false
+IsNot v t = is_word v t ≡ false

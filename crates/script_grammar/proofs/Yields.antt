@@ -12,7 +12,9 @@ use Rattle.script_tokens.specs.declared.word.Word.TheVariants as w
 use Rattle.script_grammar.specs.Spelling as mark
 use Rattle.script_grammar.specs.Spelling.{Mark, comparison_word, infix_word, names_before, names, spelling, list_spelling, more_spelling, query_spelling, queries_spelling, where_spelling, and_spelling, more_sets_spelling, statement_spelling, else_spelling, statements_spelling, declaration_spelling, AreTokens}
 use Rattle.script_grammar.specs.Grouping.{level, row, repeats, most_repeats, IsGrouped, AreGrouped, IsGroupedQuery, AreGroupedQueries, AreGroupedTests, AreGroupedSets, IsGroupedStatement, IsGroupedElse, AreGroupedStatements, AreGroupedDeclarations}
-use Rattle.script_grammar.specs.Machine.{Joint, indexing, both, either, joins, joint_level, Val, of_name, of_expression, of_comparison, of_query, of_statement, of_else, Act, joined_by, apply, Symbol, act, word, a_name, a_path, a_comparison, operand, prefixes, atom, tail, name_tail, arguments, more_arguments, parameters, more_names, a_query, more_queries, filter, more_tests, more_sets, a_statement, statements, else_part, declarations}
+use Rattle.script_grammar.specs.Machine.{joint_level, Val, of_name, of_expression, of_comparison, of_query, of_statement, of_else, Act, joined_by, apply, Symbol, act, word, a_name, a_path, a_comparison, operand, prefixes, atom, tail, name_tail, arguments, more_arguments, parameters, more_names, a_query, more_queries, filter, more_tests, more_sets, a_statement, statements, else_part, declarations}
+use Rattle.script_grammar.specs.declared.joint.Joint.{Joint}
+use Rattle.script_grammar.specs.declared.joint.Joint.TheVariants.{Indexing, And, Or, Operator}
 use Rattle.script_grammar.proofs.Added.{with_names, with_expressions, with_queries, with_conditions, with_assignments, with_statements, with_declarations}
 
 -- before any tokens that are spelled, the tokens are spelled so
@@ -20,23 +22,23 @@ abbrev pub Spelled : (List Mark → List Mark) → List Token → List Token →
 Spelled f ts mid = (n : List Mark) → AreTokens n mid → AreTokens (f n) ts
 
 abbrev pub joint_word : Joint → Word
-joint_word indexing = w.SquareOpen
-joint_word both = w.And
-joint_word either = w.Or
-joint_word (joins operator) = infix_word operator
+joint_word Indexing = w.SquareOpen
+joint_word And = w.And
+joint_word Or = w.Or
+joint_word (Operator operator) = infix_word operator
 
 -- a joint and its right operand
 abbrev pub joint_spelling : Joint → Expression → List Mark → List Mark
-joint_spelling indexing y n = mark.word w.SquareOpen ∷ spelling y (mark.word w.SquareClose ∷ n)
-joint_spelling both y n = mark.word w.And ∷ spelling y n
-joint_spelling either y n = mark.word w.Or ∷ spelling y n
-joint_spelling (joins operator) y n = mark.word (infix_word operator) ∷ spelling y n
+joint_spelling Indexing y n = mark.word w.SquareOpen ∷ spelling y (mark.word w.SquareClose ∷ n)
+joint_spelling And y n = mark.word w.And ∷ spelling y n
+joint_spelling Or y n = mark.word w.Or ∷ spelling y n
+joint_spelling (Operator operator) y n = mark.word (infix_word operator) ∷ spelling y n
 
 abbrev pub IsRight : Joint → Expression → Type 0
-IsRight indexing y = Unit {0}
-IsRight both y = level y < 5
-IsRight either y = level y < 6
-IsRight (joins operator) y = level y < joint_level (joins operator)
+IsRight Indexing y = Unit {0}
+IsRight And y = level y < 5
+IsRight Or y = level y < 6
+IsRight (Operator operator) y = level y < joint_level (Operator operator)
 
 -- one joint more
 pub record Turn (l : ℕ) (ts : List Token) : Type 0 where

@@ -1,6 +1,5 @@
 -- The grammar as a machine, from which the grammar is proved to be decided: what may come next is a stack of symbols, what was read a stack of values.
 use Rattle.std.specs.Prelude.{◌≡◌, ℕ, zero, suc, ◌-◌, ◌==◌, List, [], ◌∷◌, ◌++◌, Option, Some, None, Bool, true, false, if◌then◌else◌}
-use Rattle.std.specs.Str.{bytes_eq}
 use Rattle.script_tree.specs.Syntax as tree
 use Rattle.script_tree.specs.Syntax.{Expression, Condition, Assignment, Query, Statement, Else}
 use Rattle.script_tree.specs.SyntaxLists.{expressions_of, queries_of, conditions_of, assignments_of, statements_of}
@@ -16,45 +15,40 @@ use Rattle.script_tree.specs.declared.syntax.declaration.Declaration.{Declaratio
 use Rattle.script_tree.specs.declared.syntax.declaration.Declaration.TheVariants as declared
 use Rattle.script_tokens.specs.Kinds as kind
 use Rattle.script_tokens.specs.Kinds.{Kind, Token}
-use Rattle.script_tokens.specs.Words.{spelling_of}
+use Rattle.script_tokens.specs.Feed.{is_word}
 use Rattle.script_tokens.specs.declared.word.Word.{Word}
 use Rattle.script_tokens.specs.declared.word.Word.TheVariants as w
 use Rattle.script_grammar.specs.Grouping.{operator_level, most_repeats}
-
--- what joins two operands
-pub data Joint : Type 0 where
-  indexing : Joint
-  both : Joint
-  either : Joint
-  joins : BinaryOperator → Joint
+use Rattle.script_grammar.specs.declared.joint.Joint.{Joint}
+use Rattle.script_grammar.specs.declared.joint.Joint.TheVariants.{Indexing, And, Or, Operator}
 
 abbrev pub joint_level : Joint → ℕ
-joint_level indexing = 0
-joint_level both = 5
-joint_level either = 6
-joint_level (joins operator) = operator_level operator
+joint_level Indexing = 0
+joint_level And = 5
+joint_level Or = 6
+joint_level (Operator operator) = operator_level operator
 
 abbrev pub joined : Joint → Expression → Expression → Expression
-joined indexing left right = tree.index (place_of left) left right
-joined both left right = tree.and_ (place_of left) left right
-joined either left right = tree.or_ (place_of left) left right
-joined (joins operator) left right = tree.binary (place_of left) operator left right
+joined Indexing left right = tree.index (place_of left) left right
+joined And left right = tree.and_ (place_of left) left right
+joined Or left right = tree.or_ (place_of left) left right
+joined (Operator operator) left right = tree.binary (place_of left) operator left right
 
 abbrev pub word_joint : Word → Option Joint
-word_joint w.SquareOpen = Some indexing
-word_joint w.And = Some both
-word_joint w.Or = Some either
-word_joint w.Plus = Some (joins two.Plus)
-word_joint w.Minus = Some (joins two.Minus)
-word_joint w.Times = Some (joins two.Times)
-word_joint w.Over = Some (joins two.Quotient)
-word_joint w.Percent = Some (joins two.Remainder)
-word_joint w.Equal = Some (joins (two.Compare compared.Equal))
-word_joint w.Unequal = Some (joins (two.Compare compared.Unequal))
-word_joint w.Less = Some (joins (two.Compare compared.Less))
-word_joint w.AtMost = Some (joins (two.Compare compared.AtMost))
-word_joint w.Greater = Some (joins (two.Compare compared.Greater))
-word_joint w.AtLeast = Some (joins (two.Compare compared.AtLeast))
+word_joint w.SquareOpen = Some Indexing
+word_joint w.And = Some And
+word_joint w.Or = Some Or
+word_joint w.Plus = Some (Operator two.Plus)
+word_joint w.Minus = Some (Operator two.Minus)
+word_joint w.Times = Some (Operator two.Times)
+word_joint w.Over = Some (Operator two.Quotient)
+word_joint w.Percent = Some (Operator two.Remainder)
+word_joint w.Equal = Some (Operator (two.Compare compared.Equal))
+word_joint w.Unequal = Some (Operator (two.Compare compared.Unequal))
+word_joint w.Less = Some (Operator (two.Compare compared.Less))
+word_joint w.AtMost = Some (Operator (two.Compare compared.AtMost))
+word_joint w.Greater = Some (Operator (two.Compare compared.Greater))
+word_joint w.AtLeast = Some (Operator (two.Compare compared.AtLeast))
 word_joint v = None
 
 abbrev pub joint_of : Kind → Option Joint
@@ -207,12 +201,6 @@ pub data Symbol : Type 0 where
 abbrev pub State : Type 0
 State = List Symbol × List Val
 
-abbrev pub is : Word → Kind → Bool
-is v (kind.fixed u) = bytes_eq (spelling_of u) (spelling_of v)
-is v (kind.name x) = false
-is v (kind.number n) = false
-is v (kind.text x) = false
-
 -- the tails of the levels up to this one
 abbrev pub chain : ℕ → List Symbol → List Symbol
 chain zero k = k
@@ -260,10 +248,10 @@ abbrev pub begin_operand : ℕ → Kind → (level : ℕ) → List Symbol → Li
 begin_operand at t level k vs = begin_prefixed at t (most_repeats 1) (chain level k) vs
 
 abbrev pub after_joint : Joint → (level left : ℕ) → List Symbol → List Symbol
-after_joint indexing level left k = operand 6 ∷ word w.SquareClose ∷ act (joined_by indexing) ∷ tail level left ∷ k
-after_joint both level left k = operand (level - 1) ∷ act (joined_by both) ∷ tail level left ∷ k
-after_joint either level left k = operand (level - 1) ∷ act (joined_by either) ∷ tail level left ∷ k
-after_joint (joins operator) level left k = operand (level - 1) ∷ act (joined_by (joins operator)) ∷ tail level left ∷ k
+after_joint Indexing level left k = operand 6 ∷ word w.SquareClose ∷ act (joined_by Indexing) ∷ tail level left ∷ k
+after_joint And level left k = operand (level - 1) ∷ act (joined_by And) ∷ tail level left ∷ k
+after_joint Or level left k = operand (level - 1) ∷ act (joined_by Or) ∷ tail level left ∷ k
+after_joint (Operator operator) level left k = operand (level - 1) ∷ act (joined_by (Operator operator)) ∷ tail level left ∷ k
 
 abbrev pub go_on : Joint → (level left : ℕ) → List Symbol → List Val → Option State
 go_on j level zero k vs = None
@@ -323,7 +311,7 @@ take_comparison (Some c) k vs = Some (k, of_comparison c ∷ vs)
 abbrev pub feed : Token → List Symbol → List Val → Option State
 feed t [] vs = None
 feed t (act a ∷ k) vs = feed t k (apply a vs)
-feed t (word v ∷ k) vs = if is v t.kind then Some (k, vs) else None
+feed t (word v ∷ k) vs = if is_word v t.kind then Some (k, vs) else None
 feed t (a_name ∷ k) vs = take_name t.at t.kind k vs
 feed t (a_path ∷ k) vs = take_path t.at t.kind k vs
 feed t (a_comparison ∷ k) vs = take_comparison (comparison_of t.kind) k vs
@@ -331,19 +319,19 @@ feed t (operand level ∷ k) vs = begin_operand t.at t.kind level k vs
 feed t (prefixes left ∷ k) vs = begin_prefixed t.at t.kind left k vs
 feed t (atom ∷ k) vs = begin_atom t.at t.kind k vs
 feed t (tail level left ∷ k) vs = joined_on (joint_of t.kind) level left k vs (feed t k vs)
-feed t (name_tail at x ∷ k) vs = if is w.Open t.kind then Some (arguments w.Close ∷ act (called at x) ∷ k, of_expressions [] ∷ vs) else feed t k (of_expression (tree.variable at x) ∷ vs)
-feed t (arguments close ∷ k) vs = if is close t.kind then Some (k, vs) else begin_operand t.at t.kind 6 (act adds_expression ∷ more_arguments close ∷ k) vs
-feed t (more_arguments close ∷ k) vs = if is close t.kind then Some (k, vs) else if is w.Comma t.kind then Some (operand 6 ∷ act adds_expression ∷ more_arguments close ∷ k, vs) else None
-feed t (parameters ∷ k) vs = if is w.Close t.kind then Some (k, vs) else take_name t.at t.kind (act adds_name ∷ more_names w.Close ∷ k) vs
-feed t (more_names close ∷ k) vs = if is close t.kind then Some (k, vs) else if is w.Comma t.kind then Some (a_name ∷ act adds_name ∷ more_names close ∷ k, vs) else None
+feed t (name_tail at x ∷ k) vs = if is_word w.Open t.kind then Some (arguments w.Close ∷ act (called at x) ∷ k, of_expressions [] ∷ vs) else feed t k (of_expression (tree.variable at x) ∷ vs)
+feed t (arguments close ∷ k) vs = if is_word close t.kind then Some (k, vs) else begin_operand t.at t.kind 6 (act adds_expression ∷ more_arguments close ∷ k) vs
+feed t (more_arguments close ∷ k) vs = if is_word close t.kind then Some (k, vs) else if is_word w.Comma t.kind then Some (operand 6 ∷ act adds_expression ∷ more_arguments close ∷ k, vs) else None
+feed t (parameters ∷ k) vs = if is_word w.Close t.kind then Some (k, vs) else take_name t.at t.kind (act adds_name ∷ more_names w.Close ∷ k) vs
+feed t (more_names close ∷ k) vs = if is_word close t.kind then Some (k, vs) else if is_word w.Comma t.kind then Some (a_name ∷ act adds_name ∷ more_names close ∷ k, vs) else None
 feed t (a_query ∷ k) vs = by_word (λ v. begin_query t.at v k vs) t.kind
-feed t (more_queries ∷ k) vs = if is w.BraceClose t.kind then Some (k, vs) else by_word (λ v. begin_query t.at v (act adds_query ∷ more_queries ∷ k) vs) t.kind
-feed t (filter ∷ k) vs = if is w.Where t.kind then Some (test (more_tests ∷ k), vs) else feed t k vs
-feed t (more_tests ∷ k) vs = if is w.And t.kind then Some (test (more_tests ∷ k), vs) else feed t k vs
-feed t (more_sets ∷ k) vs = if is w.Comma t.kind then Some (assignment (more_sets ∷ k), vs) else feed t k vs
+feed t (more_queries ∷ k) vs = if is_word w.BraceClose t.kind then Some (k, vs) else by_word (λ v. begin_query t.at v (act adds_query ∷ more_queries ∷ k) vs) t.kind
+feed t (filter ∷ k) vs = if is_word w.Where t.kind then Some (test (more_tests ∷ k), vs) else feed t k vs
+feed t (more_tests ∷ k) vs = if is_word w.And t.kind then Some (test (more_tests ∷ k), vs) else feed t k vs
+feed t (more_sets ∷ k) vs = if is_word w.Comma t.kind then Some (assignment (more_sets ∷ k), vs) else feed t k vs
 feed t (a_statement ∷ k) vs = by_word (λ v. begin_statement t.at v k vs) t.kind
-feed t (statements ∷ k) vs = if is w.BraceClose t.kind then Some (k, vs) else by_word (λ v. begin_statement t.at v (act adds_statement ∷ statements ∷ k) vs) t.kind
-feed t (else_part ∷ k) vs = if is w.Else t.kind then Some (block (act otherwise ∷ k), vs) else feed t k (of_else tree.no_else ∷ vs)
+feed t (statements ∷ k) vs = if is_word w.BraceClose t.kind then Some (k, vs) else by_word (λ v. begin_statement t.at v (act adds_statement ∷ statements ∷ k) vs) t.kind
+feed t (else_part ∷ k) vs = if is_word w.Else t.kind then Some (block (act otherwise ∷ k), vs) else feed t k (of_else tree.no_else ∷ vs)
 feed t (declarations ∷ k) vs = by_word (λ v. begin_declaration t.at v (act adds_declaration ∷ declarations ∷ k) vs) t.kind
 
 pub data Outcome : Type 0 where

@@ -1,5 +1,6 @@
 pub mod Bytes
 pub mod Contents
+pub mod Feeds
 pub mod Places
 pub mod Scans
 pub mod Sizes

@@ -3,8 +3,8 @@ use Rattle.std.specs.Prelude.{ℕ, List, [], length, take, drop, Option, Some, N
 use Rattle.script_tokens.specs.Kinds.{Kind, fixed, name, number, text}
 use Rattle.script_tokens.specs.Texts.{text_from}
 use Rattle.script_tokens.specs.Tokens.{Lexeme, blank, whole, wrong}
-use Rattle.script_tokens.specs.declared.lexeme.Lexeme.{Lexeme as Front}
-use Rattle.script_tokens.specs.declared.lexeme.Lexeme.TheVariants as front
+use Rattle.script_tokens.specs.declared.lexeme.Lexeme.{Lexeme as Measured}
+use Rattle.script_tokens.specs.declared.lexeme.Lexeme.TheVariants as measured
 use Rattle.script_tokens.specs.declared.shape.Shape.{Shape}
 use Rattle.script_tokens.specs.declared.shape.Shape.TheVariants.{Word, Name, Number, Text}
 use Rattle.script_tokens.specs.declared.text.Mode.TheVariants.{Plain}
@@ -31,7 +31,7 @@ kind_at Name len bytes = name (take len bytes)
 kind_at (Number n) len bytes = number n
 kind_at Text len bytes = text (unwrap_or (content_of (text_from Plain (drop 1 bytes))) [])
 
-abbrev pub lexeme_at : Front → List ℕ → Lexeme
-lexeme_at (front.Blank len) bytes = blank len
-lexeme_at (front.Token shape len) bytes = whole (kind_at shape len bytes) len
-lexeme_at (front.Wrong kind) bytes = wrong kind
+abbrev pub lexeme_at : Measured → List ℕ → Lexeme
+lexeme_at (measured.Blank len) bytes = blank len
+lexeme_at (measured.Token shape len) bytes = whole (kind_at shape len bytes) len
+lexeme_at (measured.Wrong kind) bytes = wrong kind

@@ -48,6 +48,9 @@ abbrev pub named : List ℕ → Option Word → Lexeme
 named x (Some w) = whole (kind.fixed w) (length x)
 named x None = if nat_le (length x) MOST_IDENTIFIER_BYTES then whole (kind.name x) (length x) else wrong Limit
 
+abbrev pub name_or_keyword : List ℕ → Lexeme
+name_or_keyword x = named x (word_of x)
+
 -- the value of digits behind others of value n
 abbrev pub value_from : ℕ → List ℕ → ℕ
 value_from n [] = n
@@ -59,6 +62,9 @@ within_limit n = if nat_le n MOST_NUMBER then Some n else None
 abbrev pub number : ℕ → Option ℕ → Lexeme
 number len None = wrong Limit
 number len (Some n) = whole (kind.number (pos n)) len
+
+abbrev pub number_of : List ℕ → Lexeme
+number_of digits = number (length digits) (within_limit (value_from 0 digits))
 
 -- a text of at most 65,535 bytes of content; its first quote counts to its length
 abbrev pub text : Option (List ℕ × ℕ) → Lexeme
@@ -78,8 +84,8 @@ abbrev pub lexeme_of : ℕ → List ℕ → Lexeme
 lexeme_of b bs =
     if is_blank b then blank 1
     else if b == 35 then blank (span Comment (b ∷ bs))
-    else if is_letter b then named (run Names (b ∷ bs)) (word_of (run Names (b ∷ bs)))
-    else if is_digit b then number (length (run Digit (b ∷ bs))) (within_limit (value_from 0 (run Digit (b ∷ bs))))
+    else if is_letter b then name_or_keyword (run Names (b ∷ bs))
+    else if is_digit b then number_of (run Digit (b ∷ bs))
     else if b == 34 then text (text_from Plain bs)
     else sign (b ∷ bs)
 

@@ -1,6 +1,6 @@
 ghost use Rattle.script_tokens.specs.Laws.{PlacesRise, TokensAreWithin, EachIsSpelled};
 
-/// The places of tokens rise, and the end stands behind them: so the first fault found is the least.
+/// The places of tokens rise, and the end stands behind them. So the first fault found is the least.
 pub fn places_rise()
     ensures { PlacesRise }
 {}

@@ -1,7 +1,6 @@
 ghost use Rattle.std.specs.Prelude.{◌≡◌, ◌≤◌, ◌<◌, ◌∷◌, length, take, ◌*◌, ◌^◌, All, IsTrue, suc};
-ghost use Rattle.script_tokens.specs.Words.{word_of};
 ghost use Rattle.script_tokens.specs.Texts.{text_from};
-ghost use Rattle.script_tokens.specs.Tokens.{in_class, span, lexeme, value_from, is_letter, is_digit, is_blank, sign, named, within_limit, number, text, Within};
+ghost use Rattle.script_tokens.specs.Tokens.{in_class, span, lexeme, value_from, is_letter, is_digit, is_blank, sign, name_or_keyword, within_limit, number_of, text, Within};
 ghost use Rattle.script_tokens.specs.Shapes.{lexeme_at};
 ghost use Rattle.script_tokens.specs.declared.text.Mode.TheVariants.{Plain};
 
@@ -74,7 +73,7 @@ fn span(class: Class, bytes: &[u8]) -> usize
 fn named(bytes: &[u8], len: usize) -> Lexeme
     requires some { 0 < len }
     requires within { len ≤ length bytes.now }
-    ensures is { lexeme_at result bytes.now ≡ named (take len bytes.now) (word_of (take len bytes.now)) }
+    ensures is { lexeme_at result bytes.now ≡ name_or_keyword (take len bytes.now) }
     ensures within { Within (lexeme_at result bytes.now) (length bytes.now) }
 {
     match Word::spelled(&bytes[..len]) {
@@ -105,7 +104,7 @@ fn number(bytes: &[u8], len: usize) -> Lexeme
     requires some { 0 < len }
     requires within { len ≤ length bytes.now }
     requires digits { All (λ b. IsTrue (is_digit b)) (take len bytes.now) }
-    ensures is { lexeme_at result bytes.now ≡ number len (within_limit (value_from 0 (take len bytes.now))) }
+    ensures is { lexeme_at result bytes.now ≡ number_of (take len bytes.now) }
     ensures within { Within (lexeme_at result bytes.now) (length bytes.now) }
 {
     match value_of(&bytes[..len]) {

@@ -87,7 +87,8 @@ fn low_step(high: u8, byte: u8) -> Step
     }
 }
 
-/// How many bytes the content of a text has, and how many stand behind its first quote, with its last one.
+/// How many bytes the content of a text has, and how many it takes behind its first quote; none
+/// where it doesn't end.
 pub fn measure(bytes: &[u8]) -> Option<(usize, usize)>
     ensures is { result ≡ sizes_of (text_from Plain bytes.now) }
     ensures within { IfSome result (λ t. (0 < t.1) × (t.1 ≤ length bytes.now)) }

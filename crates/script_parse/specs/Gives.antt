@@ -1,0 +1,135 @@
+-- What a function of the parser returned: what the machine of the grammar does with its symbols.
+use Rattle.std.specs.Prelude.{◌≡◌, ◌<◌, ℕ, List, [], ◌∷◌, ◌++◌, length, map, ◌==◌, if◌then◌else◌, Option, Some, None, Result, Ok, Err}
+use Rattle.basis.specs.declared.or_memory.OrMemory.{OrMemory}
+use Rattle.basis.specs.declared.or_memory.OrMemory.TheVariants.{Memory, Other}
+use Rattle.script_tree.specs.ExpressionView.{condition_of, assignment_of}
+use Rattle.script_tree.specs.Syntax.{Expression, Query, Statement}
+use Rattle.script_tree.specs.declared.syntax.expression.Assignment.{Assignment}
+use Rattle.script_tree.specs.declared.syntax.expression.Condition.{Condition}
+use Rattle.script_tree.specs.StatementView.{else_of}
+use Rattle.script_tree.specs.declared.comparison.Comparison.{Comparison}
+use Rattle.script_tree.specs.declared.syntax.name.Name.{Name}
+use Rattle.script_tree.specs.declared.syntax.declaration.Declaration.{Declaration}
+use Rattle.script_tree.specs.declared.syntax.statement.Else as code
+use Rattle.script_tokens.specs.Feed.{place_at}
+use Rattle.script_tokens.specs.Kinds.{Kind, Token, token}
+use Rattle.script_tokens.specs.Kinds as kind
+use Rattle.script_tokens.specs.declared.word.Word.{Word}
+use Rattle.script_tree.specs.declared.syntax.operator.UnaryOperator.{UnaryOperator}
+use Rattle.script_grammar.specs.declared.joint.Joint.{Joint}
+use Rattle.script_grammar.specs.Machine.{joint_level, joint_of, prefix_of, comparison_of, Symbol, Val, of_name, of_names, of_expression, of_expressions, of_comparison, of_tests, of_sets, of_query, of_queries, of_statement, of_statements, of_else, of_declaration, of_declarations, State, Outcome, done, stuck, fed, run}
+use Rattle.script_parse.specs.declared.unexpected.Unexpected.{Unexpected}
+
+-- where the machine is stuck: the place of a token, or none at the end
+abbrev pub stuck_place : Outcome → Option (Option ℕ)
+stuck_place (done vs) = None
+stuck_place (stuck rest) = Some (place_at rest)
+
+-- The machine reads the symbols and has these values more; or it is stuck there, whatever follows.
+abbrev pub Gives : {X : Type 0} → (X → List Val) → List Symbol → List Val → Result X (OrMemory Unexpected) → List Token → List Token → Type 0
+Gives to symbols from (Ok x) old new = (k : List Symbol) (vs : List Val) → run old (symbols ++ k) (from ++ vs) ≡ run new k (to x ++ vs)
+Gives to symbols from (Err Memory) old new = Unit {0}
+Gives to symbols from (Err (Other unexpected)) old new = (k : List Symbol) (vs : List Val) → stuck_place (run old (symbols ++ k) (from ++ vs)) ≡ Some unexpected.at
+
+-- the outcome after a first token, of which the machine made this
+abbrev pub after : Token → List Token → Option State → Outcome
+after t ts o = fed t ts o (λ l us. run ts l us)
+
+-- The same of a first token, which is taken already.
+abbrev pub Begins : {X : Type 0} → (X → List Val) → Token → (List Symbol → List Val → Option State) → Result X (OrMemory Unexpected) → List Token → List Token → Type 0
+Begins to t begin (Ok x) old new = (k : List Symbol) (vs : List Val) → after t old (begin k vs) ≡ run new k (to x ++ vs)
+Begins to t begin (Err Memory) old new = Unit {0}
+Begins to t begin (Err (Other unexpected)) old new = (k : List Symbol) (vs : List Val) → stuck_place (after t old (begin k vs)) ≡ Some unexpected.at
+
+abbrev pub word_token : ℕ → Word → Token
+word_token at v = token at (kind.fixed v)
+
+-- ---- the first token
+
+abbrev pub IsNoWord : Kind → Type 0
+IsNoWord (kind.fixed v) = ⊥
+IsNoWord (kind.name x) = Unit {0}
+IsNoWord (kind.number n) = Unit {0}
+IsNoWord (kind.text x) = Unit {0}
+
+-- no word stands first
+abbrev pub BeginsNoWord : List Token → Type 0
+BeginsNoWord [] = Unit {0}
+BeginsNoWord (t ∷ ts) = IsNoWord t.kind
+
+-- the joint of this level
+abbrev pub of_level : ℕ → Option Joint → Option Joint
+of_level l None = None
+of_level l (Some j) = if joint_level j == l then Some j else None
+
+abbrev pub joint_at : ℕ → List Token → Option Joint
+joint_at l [] = None
+joint_at l (t ∷ ts) = of_level l (joint_of t.kind)
+
+abbrev pub placed_prefix : ℕ → Option UnaryOperator → Option (ℕ × UnaryOperator)
+placed_prefix at None = None
+placed_prefix at (Some operator) = Some (at, operator)
+
+-- a prefix, with its place
+abbrev pub prefix_at : List Token → Option (ℕ × UnaryOperator)
+prefix_at [] = None
+prefix_at (t ∷ ts) = placed_prefix t.at (prefix_of t.kind)
+
+-- ---- the values
+
+abbrev pub no_value : {X : Type 0} → X → List Val
+no_value x = []
+
+abbrev pub a_name_value : Name → List Val
+a_name_value x = of_name x ∷ []
+
+abbrev pub names_value : List Name → List Val
+names_value xs = of_names xs ∷ []
+
+abbrev pub expression_value : Expression → List Val
+expression_value e = of_expression e ∷ []
+
+abbrev pub expressions_value : List Expression → List Val
+expressions_value es = of_expressions es ∷ []
+
+abbrev pub comparison_value : Comparison → List Val
+comparison_value c = of_comparison c ∷ []
+
+abbrev pub tests_value : List Condition → List Val
+tests_value cs = of_tests (map condition_of cs) ∷ []
+
+abbrev pub sets_value : List Assignment → List Val
+sets_value ss = of_sets (map assignment_of ss) ∷ []
+
+-- the parts of a test, and of an assignment
+abbrev pub condition_value : Condition → List Val
+condition_value c = of_expression c.value ∷ of_comparison c.comparison ∷ of_name c.column ∷ []
+
+abbrev pub assignment_value : Assignment → List Val
+assignment_value a = of_expression a.value ∷ of_name a.column ∷ []
+
+abbrev pub query_value : Query → List Val
+query_value q = of_query q ∷ []
+
+abbrev pub queries_value : List Query → List Val
+queries_value qs = of_queries qs ∷ []
+
+abbrev pub statement_value : Statement → List Val
+statement_value s = of_statement s ∷ []
+
+abbrev pub statements_value : List Statement → List Val
+statements_value ss = of_statements ss ∷ []
+
+abbrev pub else_value : code.Else → List Val
+else_value other = of_else (else_of other) ∷ []
+
+abbrev pub declaration_value : Declaration → List Val
+declaration_value d = of_declaration d ∷ []
+
+abbrev pub declarations_value : List Declaration → List Val
+declarations_value ds = of_declarations ds ∷ []
+
+-- a comparison, where one stands first
+abbrev pub comparison_at : List Token → Option Comparison
+comparison_at [] = None
+comparison_at (t ∷ ts) = comparison_of t.kind

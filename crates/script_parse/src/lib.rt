@@ -1,0 +1,7 @@
+//! From the bytes of a program to its tree: docs/language.md, "Tokens" and "Grammar".
+#![tactic(auto)]
+
+mod expression;
+mod feed;
+mod query;
+pub mod unexpected;

@@ -25,21 +25,28 @@ abbrev pub stuck_place : Outcome → Option (Option ℕ)
 stuck_place (done vs) = None
 stuck_place (stuck rest) = Some (place_at rest)
 
--- The machine reads the symbols and has these values more; or it is stuck there, whatever follows.
+-- The machine is stuck there, whatever follows.
+abbrev pub Stops : List Symbol → List Val → OrMemory Unexpected → List Token → Type 0
+Stops symbols from Memory old = Unit {0}
+Stops symbols from (Other unexpected) old = (k : List Symbol) (vs : List Val) → stuck_place (run old (symbols ++ k) (from ++ vs)) ≡ Some unexpected.at
+
+-- The machine reads the symbols and has these values more; or it is stuck.
 abbrev pub Gives : {X : Type 0} → (X → List Val) → List Symbol → List Val → Result X (OrMemory Unexpected) → List Token → List Token → Type 0
 Gives to symbols from (Ok x) old new = (k : List Symbol) (vs : List Val) → run old (symbols ++ k) (from ++ vs) ≡ run new k (to x ++ vs)
-Gives to symbols from (Err Memory) old new = Unit {0}
-Gives to symbols from (Err (Other unexpected)) old new = (k : List Symbol) (vs : List Val) → stuck_place (run old (symbols ++ k) (from ++ vs)) ≡ Some unexpected.at
+Gives to symbols from (Err e) old new = Stops symbols from e old
 
 -- the outcome after a first token, of which the machine made this
 abbrev pub after : Token → List Token → Option State → Outcome
 after t ts o = fed t ts o (λ l us. run ts l us)
 
 -- The same of a first token, which is taken already.
+abbrev pub BeginStops : Token → (List Symbol → List Val → Option State) → OrMemory Unexpected → List Token → Type 0
+BeginStops t begin Memory old = Unit {0}
+BeginStops t begin (Other unexpected) old = (k : List Symbol) (vs : List Val) → stuck_place (after t old (begin k vs)) ≡ Some unexpected.at
+
 abbrev pub Begins : {X : Type 0} → (X → List Val) → Token → (List Symbol → List Val → Option State) → Result X (OrMemory Unexpected) → List Token → List Token → Type 0
 Begins to t begin (Ok x) old new = (k : List Symbol) (vs : List Val) → after t old (begin k vs) ≡ run new k (to x ++ vs)
-Begins to t begin (Err Memory) old new = Unit {0}
-Begins to t begin (Err (Other unexpected)) old new = (k : List Symbol) (vs : List Val) → stuck_place (after t old (begin k vs)) ≡ Some unexpected.at
+Begins to t begin (Err e) old new = BeginStops t begin e old
 
 abbrev pub word_token : ℕ → Word → Token
 word_token at v = token at (kind.fixed v)
@@ -113,6 +120,10 @@ query_value q = of_query q ∷ []
 
 abbrev pub queries_value : List Query → List Val
 queries_value qs = of_queries qs ∷ []
+
+-- a name and what is bound to it
+abbrev pub binding_value : Name × Expression → List Val
+binding_value x = of_expression x.1 ∷ of_name x.0 ∷ []
 
 abbrev pub statement_value : Statement → List Val
 statement_value s = of_statement s ∷ []

@@ -4,4 +4,5 @@
 mod expression;
 mod feed;
 mod query;
+mod statement;
 pub mod unexpected;

@@ -52,15 +52,14 @@ fn query_of(alloc: Global, tokens: &mut Tokens<'_>, at: usize, word: Word) -> Re
     ensures gives { Begins query_value (word_token at word) (begin_query at word) result tokens.old.tokens tokens.new.tokens }
     ensures shorter { OnOk result (length tokens.new.tokens ≤ length tokens.old.tokens) }
 {
-    let node = match word {
-        Word::Insert => insert(alloc, tokens, at)?,
-        Word::Select => select(alloc, tokens, at)?,
-        Word::Update => update(alloc, tokens, at)?,
-        Word::Delete => delete(alloc, tokens, at)?,
-        Word::Expect => expect(alloc, tokens, at)?,
-        _ => return Err(OrMemory::Other(Unexpected { at: Some(at) })),
-    };
-    Ok(node)
+    match word {
+        Word::Insert => insert(alloc, tokens, at),
+        Word::Select => select(alloc, tokens, at),
+        Word::Update => update(alloc, tokens, at),
+        Word::Delete => delete(alloc, tokens, at),
+        Word::Expect => expect(alloc, tokens, at),
+        _ => Err(OrMemory::Other(Unexpected { at: Some(at) })),
+    }
 }
 
 #[cycle(expression)]
@@ -135,14 +134,23 @@ fn filter(alloc: Global, tokens: &mut Tokens<'_>) -> Result<Conditions, Stop>
     ensures gives { Gives tests_value (filtered []) [] result tokens.old.tokens tokens.new.tokens }
     ensures shorter { OnOk result (length tokens.new.tokens < length tokens.old.tokens) }
 {
-    let mut tests = Conditions::new(alloc);
-    if tokens.stands(Word::Where) {
-        tokens.skip();
-        tests.push(test(alloc, tokens)?)?;
-        tests = more_tests(alloc, tokens, tests)?;
-    }
+    let tests = tests(alloc, tokens)?;
     take(tokens, Word::Semicolon)?;
     Ok(tests)
+}
+
+#[cycle(expression)]
+fn tests(alloc: Global, tokens: &mut Tokens<'_>) -> Result<Conditions, Stop>
+    ensures gives { Gives tests_value (act (puts (of_tests [])) ∷ filter ∷ []) [] result tokens.old.tokens tokens.new.tokens }
+    ensures shorter { OnOk result (length tokens.new.tokens ≤ length tokens.old.tokens) }
+{
+    let mut tests = Conditions::new(alloc);
+    if !tokens.stands(Word::Where) {
+        return Ok(tests);
+    }
+    tokens.skip();
+    tests.push(test(alloc, tokens)?)?;
+    more_tests(alloc, tokens, tests)
 }
 
 #[cycle(expression)]

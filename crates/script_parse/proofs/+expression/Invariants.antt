@@ -61,7 +61,10 @@ abbrev pub decreases-query::expect : goal.decreases-query::expect
 decreases-query::expect l = 64 * length l.tokens.now.tokens + 12
 
 abbrev pub decreases-query::filter : goal.decreases-query::filter
-decreases-query::filter l = 64 * length l.tokens.now.tokens
+decreases-query::filter l = 64 * length l.tokens.now.tokens + 1
+
+abbrev pub decreases-query::tests : goal.decreases-query::tests
+decreases-query::tests l = 64 * length l.tokens.now.tokens
 
 abbrev pub decreases-query::more_tests : goal.decreases-query::more_tests
 decreases-query::more_tests l = 64 * length l.tokens.now.tokens

@@ -14,7 +14,7 @@ use Rattle.script_tokens.proofs.Feeds.{word_is}
 use Rattle.script_grammar.specs.Grouping.{most_repeats}
 use Rattle.script_grammar.specs.declared.joint.Joint.{Joint}
 use Rattle.script_grammar.specs.declared.joint.Joint.TheVariants.{Indexing, And, Or, Operator}
-use Rattle.script_grammar.specs.Machine.{joint_level, joint_of, prefix_of, Val, of_expressions, Act, joined_by, prefixed, called, adds_name, adds_expression, adds_query, Symbol, act, word, a_name, operand, prefixes, atom, tail, name_tail, arguments, more_arguments, more_names, a_query, more_queries, filter, more_tests, more_sets, a_statement, statements, test, assignment, State, chain, begin_prefix, begin_prefixed, after_joint, go_on, joined_on, by_word, feed, Outcome, done, stuck, fed, run}
+use Rattle.script_grammar.specs.Machine.{joint_level, joint_of, prefix_of, Val, of_expressions, Act, joined_by, prefixed, called, adds_name, adds_expression, adds_query, adds_statement, otherwise, Symbol, act, word, a_name, operand, prefixes, atom, tail, name_tail, arguments, more_arguments, more_names, a_query, more_queries, filter, more_tests, more_sets, a_statement, statements, else_part, block, test, assignment, State, chain, begin_prefix, begin_prefixed, after_joint, go_on, joined_on, by_word, feed, Outcome, done, stuck, fed, run}
 use Rattle.script_grammar.proofs.Steps.{step_on, same_step, act_runs}
 use Rattle.script_parse.specs.Gives.{stuck_place, Stops, BeginStops, Gives, after, Begins, word_token, of_level, joint_at, placed_prefix, prefix_at, IsNoWord, BeginsNoWord}
 use Rattle.script_parse.specs.declared.unexpected.Unexpected.{Unexpected}
@@ -205,3 +205,13 @@ more_tests_run (t ∷ ts) h k vs = step_on t ts (more_tests ∷ k) (test (more_t
 pub more_sets_run : (ts : List Token) → stands w.Comma ts ≡ true → (k : List Symbol) (vs : List Val) → run ts (more_sets ∷ k) vs ≡ run (behind_first ts) (assignment (more_sets ∷ k)) vs
 more_sets_run [] h k vs = no_stands h
 more_sets_run (t ∷ ts) h k vs = step_on t ts (more_sets ∷ k) (assignment (more_sets ∷ k)) vs vs (rw h refl)
+
+-- ---- statements
+
+pub statements_run : (ts : List Token) → stands w.BraceClose ts ≡ false → (k : List Symbol) (vs : List Val) → run ts (statements ∷ k) vs ≡ run ts (a_statement ∷ act adds_statement ∷ statements ∷ k) vs
+statements_run [] h k vs = refl
+statements_run (t ∷ ts) h k vs = same_step t ts (statements ∷ k) (a_statement ∷ act adds_statement ∷ statements ∷ k) vs vs (rw h refl)
+
+pub else_runs : (ts : List Token) → stands w.Else ts ≡ true → (k : List Symbol) (vs : List Val) → run ts (else_part ∷ k) vs ≡ run (behind_first ts) (block (act otherwise ∷ k)) vs
+else_runs [] h k vs = no_stands h
+else_runs (t ∷ ts) h k vs = step_on t ts (else_part ∷ k) (block (act otherwise ∷ k)) vs vs (rw h refl)

@@ -17,7 +17,7 @@ use Rattle.script_tokens.specs.Kinds as kind
 use Rattle.script_tokens.specs.declared.word.Word.{Word}
 use Rattle.script_tree.specs.declared.syntax.operator.UnaryOperator.{UnaryOperator}
 use Rattle.script_grammar.specs.declared.joint.Joint.{Joint}
-use Rattle.script_grammar.specs.Machine.{joint_level, joint_of, prefix_of, comparison_of, Symbol, Val, of_name, of_names, of_expression, of_expressions, of_comparison, of_tests, of_sets, of_query, of_queries, of_statement, of_statements, of_else, of_declaration, of_declarations, State, Outcome, done, stuck, fed, run}
+use Rattle.script_grammar.specs.Machine.{joint_level, joint_of, prefix_of, comparison_of, Symbol, Val, of_name, of_names, of_expression, of_expressions, of_comparison, of_tests, of_sets, of_query, of_queries, of_statement, of_statements, of_else, of_declaration, of_declarations, State, Outcome, done, stuck, fed, run, run_file}
 use Rattle.script_parse.specs.declared.unexpected.Unexpected.{Unexpected}
 
 -- where the machine is stuck: the place of a token, or none at the end
@@ -144,3 +144,9 @@ declarations_value ds = of_declarations ds ∷ []
 abbrev pub comparison_at : List Token → Option Comparison
 comparison_at [] = None
 comparison_at (t ∷ ts) = comparison_of t.kind
+
+-- The machine reads all tokens of a file; or it is stuck there.
+abbrev pub IsFileRead : Result (List Declaration) (OrMemory Unexpected) → List Token → Type 0
+IsFileRead (Ok ds) ts = run_file ts ≡ done (of_declarations ds ∷ [])
+IsFileRead (Err Memory) ts = Unit {0}
+IsFileRead (Err (Other unexpected)) ts = stuck_place (run_file ts) ≡ Some unexpected.at

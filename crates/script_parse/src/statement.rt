@@ -153,7 +153,8 @@ fn echo_statement(alloc: Global, tokens: &mut Tokens<'_>, at: usize) -> Result<S
     ensures gives { Gives statement_value (operand 6 ∷ word w.Semicolon ∷ act (said (tree.echo at)) ∷ []) [] result tokens.old.tokens tokens.new.tokens }
     ensures shorter { OnOk result (length tokens.new.tokens < length tokens.old.tokens) }
 {
-    let node = StatementNode::Echo(ended(alloc, tokens)?);
+    let value = ended(alloc, tokens)?;
+    let node = StatementNode::Echo(value);
     Ok(Statement { at, node })
 }
 
@@ -161,7 +162,8 @@ fn status_statement(alloc: Global, tokens: &mut Tokens<'_>, at: usize) -> Result
     ensures gives { Gives statement_value (operand 6 ∷ word w.Semicolon ∷ act (said (tree.status at)) ∷ []) [] result tokens.old.tokens tokens.new.tokens }
     ensures shorter { OnOk result (length tokens.new.tokens < length tokens.old.tokens) }
 {
-    let node = StatementNode::Status(ended(alloc, tokens)?);
+    let value = ended(alloc, tokens)?;
+    let node = StatementNode::Status(value);
     Ok(Statement { at, node })
 }
 
@@ -169,7 +171,8 @@ fn return_statement(alloc: Global, tokens: &mut Tokens<'_>, at: usize) -> Result
     ensures gives { Gives statement_value (operand 6 ∷ word w.Semicolon ∷ act (said (tree.return at)) ∷ []) [] result tokens.old.tokens tokens.new.tokens }
     ensures shorter { OnOk result (length tokens.new.tokens < length tokens.old.tokens) }
 {
-    let node = StatementNode::Return(ended(alloc, tokens)?);
+    let value = ended(alloc, tokens)?;
+    let node = StatementNode::Return(value);
     Ok(Statement { at, node })
 }
 
@@ -177,6 +180,7 @@ fn do_statement(alloc: Global, tokens: &mut Tokens<'_>, at: usize) -> Result<Sta
     ensures gives { Gives statement_value (operand 6 ∷ word w.Semicolon ∷ act (said (tree.do_ at)) ∷ []) [] result tokens.old.tokens tokens.new.tokens }
     ensures shorter { OnOk result (length tokens.new.tokens < length tokens.old.tokens) }
 {
-    let node = StatementNode::Do(ended(alloc, tokens)?);
+    let value = ended(alloc, tokens)?;
+    let node = StatementNode::Do(value);
     Ok(Statement { at, node })
 }

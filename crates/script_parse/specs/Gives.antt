@@ -11,41 +11,50 @@ use Rattle.script_tree.specs.declared.comparison.Comparison.{Comparison}
 use Rattle.script_tree.specs.declared.syntax.name.Name.{Name}
 use Rattle.script_tree.specs.declared.syntax.declaration.Declaration.{Declaration}
 use Rattle.script_tree.specs.declared.syntax.statement.Else as code
-use Rattle.script_tokens.specs.Feed.{place_at}
+use Rattle.script_tokens.specs.Feed.{fault_of}
+use Rattle.script_tokens.specs.Scans.{Scan}
+use Rattle.script_tokens.specs.declared.fault.End.{End}
+use Rattle.script_tokens.specs.declared.fault.SyntaxFault.{SyntaxFault}
 use Rattle.script_tokens.specs.Kinds.{Kind, Token, token}
 use Rattle.script_tokens.specs.Kinds as kind
 use Rattle.script_tokens.specs.declared.word.Word.{Word}
 use Rattle.script_tree.specs.declared.syntax.operator.UnaryOperator.{UnaryOperator}
 use Rattle.script_grammar.specs.declared.joint.Joint.{Joint}
-use Rattle.script_grammar.specs.Machine.{joint_level, joint_of, prefix_of, comparison_of, Symbol, Val, of_name, of_names, of_expression, of_expressions, of_comparison, of_tests, of_sets, of_query, of_queries, of_statement, of_statements, of_else, of_declaration, of_declarations, State, Outcome, done, stuck, fed, run, run_file}
-use Rattle.script_parse.specs.declared.unexpected.Unexpected.{Unexpected}
+use Rattle.script_grammar.specs.Machine.{joint_level, joint_of, prefix_of, comparison_of, Symbol, Val, of_name, of_names, of_expression, of_expressions, of_comparison, of_tests, of_sets, of_query, of_queries, of_statement, of_statements, of_else, of_declaration, of_declarations, State, Outcome, done, stuck, fed, declarations, run}
 
--- where the machine is stuck: the place of a token, or none at the end
-abbrev pub stuck_place : Outcome → Option (Option ℕ)
-stuck_place (done vs) = None
-stuck_place (stuck rest) = Some (place_at rest)
+-- what the machine makes of the tokens that are left, and what stands behind them
+abbrev pub reading : Scan → List Symbol → List Val → Outcome × End
+reading s k vs = (run s.tokens k vs, s.end)
 
--- The machine is stuck there, whatever follows.
-abbrev pub Stops : List Symbol → List Val → OrMemory Unexpected → List Token → Type 0
+abbrev pub stuck_fault : Outcome → End → Option SyntaxFault
+stuck_fault (done vs) end = None
+stuck_fault (stuck rest) end = Some (fault_of rest end)
+
+-- the fault where the machine is stuck
+abbrev pub fault_in : Outcome × End → Option SyntaxFault
+fault_in o = stuck_fault o.0 o.1
+
+-- The machine is stuck with this fault, whatever follows.
+abbrev pub Stops : List Symbol → List Val → OrMemory SyntaxFault → Scan → Type 0
 Stops symbols from Memory old = Unit {0}
-Stops symbols from (Other unexpected) old = (k : List Symbol) (vs : List Val) → stuck_place (run old (symbols ++ k) (from ++ vs)) ≡ Some unexpected.at
+Stops symbols from (Other fault) old = (k : List Symbol) (vs : List Val) → fault_in (reading old (symbols ++ k) (from ++ vs)) ≡ Some fault
 
 -- The machine reads the symbols and has these values more; or it is stuck.
-abbrev pub Gives : {X : Type 0} → (X → List Val) → List Symbol → List Val → Result X (OrMemory Unexpected) → List Token → List Token → Type 0
-Gives to symbols from (Ok x) old new = (k : List Symbol) (vs : List Val) → run old (symbols ++ k) (from ++ vs) ≡ run new k (to x ++ vs)
+abbrev pub Gives : {X : Type 0} → (X → List Val) → List Symbol → List Val → Result X (OrMemory SyntaxFault) → Scan → Scan → Type 0
+Gives to symbols from (Ok x) old new = (k : List Symbol) (vs : List Val) → reading old (symbols ++ k) (from ++ vs) ≡ reading new k (to x ++ vs)
 Gives to symbols from (Err e) old new = Stops symbols from e old
 
--- the outcome after a first token, of which the machine made this
-abbrev pub after : Token → List Token → Option State → Outcome
-after t ts o = fed t ts o (λ l us. run ts l us)
+-- what the machine makes of the tokens behind a first one, which led to this state
+abbrev pub after : Token → Scan → Option State → Outcome × End
+after t s o = (fed t s.tokens o (λ l us. run s.tokens l us), s.end)
 
 -- The same of a first token, which is taken already.
-abbrev pub BeginStops : Token → (List Symbol → List Val → Option State) → OrMemory Unexpected → List Token → Type 0
+abbrev pub BeginStops : Token → (List Symbol → List Val → Option State) → OrMemory SyntaxFault → Scan → Type 0
 BeginStops t begin Memory old = Unit {0}
-BeginStops t begin (Other unexpected) old = (k : List Symbol) (vs : List Val) → stuck_place (after t old (begin k vs)) ≡ Some unexpected.at
+BeginStops t begin (Other fault) old = (k : List Symbol) (vs : List Val) → fault_in (after t old (begin k vs)) ≡ Some fault
 
-abbrev pub Begins : {X : Type 0} → (X → List Val) → Token → (List Symbol → List Val → Option State) → Result X (OrMemory Unexpected) → List Token → List Token → Type 0
-Begins to t begin (Ok x) old new = (k : List Symbol) (vs : List Val) → after t old (begin k vs) ≡ run new k (to x ++ vs)
+abbrev pub Begins : {X : Type 0} → (X → List Val) → Token → (List Symbol → List Val → Option State) → Result X (OrMemory SyntaxFault) → Scan → Scan → Type 0
+Begins to t begin (Ok x) old new = (k : List Symbol) (vs : List Val) → after t old (begin k vs) ≡ reading new k (to x ++ vs)
 Begins to t begin (Err e) old new = BeginStops t begin e old
 
 abbrev pub word_token : ℕ → Word → Token
@@ -145,8 +154,8 @@ abbrev pub comparison_at : List Token → Option Comparison
 comparison_at [] = None
 comparison_at (t ∷ ts) = comparison_of t.kind
 
--- The machine reads all tokens of a file; or it is stuck there.
-abbrev pub IsFileRead : Result (List Declaration) (OrMemory Unexpected) → List Token → Type 0
-IsFileRead (Ok ds) ts = run_file ts ≡ done (of_declarations ds ∷ [])
-IsFileRead (Err Memory) ts = Unit {0}
-IsFileRead (Err (Other unexpected)) ts = stuck_place (run_file ts) ≡ Some unexpected.at
+-- The machine reads all tokens of a file, and nothing is left of them; or it is stuck.
+abbrev pub IsFileRead : Result (List Declaration) (OrMemory SyntaxFault) → Scan → Scan → Type 0
+IsFileRead (Ok ds) old new = (reading old (declarations ∷ []) (of_declarations [] ∷ []) ≡ (done (of_declarations ds ∷ []), new.end)) × (new.tokens ≡ [])
+IsFileRead (Err Memory) old new = Unit {0}
+IsFileRead (Err (Other fault)) old new = fault_in (reading old (declarations ∷ []) (of_declarations [] ∷ [])) ≡ Some fault

@@ -1,12 +1,10 @@
 ghost use Rattle.std.specs.Prelude.{◌≡◌, ◌<◌, ◌≤◌, ◌∷◌, [], length, OnOk};
 ghost use Rattle.script_tokens.specs.declared.word.Word.TheVariants as w;
-ghost use Rattle.script_grammar.specs.Machine.{act, word, puts, a_name, a_path, adds_name, more_names, parameters, block, declarations, begin_declaration, stored, tabled, defined, paged, of_names, of_declarations};
+ghost use Rattle.script_grammar.specs.Machine.{act, word, puts, a_name, a_path, puts, adds_name, more_names, parameters, block, declarations, begin_declaration, stored, tabled, defined, paged, of_names, of_declarations};
 ghost use Rattle.script_parse.specs.Gives.{Gives, Begins, word_token, names_value, declaration_value, IsFileRead};
 
-use crate::feed::{any_word, more_names, name, path, take, unexpected};
+use crate::feed::{Stop, any_word, more_names, name, path, take, unexpected, ungrammatical};
 use crate::statement::block;
-use crate::unexpected::{Stop, Unexpected};
-use basis::OrMemory;
 use script_tokens::scan::Tokens;
 use script_tokens::word::Word;
 use script_tree::syntax::declaration::{Declaration, Tree};
@@ -15,7 +13,7 @@ use std::alloc::Global;
 
 /// A declaration that begins with this word.
 fn declaration(alloc: Global, tokens: &mut Tokens<'_>, at: usize, word: Word) -> Result<Declaration, Stop>
-    ensures gives { Begins declaration_value (word_token at word) (begin_declaration at word) result tokens.old.tokens tokens.new.tokens }
+    ensures gives { Begins declaration_value (word_token at word) (begin_declaration at word) result tokens.old tokens.new }
     ensures shorter { OnOk result (length tokens.new.tokens ≤ length tokens.old.tokens) }
 {
     match word {
@@ -23,12 +21,12 @@ fn declaration(alloc: Global, tokens: &mut Tokens<'_>, at: usize, word: Word) ->
         Word::Table => table(alloc, tokens, at),
         Word::Function => function(alloc, tokens, at),
         Word::Page => page(alloc, tokens, at),
-        _ => Err(OrMemory::Other(Unexpected { at: Some(at) })),
+        _ => Err(ungrammatical(at)),
     }
 }
 
 fn store(alloc: Global, tokens: &mut Tokens<'_>, at: usize) -> Result<Declaration, Stop>
-    ensures gives { Gives declaration_value (a_name ∷ word w.Semicolon ∷ act (stored at) ∷ []) [] result tokens.old.tokens tokens.new.tokens }
+    ensures gives { Gives declaration_value (a_name ∷ word w.Semicolon ∷ act (stored at) ∷ []) [] result tokens.old tokens.new }
     ensures shorter { OnOk result (length tokens.new.tokens < length tokens.old.tokens) }
 {
     let name = name(alloc, tokens)?;
@@ -37,7 +35,7 @@ fn store(alloc: Global, tokens: &mut Tokens<'_>, at: usize) -> Result<Declaratio
 }
 
 fn table(alloc: Global, tokens: &mut Tokens<'_>, at: usize) -> Result<Declaration, Stop>
-    ensures gives { Gives declaration_value (a_name ∷ word w.Open ∷ act (puts (of_names [])) ∷ a_name ∷ act adds_name ∷ more_names w.Close ∷ word w.Semicolon ∷ act (tabled at) ∷ []) [] result tokens.old.tokens tokens.new.tokens }
+    ensures gives { Gives declaration_value (a_name ∷ word w.Open ∷ act (puts (of_names [])) ∷ a_name ∷ act adds_name ∷ more_names w.Close ∷ word w.Semicolon ∷ act (tabled at) ∷ []) [] result tokens.old tokens.new }
     ensures shorter { OnOk result (length tokens.new.tokens < length tokens.old.tokens) }
 {
     let table = name(alloc, tokens)?;
@@ -55,7 +53,7 @@ fn table(alloc: Global, tokens: &mut Tokens<'_>, at: usize) -> Result<Declaratio
 
 /// Names up to the closing bracket, or none.
 fn parameters(alloc: Global, tokens: &mut Tokens<'_>) -> Result<Names, Stop>
-    ensures gives { Gives names_value (parameters ∷ []) (of_names [] ∷ []) result tokens.old.tokens tokens.new.tokens }
+    ensures gives { Gives names_value (parameters ∷ []) (of_names [] ∷ []) result tokens.old tokens.new }
     ensures shorter { OnOk result (length tokens.new.tokens < length tokens.old.tokens) }
 {
     let mut names = Names::new(alloc);
@@ -68,7 +66,7 @@ fn parameters(alloc: Global, tokens: &mut Tokens<'_>) -> Result<Names, Stop>
 }
 
 fn function(alloc: Global, tokens: &mut Tokens<'_>, at: usize) -> Result<Declaration, Stop>
-    ensures gives { Gives declaration_value (a_name ∷ word w.Open ∷ act (puts (of_names [])) ∷ parameters ∷ block (act (defined at) ∷ [])) [] result tokens.old.tokens tokens.new.tokens }
+    ensures gives { Gives declaration_value (a_name ∷ word w.Open ∷ act (puts (of_names [])) ∷ parameters ∷ block (act (defined at) ∷ [])) [] result tokens.old tokens.new }
     ensures shorter { OnOk result (length tokens.new.tokens < length tokens.old.tokens) }
 {
     let name = name(alloc, tokens)?;
@@ -84,7 +82,7 @@ fn function(alloc: Global, tokens: &mut Tokens<'_>, at: usize) -> Result<Declara
 }
 
 fn page(alloc: Global, tokens: &mut Tokens<'_>, at: usize) -> Result<Declaration, Stop>
-    ensures gives { Gives declaration_value (a_path ∷ block (act (paged at) ∷ [])) [] result tokens.old.tokens tokens.new.tokens }
+    ensures gives { Gives declaration_value (a_path ∷ block (act (paged at) ∷ [])) [] result tokens.old tokens.new }
     ensures shorter { OnOk result (length tokens.new.tokens < length tokens.old.tokens) }
 {
     let path = path(alloc, tokens)?;
@@ -94,7 +92,7 @@ fn page(alloc: Global, tokens: &mut Tokens<'_>, at: usize) -> Result<Declaration
 
 /// All declarations, up to the end of the tokens.
 pub fn declarations(alloc: Global, tokens: &mut Tokens<'_>) -> Result<Tree, Stop>
-    ensures { IsFileRead result tokens.old.tokens }
+    ensures { IsFileRead result tokens.old tokens.new }
 {
     let mut declarations = Tree::new(alloc);
     while let Some((at, word)) = any_word(tokens) {

@@ -4,10 +4,8 @@ ghost use Rattle.script_grammar.specs.Grouping.{most_repeats};
 ghost use Rattle.script_grammar.specs.Machine.{joined, word_joint, word_prefix, act, word, operand, prefixes, atom, tail, name_tail, arguments, more_arguments, a_query, more_queries, begin_word, bracketed, listed, transacted, adds_query, of_expressions, of_queries};
 ghost use Rattle.script_parse.specs.Gives.{Gives, Begins, word_token, of_level, joint_at, prefix_at, expression_value, expressions_value};
 
-use crate::feed::{any_word, take, unexpected};
+use crate::feed::{Stop, any_word, take, unexpected, ungrammatical};
 use crate::query::transact;
-use crate::unexpected::{Stop, Unexpected};
-use basis::OrMemory;
 use script_grammar::joint::Joint;
 use script_tokens::scan::Tokens;
 use script_tokens::shape::Shape;
@@ -99,7 +97,7 @@ fn most_repeats(level: u32) -> usize
 #[cycle(expression)]
 pub fn operand(alloc: Global, tokens: &mut Tokens<'_>, level: u32) -> Result<Expression, Stop>
     requires { 0 < level }
-    ensures gives { Gives expression_value (operand level ∷ []) [] result tokens.old.tokens tokens.new.tokens }
+    ensures gives { Gives expression_value (operand level ∷ []) [] result tokens.old tokens.new }
     ensures shorter { OnOk result (length tokens.new.tokens < length tokens.old.tokens) }
 {
     if level == 1 {
@@ -122,7 +120,7 @@ pub fn operand(alloc: Global, tokens: &mut Tokens<'_>, level: u32) -> Result<Exp
 /// An operand behind so many prefixes at most.
 #[cycle(expression)]
 fn prefixed(alloc: Global, tokens: &mut Tokens<'_>, left: usize) -> Result<Expression, Stop>
-    ensures gives { Gives expression_value (prefixes left ∷ []) [] result tokens.old.tokens tokens.new.tokens }
+    ensures gives { Gives expression_value (prefixes left ∷ []) [] result tokens.old tokens.new }
     ensures shorter { OnOk result (length tokens.new.tokens < length tokens.old.tokens) }
 {
     let Some((at, operator)) = prefix_at(tokens) else {
@@ -143,7 +141,7 @@ fn prefixed(alloc: Global, tokens: &mut Tokens<'_>, left: usize) -> Result<Expre
 /// An atom and the places in it.
 #[cycle(expression)]
 fn indexed(alloc: Global, tokens: &mut Tokens<'_>) -> Result<Expression, Stop>
-    ensures gives { Gives expression_value (atom ∷ tail 0 (most_repeats 0) ∷ []) [] result tokens.old.tokens tokens.new.tokens }
+    ensures gives { Gives expression_value (atom ∷ tail 0 (most_repeats 0) ∷ []) [] result tokens.old tokens.new }
     ensures shorter { OnOk result (length tokens.new.tokens < length tokens.old.tokens) }
 {
     let mut value = atom(alloc, tokens)?;
@@ -163,7 +161,7 @@ fn indexed(alloc: Global, tokens: &mut Tokens<'_>) -> Result<Expression, Stop>
 
 #[cycle(expression)]
 fn atom(alloc: Global, tokens: &mut Tokens<'_>) -> Result<Expression, Stop>
-    ensures gives { Gives expression_value (atom ∷ []) [] result tokens.old.tokens tokens.new.tokens }
+    ensures gives { Gives expression_value (atom ∷ []) [] result tokens.old tokens.new }
     ensures shorter { OnOk result (length tokens.new.tokens < length tokens.old.tokens) }
 {
     if let Some(name) = tokens.name(alloc)? {
@@ -187,7 +185,7 @@ fn atom(alloc: Global, tokens: &mut Tokens<'_>) -> Result<Expression, Stop>
 /// A variable, or a call.
 #[cycle(expression)]
 fn named(alloc: Global, tokens: &mut Tokens<'_>, name: Name) -> Result<Expression, Stop>
-    ensures gives { Gives expression_value (name_tail name.at name.text ∷ []) [] result tokens.old.tokens tokens.new.tokens }
+    ensures gives { Gives expression_value (name_tail name.at name.text ∷ []) [] result tokens.old tokens.new }
     ensures shorter { OnOk result (length tokens.new.tokens ≤ length tokens.old.tokens) }
 {
     let Name { at, text } = name;
@@ -205,7 +203,7 @@ fn named(alloc: Global, tokens: &mut Tokens<'_>, name: Name) -> Result<Expressio
 /// Expressions up to the closing bracket.
 #[cycle(expression)]
 fn arguments(alloc: Global, tokens: &mut Tokens<'_>, close: Word) -> Result<Expressions, Stop>
-    ensures gives { Gives expressions_value (arguments close ∷ []) (of_expressions [] ∷ []) result tokens.old.tokens tokens.new.tokens }
+    ensures gives { Gives expressions_value (arguments close ∷ []) (of_expressions [] ∷ []) result tokens.old tokens.new }
     ensures shorter { OnOk result (length tokens.new.tokens ≤ length tokens.old.tokens) }
 {
     let mut items = Expressions::new(alloc);
@@ -225,7 +223,7 @@ pub fn more_arguments(
     items: Expressions,
     close: Word,
 ) -> Result<Expressions, Stop>
-    ensures gives { Gives expressions_value (more_arguments close ∷ []) (of_expressions items ∷ []) result tokens.old.tokens tokens.new.tokens }
+    ensures gives { Gives expressions_value (more_arguments close ∷ []) (of_expressions items ∷ []) result tokens.old tokens.new }
     ensures shorter { OnOk result (length tokens.new.tokens ≤ length tokens.old.tokens) }
 {
     let mut items = items;
@@ -240,7 +238,7 @@ pub fn more_arguments(
 /// An atom that begins with this word.
 #[cycle(expression)]
 fn word_atom(alloc: Global, tokens: &mut Tokens<'_>, at: usize, word: Word) -> Result<Expression, Stop>
-    ensures gives { Begins expression_value (word_token at word) (begin_word at word) result tokens.old.tokens tokens.new.tokens }
+    ensures gives { Begins expression_value (word_token at word) (begin_word at word) result tokens.old tokens.new }
     ensures shorter { OnOk result (length tokens.new.tokens ≤ length tokens.old.tokens) }
 {
     let node = match word {
@@ -250,14 +248,14 @@ fn word_atom(alloc: Global, tokens: &mut Tokens<'_>, at: usize, word: Word) -> R
         Word::Open => return bracket(alloc, tokens, at),
         Word::SquareOpen => return list(alloc, tokens, at),
         Word::Transact => return transact(alloc, tokens, at),
-        _ => return Err(OrMemory::Other(Unexpected { at: Some(at) })),
+        _ => return Err(ungrammatical(at)),
     };
     Ok(Expression { at, node })
 }
 
 #[cycle(expression)]
 fn bracket(alloc: Global, tokens: &mut Tokens<'_>, at: usize) -> Result<Expression, Stop>
-    ensures gives { Gives expression_value (operand 6 ∷ word w.Close ∷ act (bracketed at) ∷ []) [] result tokens.old.tokens tokens.new.tokens }
+    ensures gives { Gives expression_value (operand 6 ∷ word w.Close ∷ act (bracketed at) ∷ []) [] result tokens.old tokens.new }
     ensures shorter { OnOk result (length tokens.new.tokens < length tokens.old.tokens) }
 {
     let inner = operand(alloc, tokens, EXPRESSION)?;
@@ -268,7 +266,7 @@ fn bracket(alloc: Global, tokens: &mut Tokens<'_>, at: usize) -> Result<Expressi
 
 #[cycle(expression)]
 fn list(alloc: Global, tokens: &mut Tokens<'_>, at: usize) -> Result<Expression, Stop>
-    ensures gives { Gives expression_value (arguments w.SquareClose ∷ act (listed at) ∷ []) (of_expressions [] ∷ []) result tokens.old.tokens tokens.new.tokens }
+    ensures gives { Gives expression_value (arguments w.SquareClose ∷ act (listed at) ∷ []) (of_expressions [] ∷ []) result tokens.old tokens.new }
     ensures shorter { OnOk result (length tokens.new.tokens ≤ length tokens.old.tokens) }
 {
     let items = arguments(alloc, tokens, Word::SquareClose)?;

@@ -1,27 +1,40 @@
 ghost use Rattle.std.specs.Prelude.{◌≡◌, ◌<◌, ◌≤◌, ◌∷◌, [], length, OnOk, IfNone, IfSome};
-ghost use Rattle.script_tokens.specs.Feed.{place_at};
+ghost use Rattle.script_tokens.specs.Feed.{fault_at};
+ghost use Rattle.script_tokens.specs.Scans.{before};
+ghost use Rattle.script_grammar.specs.Files.{ungrammatical};
 ghost use Rattle.script_grammar.specs.Machine.{word, a_name, a_path, more_names, of_names};
 ghost use Rattle.script_parse.specs.Gives.{Gives, no_value, a_name_value, names_value, word_token, BeginsNoWord};
 ghost use Rattle.basis.specs.declared.or_memory.OrMemory.TheVariants.{Other};
 
-use crate::unexpected::{Stop, Unexpected};
 use basis::OrMemory;
+use script_tokens::fault::{SyntaxFault, SyntaxFaultKind};
 use script_tokens::scan::Tokens;
 use script_tokens::shape::Shape;
 use script_tokens::word::Word;
 use script_tree::syntax::name::{Name, Names};
 use std::alloc::Global;
 
-/// No program goes on with the first token.
+/// Why a part of a program isn't read.
+pub type Stop = OrMemory<SyntaxFault>;
+
+/// No program goes on as the tokens do.
 pub fn unexpected(tokens: &Tokens<'_>) -> Stop
-    ensures { result ≡ Other (record { at = place_at tokens.now.tokens }) }
+    ensures { result ≡ Other (fault_at tokens.now) }
 {
-    OrMemory::Other(Unexpected { at: tokens.place() })
+    OrMemory::Other(tokens.fault())
+}
+
+/// No program goes on with the token at this place.
+pub fn ungrammatical(at: usize) -> Stop
+    ensures { result ≡ Other (ungrammatical at) }
+{
+    let kind = SyntaxFaultKind::Grammar;
+    OrMemory::Other(SyntaxFault { at, kind })
 }
 
 /// Takes this word.
 pub fn take(tokens: &mut Tokens<'_>, wanted: Word) -> Result<(), Stop>
-    ensures gives { Gives no_value (word wanted ∷ []) [] result tokens.old.tokens tokens.new.tokens }
+    ensures gives { Gives no_value (word wanted ∷ []) [] result tokens.old tokens.new }
     ensures shorter { OnOk result (length tokens.new.tokens < length tokens.old.tokens) }
 {
     if tokens.stands(wanted) {
@@ -34,7 +47,7 @@ pub fn take(tokens: &mut Tokens<'_>, wanted: Word) -> Result<(), Stop>
 
 /// Takes a name.
 pub fn name(alloc: Global, tokens: &mut Tokens<'_>) -> Result<Name, Stop>
-    ensures gives { Gives a_name_value (a_name ∷ []) [] result tokens.old.tokens tokens.new.tokens }
+    ensures gives { Gives a_name_value (a_name ∷ []) [] result tokens.old tokens.new }
     ensures shorter { OnOk result (length tokens.new.tokens < length tokens.old.tokens) }
 {
     match tokens.name(alloc)? {
@@ -45,7 +58,7 @@ pub fn name(alloc: Global, tokens: &mut Tokens<'_>) -> Result<Name, Stop>
 
 /// Takes the text by which a page is asked for.
 pub fn path(alloc: Global, tokens: &mut Tokens<'_>) -> Result<Name, Stop>
-    ensures gives { Gives a_name_value (a_path ∷ []) [] result tokens.old.tokens tokens.new.tokens }
+    ensures gives { Gives a_name_value (a_path ∷ []) [] result tokens.old tokens.new }
     ensures shorter { OnOk result (length tokens.new.tokens < length tokens.old.tokens) }
 {
     match tokens.text(alloc)? {
@@ -58,7 +71,7 @@ pub fn path(alloc: Global, tokens: &mut Tokens<'_>) -> Result<Name, Stop>
 pub fn any_word(tokens: &mut Tokens<'_>) -> Option<(usize, Word)>
     ensures none { IfNone result (BeginsNoWord tokens.old.tokens) }
     ensures kept { IfNone result (tokens.new ≡ tokens.old) }
-    ensures taken { IfSome result (λ x. tokens.old.tokens ≡ word_token x.0 x.1 ∷ tokens.new.tokens) }
+    ensures taken { IfSome result (λ x. tokens.old ≡ before (word_token x.0 x.1) tokens.new) }
 {
     let at = tokens.place()?;
     let Some(Shape::Word(word)) = tokens.peek() else {
@@ -75,7 +88,7 @@ pub fn more_names(
     names: Names,
     close: Word,
 ) -> Result<Names, Stop>
-    ensures gives { Gives names_value (more_names close ∷ []) (of_names names ∷ []) result tokens.old.tokens tokens.new.tokens }
+    ensures gives { Gives names_value (more_names close ∷ []) (of_names names ∷ []) result tokens.old tokens.new }
     ensures shorter { OnOk result (length tokens.new.tokens ≤ length tokens.old.tokens) }
 {
     let mut names = names;

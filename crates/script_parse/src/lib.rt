@@ -6,4 +6,3 @@ mod expression;
 mod feed;
 mod query;
 mod statement;
-pub mod unexpected;

@@ -4,9 +4,7 @@ ghost use Rattle.script_grammar.specs.Machine.{word_comparison, more_tests, act,
 ghost use Rattle.script_parse.specs.Gives.{Gives, Begins, word_token, comparison_at, expression_value, comparison_value, tests_value, sets_value, condition_value, assignment_value, query_value};
 
 use crate::expression::{EXPRESSION, SUM, more_arguments, operand};
-use crate::feed::{any_word, more_names, name, take, unexpected};
-use crate::unexpected::{Stop, Unexpected};
-use basis::OrMemory;
+use crate::feed::{Stop, any_word, more_names, name, take, unexpected, ungrammatical};
 use script_tokens::scan::Tokens;
 use script_tokens::shape::Shape;
 use script_tokens::word::Word;
@@ -21,7 +19,7 @@ use std::alloc::Global;
 /// The statements of a transaction.
 #[cycle(expression)]
 pub fn transact(alloc: Global, tokens: &mut Tokens<'_>, at: usize) -> Result<Expression, Stop>
-    ensures gives { Gives expression_value (word w.BraceOpen ∷ a_query ∷ act adds_query ∷ more_queries ∷ act (transacted at) ∷ []) (of_queries [] ∷ []) result tokens.old.tokens tokens.new.tokens }
+    ensures gives { Gives expression_value (word w.BraceOpen ∷ a_query ∷ act adds_query ∷ more_queries ∷ act (transacted at) ∷ []) (of_queries [] ∷ []) result tokens.old tokens.new }
     ensures shorter { OnOk result (length tokens.new.tokens < length tokens.old.tokens) }
 {
     take(tokens, Word::BraceOpen)?;
@@ -37,7 +35,7 @@ pub fn transact(alloc: Global, tokens: &mut Tokens<'_>, at: usize) -> Result<Exp
 
 #[cycle(expression)]
 fn query(alloc: Global, tokens: &mut Tokens<'_>) -> Result<Query, Stop>
-    ensures gives { Gives query_value (a_query ∷ []) [] result tokens.old.tokens tokens.new.tokens }
+    ensures gives { Gives query_value (a_query ∷ []) [] result tokens.old tokens.new }
     ensures shorter { OnOk result (length tokens.new.tokens < length tokens.old.tokens) }
 {
     match any_word(tokens) {
@@ -49,7 +47,7 @@ fn query(alloc: Global, tokens: &mut Tokens<'_>) -> Result<Query, Stop>
 /// A statement that begins with this word.
 #[cycle(expression)]
 fn query_of(alloc: Global, tokens: &mut Tokens<'_>, at: usize, word: Word) -> Result<Query, Stop>
-    ensures gives { Begins query_value (word_token at word) (begin_query at word) result tokens.old.tokens tokens.new.tokens }
+    ensures gives { Begins query_value (word_token at word) (begin_query at word) result tokens.old tokens.new }
     ensures shorter { OnOk result (length tokens.new.tokens ≤ length tokens.old.tokens) }
 {
     match word {
@@ -58,13 +56,13 @@ fn query_of(alloc: Global, tokens: &mut Tokens<'_>, at: usize, word: Word) -> Re
         Word::Update => update(alloc, tokens, at),
         Word::Delete => delete(alloc, tokens, at),
         Word::Expect => expect(alloc, tokens, at),
-        _ => Err(OrMemory::Other(Unexpected { at: Some(at) })),
+        _ => Err(ungrammatical(at)),
     }
 }
 
 #[cycle(expression)]
 fn insert(alloc: Global, tokens: &mut Tokens<'_>, at: usize) -> Result<Query, Stop>
-    ensures gives { Gives query_value (a_name ∷ word w.Open ∷ act (puts (of_expressions [])) ∷ operand 6 ∷ act adds_expression ∷ more_arguments w.Close ∷ word w.Semicolon ∷ act (inserted at) ∷ []) [] result tokens.old.tokens tokens.new.tokens }
+    ensures gives { Gives query_value (a_name ∷ word w.Open ∷ act (puts (of_expressions [])) ∷ operand 6 ∷ act adds_expression ∷ more_arguments w.Close ∷ word w.Semicolon ∷ act (inserted at) ∷ []) [] result tokens.old tokens.new }
     ensures shorter { OnOk result (length tokens.new.tokens < length tokens.old.tokens) }
 {
     let table = name(alloc, tokens)?;
@@ -79,7 +77,7 @@ fn insert(alloc: Global, tokens: &mut Tokens<'_>, at: usize) -> Result<Query, St
 
 #[cycle(expression)]
 fn select(alloc: Global, tokens: &mut Tokens<'_>, at: usize) -> Result<Query, Stop>
-    ensures gives { Gives query_value (a_name ∷ act adds_name ∷ more_names w.From ∷ a_name ∷ filtered (act (selected at) ∷ [])) (of_names [] ∷ []) result tokens.old.tokens tokens.new.tokens }
+    ensures gives { Gives query_value (a_name ∷ act adds_name ∷ more_names w.From ∷ a_name ∷ filtered (act (selected at) ∷ [])) (of_names [] ∷ []) result tokens.old tokens.new }
     ensures shorter { OnOk result (length tokens.new.tokens < length tokens.old.tokens) }
 {
     let mut columns = Names::new(alloc);
@@ -93,7 +91,7 @@ fn select(alloc: Global, tokens: &mut Tokens<'_>, at: usize) -> Result<Query, St
 
 #[cycle(expression)]
 fn update(alloc: Global, tokens: &mut Tokens<'_>, at: usize) -> Result<Query, Stop>
-    ensures gives { Gives query_value (a_name ∷ word w.Set ∷ act (puts (of_sets [])) ∷ assignment (more_sets ∷ filtered (act (updated at) ∷ []))) [] result tokens.old.tokens tokens.new.tokens }
+    ensures gives { Gives query_value (a_name ∷ word w.Set ∷ act (puts (of_sets [])) ∷ assignment (more_sets ∷ filtered (act (updated at) ∷ []))) [] result tokens.old tokens.new }
     ensures shorter { OnOk result (length tokens.new.tokens < length tokens.old.tokens) }
 {
     let table = name(alloc, tokens)?;
@@ -106,7 +104,7 @@ fn update(alloc: Global, tokens: &mut Tokens<'_>, at: usize) -> Result<Query, St
 
 #[cycle(expression)]
 fn delete(alloc: Global, tokens: &mut Tokens<'_>, at: usize) -> Result<Query, Stop>
-    ensures gives { Gives query_value (a_name ∷ filtered (act (deleted at) ∷ [])) [] result tokens.old.tokens tokens.new.tokens }
+    ensures gives { Gives query_value (a_name ∷ filtered (act (deleted at) ∷ [])) [] result tokens.old tokens.new }
     ensures shorter { OnOk result (length tokens.new.tokens < length tokens.old.tokens) }
 {
     let table = name(alloc, tokens)?;
@@ -117,7 +115,7 @@ fn delete(alloc: Global, tokens: &mut Tokens<'_>, at: usize) -> Result<Query, St
 
 #[cycle(expression)]
 fn expect(alloc: Global, tokens: &mut Tokens<'_>, at: usize) -> Result<Query, Stop>
-    ensures gives { Gives query_value (operand 6 ∷ word w.From ∷ a_name ∷ filtered (act (expected at) ∷ [])) [] result tokens.old.tokens tokens.new.tokens }
+    ensures gives { Gives query_value (operand 6 ∷ word w.From ∷ a_name ∷ filtered (act (expected at) ∷ [])) [] result tokens.old tokens.new }
     ensures shorter { OnOk result (length tokens.new.tokens < length tokens.old.tokens) }
 {
     let count = operand(alloc, tokens, EXPRESSION)?;
@@ -131,7 +129,7 @@ fn expect(alloc: Global, tokens: &mut Tokens<'_>, at: usize) -> Result<Query, St
 /// The tests of a statement, if it has some, and the semicolon at its end.
 #[cycle(expression)]
 fn filter(alloc: Global, tokens: &mut Tokens<'_>) -> Result<Conditions, Stop>
-    ensures gives { Gives tests_value (filtered []) [] result tokens.old.tokens tokens.new.tokens }
+    ensures gives { Gives tests_value (filtered []) [] result tokens.old tokens.new }
     ensures shorter { OnOk result (length tokens.new.tokens < length tokens.old.tokens) }
 {
     let tests = tests(alloc, tokens)?;
@@ -141,7 +139,7 @@ fn filter(alloc: Global, tokens: &mut Tokens<'_>) -> Result<Conditions, Stop>
 
 #[cycle(expression)]
 fn tests(alloc: Global, tokens: &mut Tokens<'_>) -> Result<Conditions, Stop>
-    ensures gives { Gives tests_value (act (puts (of_tests [])) ∷ filter ∷ []) [] result tokens.old.tokens tokens.new.tokens }
+    ensures gives { Gives tests_value (act (puts (of_tests [])) ∷ filter ∷ []) [] result tokens.old tokens.new }
     ensures shorter { OnOk result (length tokens.new.tokens ≤ length tokens.old.tokens) }
 {
     let mut tests = Conditions::new(alloc);
@@ -155,7 +153,7 @@ fn tests(alloc: Global, tokens: &mut Tokens<'_>) -> Result<Conditions, Stop>
 
 #[cycle(expression)]
 fn more_tests(alloc: Global, tokens: &mut Tokens<'_>, tests: Conditions) -> Result<Conditions, Stop>
-    ensures gives { Gives tests_value (more_tests ∷ []) (tests_value tests) result tokens.old.tokens tokens.new.tokens }
+    ensures gives { Gives tests_value (more_tests ∷ []) (tests_value tests) result tokens.old tokens.new }
     ensures shorter { OnOk result (length tokens.new.tokens ≤ length tokens.old.tokens) }
 {
     let mut tests = tests;
@@ -168,7 +166,7 @@ fn more_tests(alloc: Global, tokens: &mut Tokens<'_>, tests: Conditions) -> Resu
 
 #[cycle(expression)]
 fn test(alloc: Global, tokens: &mut Tokens<'_>) -> Result<Condition, Stop>
-    ensures gives { Gives condition_value (a_name ∷ a_comparison ∷ operand 3 ∷ []) [] result tokens.old.tokens tokens.new.tokens }
+    ensures gives { Gives condition_value (a_name ∷ a_comparison ∷ operand 3 ∷ []) [] result tokens.old tokens.new }
     ensures shorter { OnOk result (length tokens.new.tokens < length tokens.old.tokens) }
 {
     let column = name(alloc, tokens)?;
@@ -184,7 +182,7 @@ fn test(alloc: Global, tokens: &mut Tokens<'_>) -> Result<Condition, Stop>
 /// The assignments of an update.
 #[cycle(expression)]
 fn assignments(alloc: Global, tokens: &mut Tokens<'_>) -> Result<Assignments, Stop>
-    ensures gives { Gives sets_value (act (puts (of_sets [])) ∷ assignment (more_sets ∷ [])) [] result tokens.old.tokens tokens.new.tokens }
+    ensures gives { Gives sets_value (act (puts (of_sets [])) ∷ assignment (more_sets ∷ [])) [] result tokens.old tokens.new }
     ensures shorter { OnOk result (length tokens.new.tokens < length tokens.old.tokens) }
 {
     let mut sets = Assignments::new(alloc);
@@ -198,7 +196,7 @@ fn assignments(alloc: Global, tokens: &mut Tokens<'_>) -> Result<Assignments, St
 
 #[cycle(expression)]
 fn assignment(alloc: Global, tokens: &mut Tokens<'_>) -> Result<Assignment, Stop>
-    ensures gives { Gives assignment_value (a_name ∷ word w.Becomes ∷ operand 6 ∷ []) [] result tokens.old.tokens tokens.new.tokens }
+    ensures gives { Gives assignment_value (a_name ∷ word w.Becomes ∷ operand 6 ∷ []) [] result tokens.old tokens.new }
     ensures shorter { OnOk result (length tokens.new.tokens < length tokens.old.tokens) }
 {
     let column = name(alloc, tokens)?;
@@ -233,7 +231,7 @@ fn comparison_at(tokens: &Tokens<'_>) -> Option<Comparison>
 
 /// Takes a comparison.
 fn comparison(tokens: &mut Tokens<'_>) -> Result<Comparison, Stop>
-    ensures gives { Gives comparison_value (a_comparison ∷ []) [] result tokens.old.tokens tokens.new.tokens }
+    ensures gives { Gives comparison_value (a_comparison ∷ []) [] result tokens.old tokens.new }
     ensures shorter { OnOk result (length tokens.new.tokens < length tokens.old.tokens) }
 {
     match comparison_at(tokens) {

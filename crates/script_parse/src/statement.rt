@@ -5,9 +5,7 @@ ghost use Rattle.script_grammar.specs.Machine.{act, word, a_name, operand, a_sta
 ghost use Rattle.script_parse.specs.Gives.{Gives, Begins, word_token, expression_value, binding_value, statement_value, statements_value, else_value};
 
 use crate::expression::{EXPRESSION, operand};
-use crate::feed::{any_word, name, take, unexpected};
-use crate::unexpected::{Stop, Unexpected};
-use basis::OrMemory;
+use crate::feed::{Stop, any_word, name, take, unexpected, ungrammatical};
 use script_tokens::scan::Tokens;
 use script_tokens::word::Word;
 use script_tree::syntax::expression::Expression;
@@ -17,7 +15,7 @@ use std::alloc::Global;
 
 /// An expression and the semicolon behind it.
 fn ended(alloc: Global, tokens: &mut Tokens<'_>) -> Result<Expression, Stop>
-    ensures gives { Gives expression_value (operand 6 ∷ word w.Semicolon ∷ []) [] result tokens.old.tokens tokens.new.tokens }
+    ensures gives { Gives expression_value (operand 6 ∷ word w.Semicolon ∷ []) [] result tokens.old tokens.new }
     ensures shorter { OnOk result (length tokens.new.tokens < length tokens.old.tokens) }
 {
     let value = operand(alloc, tokens, EXPRESSION)?;
@@ -27,7 +25,7 @@ fn ended(alloc: Global, tokens: &mut Tokens<'_>) -> Result<Expression, Stop>
 
 /// A name and the value that is bound to it.
 fn binding(alloc: Global, tokens: &mut Tokens<'_>) -> Result<(Name, Expression), Stop>
-    ensures gives { Gives binding_value (a_name ∷ word w.Becomes ∷ operand 6 ∷ word w.Semicolon ∷ []) [] result tokens.old.tokens tokens.new.tokens }
+    ensures gives { Gives binding_value (a_name ∷ word w.Becomes ∷ operand 6 ∷ word w.Semicolon ∷ []) [] result tokens.old tokens.new }
     ensures shorter { OnOk result (length tokens.new.tokens < length tokens.old.tokens) }
 {
     let name = name(alloc, tokens)?;
@@ -39,7 +37,7 @@ fn binding(alloc: Global, tokens: &mut Tokens<'_>) -> Result<(Name, Expression),
 /// The statements between two braces.
 #[cycle(statement)]
 pub fn block(alloc: Global, tokens: &mut Tokens<'_>) -> Result<Block, Stop>
-    ensures gives { Gives statements_value (block []) [] result tokens.old.tokens tokens.new.tokens }
+    ensures gives { Gives statements_value (block []) [] result tokens.old tokens.new }
     ensures shorter { OnOk result (length tokens.new.tokens < length tokens.old.tokens) }
 {
     take(tokens, Word::BraceOpen)?;
@@ -53,7 +51,7 @@ pub fn block(alloc: Global, tokens: &mut Tokens<'_>) -> Result<Block, Stop>
 
 #[cycle(statement)]
 fn statement(alloc: Global, tokens: &mut Tokens<'_>) -> Result<Statement, Stop>
-    ensures gives { Gives statement_value (a_statement ∷ []) [] result tokens.old.tokens tokens.new.tokens }
+    ensures gives { Gives statement_value (a_statement ∷ []) [] result tokens.old tokens.new }
     ensures shorter { OnOk result (length tokens.new.tokens < length tokens.old.tokens) }
 {
     match any_word(tokens) {
@@ -65,7 +63,7 @@ fn statement(alloc: Global, tokens: &mut Tokens<'_>) -> Result<Statement, Stop>
 /// A statement that begins with this word.
 #[cycle(statement)]
 fn statement_of(alloc: Global, tokens: &mut Tokens<'_>, at: usize, word: Word) -> Result<Statement, Stop>
-    ensures gives { Begins statement_value (word_token at word) (begin_statement at word) result tokens.old.tokens tokens.new.tokens }
+    ensures gives { Begins statement_value (word_token at word) (begin_statement at word) result tokens.old tokens.new }
     ensures shorter { OnOk result (length tokens.new.tokens ≤ length tokens.old.tokens) }
 {
     match word {
@@ -78,12 +76,12 @@ fn statement_of(alloc: Global, tokens: &mut Tokens<'_>, at: usize, word: Word) -
         Word::Status => status_statement(alloc, tokens, at),
         Word::Return => return_statement(alloc, tokens, at),
         Word::Do => do_statement(alloc, tokens, at),
-        _ => Err(OrMemory::Other(Unexpected { at: Some(at) })),
+        _ => Err(ungrammatical(at)),
     }
 }
 
 fn let_statement(alloc: Global, tokens: &mut Tokens<'_>, at: usize) -> Result<Statement, Stop>
-    ensures gives { Gives statement_value (a_name ∷ word w.Becomes ∷ operand 6 ∷ word w.Semicolon ∷ act (bound (tree.let_ at)) ∷ []) [] result tokens.old.tokens tokens.new.tokens }
+    ensures gives { Gives statement_value (a_name ∷ word w.Becomes ∷ operand 6 ∷ word w.Semicolon ∷ act (bound (tree.let_ at)) ∷ []) [] result tokens.old tokens.new }
     ensures shorter { OnOk result (length tokens.new.tokens < length tokens.old.tokens) }
 {
     let (name, value) = binding(alloc, tokens)?;
@@ -92,7 +90,7 @@ fn let_statement(alloc: Global, tokens: &mut Tokens<'_>, at: usize) -> Result<St
 }
 
 fn set_statement(alloc: Global, tokens: &mut Tokens<'_>, at: usize) -> Result<Statement, Stop>
-    ensures gives { Gives statement_value (a_name ∷ word w.Becomes ∷ operand 6 ∷ word w.Semicolon ∷ act (bound (tree.set_ at)) ∷ []) [] result tokens.old.tokens tokens.new.tokens }
+    ensures gives { Gives statement_value (a_name ∷ word w.Becomes ∷ operand 6 ∷ word w.Semicolon ∷ act (bound (tree.set_ at)) ∷ []) [] result tokens.old tokens.new }
     ensures shorter { OnOk result (length tokens.new.tokens < length tokens.old.tokens) }
 {
     let (name, value) = binding(alloc, tokens)?;
@@ -102,7 +100,7 @@ fn set_statement(alloc: Global, tokens: &mut Tokens<'_>, at: usize) -> Result<St
 
 #[cycle(statement)]
 fn if_statement(alloc: Global, tokens: &mut Tokens<'_>, at: usize) -> Result<Statement, Stop>
-    ensures gives { Gives statement_value (operand 6 ∷ block (else_part ∷ act (branched at) ∷ [])) [] result tokens.old.tokens tokens.new.tokens }
+    ensures gives { Gives statement_value (operand 6 ∷ block (else_part ∷ act (branched at) ∷ [])) [] result tokens.old tokens.new }
     ensures shorter { OnOk result (length tokens.new.tokens < length tokens.old.tokens) }
 {
     let condition = operand(alloc, tokens, EXPRESSION)?;
@@ -114,7 +112,7 @@ fn if_statement(alloc: Global, tokens: &mut Tokens<'_>, at: usize) -> Result<Sta
 
 #[cycle(statement)]
 fn otherwise(alloc: Global, tokens: &mut Tokens<'_>) -> Result<Else, Stop>
-    ensures gives { Gives else_value (else_part ∷ []) [] result tokens.old.tokens tokens.new.tokens }
+    ensures gives { Gives else_value (else_part ∷ []) [] result tokens.old tokens.new }
     ensures shorter { OnOk result (length tokens.new.tokens ≤ length tokens.old.tokens) }
 {
     if !tokens.stands(Word::Else) {
@@ -127,7 +125,7 @@ fn otherwise(alloc: Global, tokens: &mut Tokens<'_>) -> Result<Else, Stop>
 
 #[cycle(statement)]
 fn while_statement(alloc: Global, tokens: &mut Tokens<'_>, at: usize) -> Result<Statement, Stop>
-    ensures gives { Gives statement_value (operand 6 ∷ block (act (repeated at) ∷ [])) [] result tokens.old.tokens tokens.new.tokens }
+    ensures gives { Gives statement_value (operand 6 ∷ block (act (repeated at) ∷ [])) [] result tokens.old tokens.new }
     ensures shorter { OnOk result (length tokens.new.tokens < length tokens.old.tokens) }
 {
     let condition = operand(alloc, tokens, EXPRESSION)?;
@@ -138,7 +136,7 @@ fn while_statement(alloc: Global, tokens: &mut Tokens<'_>, at: usize) -> Result<
 
 #[cycle(statement)]
 fn for_statement(alloc: Global, tokens: &mut Tokens<'_>, at: usize) -> Result<Statement, Stop>
-    ensures gives { Gives statement_value (a_name ∷ word w.In ∷ operand 6 ∷ block (act (turned at) ∷ [])) [] result tokens.old.tokens tokens.new.tokens }
+    ensures gives { Gives statement_value (a_name ∷ word w.In ∷ operand 6 ∷ block (act (turned at) ∷ [])) [] result tokens.old tokens.new }
     ensures shorter { OnOk result (length tokens.new.tokens < length tokens.old.tokens) }
 {
     let name = name(alloc, tokens)?;
@@ -150,7 +148,7 @@ fn for_statement(alloc: Global, tokens: &mut Tokens<'_>, at: usize) -> Result<St
 }
 
 fn echo_statement(alloc: Global, tokens: &mut Tokens<'_>, at: usize) -> Result<Statement, Stop>
-    ensures gives { Gives statement_value (operand 6 ∷ word w.Semicolon ∷ act (said (tree.echo at)) ∷ []) [] result tokens.old.tokens tokens.new.tokens }
+    ensures gives { Gives statement_value (operand 6 ∷ word w.Semicolon ∷ act (said (tree.echo at)) ∷ []) [] result tokens.old tokens.new }
     ensures shorter { OnOk result (length tokens.new.tokens < length tokens.old.tokens) }
 {
     let value = ended(alloc, tokens)?;
@@ -159,7 +157,7 @@ fn echo_statement(alloc: Global, tokens: &mut Tokens<'_>, at: usize) -> Result<S
 }
 
 fn status_statement(alloc: Global, tokens: &mut Tokens<'_>, at: usize) -> Result<Statement, Stop>
-    ensures gives { Gives statement_value (operand 6 ∷ word w.Semicolon ∷ act (said (tree.status at)) ∷ []) [] result tokens.old.tokens tokens.new.tokens }
+    ensures gives { Gives statement_value (operand 6 ∷ word w.Semicolon ∷ act (said (tree.status at)) ∷ []) [] result tokens.old tokens.new }
     ensures shorter { OnOk result (length tokens.new.tokens < length tokens.old.tokens) }
 {
     let value = ended(alloc, tokens)?;
@@ -168,7 +166,7 @@ fn status_statement(alloc: Global, tokens: &mut Tokens<'_>, at: usize) -> Result
 }
 
 fn return_statement(alloc: Global, tokens: &mut Tokens<'_>, at: usize) -> Result<Statement, Stop>
-    ensures gives { Gives statement_value (operand 6 ∷ word w.Semicolon ∷ act (said (tree.return at)) ∷ []) [] result tokens.old.tokens tokens.new.tokens }
+    ensures gives { Gives statement_value (operand 6 ∷ word w.Semicolon ∷ act (said (tree.return at)) ∷ []) [] result tokens.old tokens.new }
     ensures shorter { OnOk result (length tokens.new.tokens < length tokens.old.tokens) }
 {
     let value = ended(alloc, tokens)?;
@@ -177,7 +175,7 @@ fn return_statement(alloc: Global, tokens: &mut Tokens<'_>, at: usize) -> Result
 }
 
 fn do_statement(alloc: Global, tokens: &mut Tokens<'_>, at: usize) -> Result<Statement, Stop>
-    ensures gives { Gives statement_value (operand 6 ∷ word w.Semicolon ∷ act (said (tree.do_ at)) ∷ []) [] result tokens.old.tokens tokens.new.tokens }
+    ensures gives { Gives statement_value (operand 6 ∷ word w.Semicolon ∷ act (said (tree.do_ at)) ∷ []) [] result tokens.old tokens.new }
     ensures shorter { OnOk result (length tokens.new.tokens < length tokens.old.tokens) }
 {
     let value = ended(alloc, tokens)?;

@@ -1,6 +1,7 @@
 use Rattle.std.proofs.Common.{◌≡◌, ◌<◌, ◌∷◌, [], length, List, ℕ, ◌+◌, ◌*◌}
 use Rattle.script_tokens.specs.declared.word.Word.TheVariants as w
-use Rattle.script_grammar.specs.Machine.{Symbol, Val, block, statements, of_statements, run}
+use Rattle.script_grammar.specs.Machine.{Symbol, Val, block, statements, of_statements}
+use Rattle.script_parse.specs.Gives.{reading}
 use Rattle.script_parse.proofs.statement.+statement.Given as goal
 
 abbrev pub decreases-block : goal.decreases-block
@@ -26,7 +27,7 @@ decreases-for_statement l = 4 * length l.tokens.now.tokens + 1
 
 abbrev pub invariant-block-loop-alloc : goal.invariant-block-loop-alloc
 invariant-block-loop-alloc l = record {
-  told : (k : List Symbol) (vs : List Val) → run l.fn.tokens.tokens (block k) vs ≡ run l.tokens.tokens (statements ∷ k) (of_statements l.statements ∷ vs);
+  told : (k : List Symbol) (vs : List Val) → reading l.fn.tokens (block k) vs ≡ reading l.tokens (statements ∷ k) (of_statements l.statements ∷ vs);
   shorter : length l.tokens.tokens < length l.fn.tokens.tokens;
 }
 

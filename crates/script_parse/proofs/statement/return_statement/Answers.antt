@@ -1,10 +1,10 @@
 use Rattle.std.proofs.Common.{◌∙◌, ◌∷◌}
 use Rattle.script_tree.specs.Syntax as tree
 use Rattle.script_grammar.specs.Machine.{act, said, of_expression}
-use Rattle.script_grammar.proofs.Steps.{act_runs}
+use Rattle.script_parse.proofs.Descend.{act_runs}
 use Rattle.script_parse.proofs.statement.return_statement.Goals as goal
 
 pub returns-clause-gives : goal.returns-clause-gives
 returns-clause-gives c = λ k vs.
     c.in_ok-value.ensures.gives (act (said (tree.return c.args.at)) ∷ k) vs
-    ∙ act_runs (said (tree.return c.args.at)) c.ended.new.tokens.tokens k (of_expression c.in_ok-value.value ∷ vs)
+    ∙ act_runs (said (tree.return c.args.at)) c.ended.new.tokens k (of_expression c.in_ok-value.value ∷ vs)

@@ -192,7 +192,7 @@ whole_back ts out y = (y.0, y.4.1 ∙ all_declarations y.0 [] [], record { spell
 begins_before : (read more : List Token) (out : List Val) → AreSpelled more → Yields start none_yet (read ++ more) out → Begins read
 begins_before read more out real y = let p = whole_back (read ++ more) out y in record { more = more; tree = p.0; real = real; whole = p.2 }
 
-begins_whole : (ts read : List Token) → ts ≡ read ++ [] → Begins read → Begins ts
+pub begins_whole : (ts read : List Token) → ts ≡ read ++ [] → Begins read → Begins ts
 begins_whole ts read e b = let q : read ≡ ts = sym (append-nil read) ∙ sym e in subst Begins q b
 
 -- what the machine's outcome says of the tokens
@@ -200,7 +200,7 @@ abbrev pub Answers : List Token → Outcome → Type 0
 Answers ts (done out) = (ds : List Declaration) × (out ≡ of_declarations ds ∷ []) × IsTreeOf ts ds
 Answers ts (stuck rest) = IsFaultAt ts rest
 
-tree_read : (ts : List Token) (ds : List Declaration) → IsTreeOf ts ds → run_file ts ≡ done (of_declarations ds ∷ [])
+pub tree_read : (ts : List Token) (ds : List Declaration) → IsTreeOf ts ds → run_file ts ≡ done (of_declarations ds ∷ [])
 tree_read ts ds h = whole_read ts ds h.spelled h.grouped
 
 exact_of : (ts : List Token) (o : Outcome) → run_file ts ≡ o → Answers ts o

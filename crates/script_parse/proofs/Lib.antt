@@ -1,1 +1,2 @@
 pub mod Descend
+pub mod Parses

@@ -14,6 +14,7 @@ use Rattle.script_tree.specs.declared.syntax.statement.Else as code
 use Rattle.script_tokens.specs.Feed.{fault_of}
 use Rattle.script_tokens.specs.Scans.{Scan}
 use Rattle.script_tokens.specs.declared.fault.End.{End}
+use Rattle.script_tokens.specs.declared.fault.End.TheVariants.{File, Fault}
 use Rattle.script_tokens.specs.declared.fault.SyntaxFault.{SyntaxFault}
 use Rattle.script_tokens.specs.Kinds.{Kind, Token, token}
 use Rattle.script_tokens.specs.Kinds as kind
@@ -159,3 +160,8 @@ abbrev pub IsFileRead : Result (List Declaration) (OrMemory SyntaxFault) → Sca
 IsFileRead (Ok ds) old new = (reading old (declarations ∷ []) (of_declarations [] ∷ []) ≡ (done (of_declarations ds ∷ []), new.end)) × (new.tokens ≡ [])
 IsFileRead (Err Memory) old new = Unit {0}
 IsFileRead (Err (Other fault)) old new = fault_in (reading old (declarations ∷ []) (of_declarations [] ∷ [])) ≡ Some fault
+
+-- The tree, where the tokens go up to the end of the file; the fault of its end otherwise.
+abbrev pub IsWholeTree : List Declaration → End → Result (List Declaration) (OrMemory SyntaxFault) → Type 0
+IsWholeTree tree (File length) result = result ≡ Ok tree
+IsWholeTree tree (Fault fault) result = result ≡ Err (Other fault)

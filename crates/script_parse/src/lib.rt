@@ -4,5 +4,6 @@
 mod declaration;
 mod expression;
 mod feed;
+pub mod parse;
 mod query;
 mod statement;

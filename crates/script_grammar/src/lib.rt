@@ -1,2 +1,4 @@
 //! Which tokens spell which tree: docs/language.md, "Grammar".
 #![tactic(auto)]
+
+pub mod words;

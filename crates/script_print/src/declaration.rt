@@ -1,0 +1,60 @@
+ghost use Rattle.std.specs.Prelude.{◌≡◌, IfOk};
+ghost use Rattle.script_grammar.specs.Spelling.{declaration_spelling};
+ghost use Rattle.script_print.specs.TreePrints.{Prints, printed_tree};
+
+use crate::name::{print_name, print_names};
+use crate::printer::Printer;
+use crate::statement::print_block;
+use script_tokens::word::Word;
+use script_tree::syntax::declaration::{Declaration, Tree};
+use std::alloc::{AllocError, Global};
+
+#[tactic(auto, using(crate::proofs::Blocks::same_block))]
+fn print_declaration(printer: &mut Printer, declaration: &Declaration) -> Result<(), AllocError>
+    ensures { IfOk result (λ _. Prints (declaration_spelling declaration.now) printer.old printer.new) }
+{
+    match declaration {
+        Declaration::Store { name, .. } => {
+            printer.word(Word::Store)?;
+            print_name(printer, name)?;
+            printer.word(Word::Semicolon)
+        }
+        Declaration::Table { name, columns, .. } => {
+            printer.word(Word::Table)?;
+            print_name(printer, name)?;
+            printer.word(Word::Open)?;
+            print_names(printer, columns.as_slice())?;
+            printer.word(Word::Close)?;
+            printer.word(Word::Semicolon)
+        }
+        Declaration::Function {
+            name,
+            parameters,
+            body,
+            ..
+        } => {
+            printer.word(Word::Function)?;
+            print_name(printer, name)?;
+            printer.word(Word::Open)?;
+            print_names(printer, parameters.as_slice())?;
+            printer.word(Word::Close)?;
+            print_block(printer, body.as_slice())
+        }
+        Declaration::Page { path, body, .. } => {
+            printer.word(Word::Page)?;
+            printer.text(path.text.as_bytes())?;
+            print_block(printer, body.as_slice())
+        }
+    }
+}
+
+/// The normal spelling of a program.
+pub fn print(alloc: Global, tree: &Tree) -> Result<Vec<u8>, AllocError>
+    ensures { IfOk result (λ out. out.items ≡ printed_tree tree.now) }
+{
+    let mut printer = Printer::new(alloc);
+    for declaration in tree.as_slice() {
+        print_declaration(&mut printer, declaration)?;
+    }
+    Ok(printer.finish())
+}

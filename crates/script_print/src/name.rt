@@ -1,0 +1,39 @@
+ghost use Rattle.std.specs.Prelude.{◌≡◌, IfOk};
+ghost use Rattle.script_grammar.specs.Spelling.{names, names_before};
+ghost use Rattle.script_print.specs.Prints.{Adds};
+ghost use Rattle.script_print.specs.TreePrints.{Prints};
+ghost use Rattle.script_tokens.specs.Kinds.{name};
+
+use crate::printer::Printer;
+use script_tokens::word::Word;
+use script_tree::syntax::name::Name;
+use std::alloc::AllocError;
+
+pub(crate) fn print_name(printer: &mut Printer, declared: &Name) -> Result<(), AllocError>
+    ensures { IfOk result (λ _. Adds (name declared.now.text) printer.old printer.new) }
+{
+    printer.name(declared.text.as_bytes())
+}
+
+/// Names with commas between them.
+pub(crate) fn print_names(printer: &mut Printer, list: &[Name]) -> Result<(), AllocError>
+    ensures { IfOk result (λ _. Prints (names list.now) printer.old printer.new) }
+{
+    match list {
+        [] => Ok(()),
+        [first, others @ ..] => {
+            print_name(printer, first)?;
+            print_more_names(printer, others)
+        }
+    }
+}
+
+fn print_more_names(printer: &mut Printer, others: &[Name]) -> Result<(), AllocError>
+    ensures { IfOk result (λ _. Prints (names_before others.now) printer.old printer.new) }
+{
+    for name in others {
+        printer.word(Word::Comma)?;
+        print_name(printer, name)?;
+    }
+    Ok(())
+}

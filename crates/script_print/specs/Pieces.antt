@@ -42,6 +42,9 @@ statements ss = statements_spelling (statements_of ss)
 abbrev pub enclosed : Word → (List Mark → List Mark) → Word → List Mark → List Mark
 enclosed opening part closing marks = word opening ∷ part (word closing ∷ marks)
 
+abbrev pub transaction : List Query → List Mark → List Mark
+transaction qs marks = word w.Transact ∷ enclosed w.BraceOpen (queries qs) w.BraceClose marks
+
 abbrev pub block : List Statement → List Mark → List Mark
 block body = enclosed w.BraceOpen (statements body) w.BraceClose
 

@@ -11,7 +11,8 @@ use std::alloc::{AllocError, Global};
 
 #[tactic(auto, using(crate::proofs::Blocks::same_block))]
 fn print_declaration(printer: &mut Printer, declaration: &Declaration) -> Result<(), AllocError>
-    ensures { IfOk result (λ _. Prints (declaration_spelling declaration.now) printer.old printer.new) }
+    ensures { IfOk result
+        (λ _. Prints (declaration_spelling declaration.now) printer.old printer.new) }
 {
     match declaration {
         Declaration::Store { name, .. } => {

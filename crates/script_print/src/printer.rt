@@ -8,8 +8,8 @@ use script_tokens::word::Word;
 use std::alloc::{AllocError, Global};
 use std::marker::Model;
 
-/// Prints tokens one after another. Contracts see the bytes so far, where a space stands behind each token.
-/// After an error it has bytes of part of a token.
+/// Prints tokens one after another. Contracts see the bytes so far, where a space stands behind each
+/// token. After an error it has bytes of part of a token.
 #[derive(Drop)]
 pub struct Printer {
     bytes: Vec<u8>,

@@ -1,8 +1,7 @@
-ghost use Rattle.std.specs.Prelude.{◌≡◌, ℕ, ◌∷◌, IfOk};
+ghost use Rattle.std.specs.Prelude.{◌≡◌, ℕ, IfOk};
 ghost use Rattle.script_tree.specs.ExpressionView.{query_of};
-ghost use Rattle.script_tokens.specs.declared.word.Word.TheVariants.{Transact, BraceOpen, BraceClose};
-ghost use Rattle.script_grammar.specs.Spelling.{word, query_spelling};
-ghost use Rattle.script_print.specs.Pieces.{enclosed, queries, rows, rows_from};
+ghost use Rattle.script_grammar.specs.Spelling.{query_spelling};
+ghost use Rattle.script_print.specs.Pieces.{queries, rows, rows_from, transaction};
 ghost use Rattle.script_print.specs.Pieces.{condition, conditions, more_conditions};
 ghost use Rattle.script_print.specs.Pieces.{assignment, assignments, more_assignments};
 ghost use Rattle.script_print.specs.TreePrints.{Prints};
@@ -18,10 +17,7 @@ use std::alloc::AllocError;
 
 #[cycle(expression)]
 pub(crate) fn print_transact(printer: &mut Printer, list: &[Query]) -> Result<(), AllocError>
-    ensures { IfOk result
-        (λ _. Prints
-        (λ marks. word Transact ∷ enclosed BraceOpen (queries list.now) BraceClose marks)
-        printer.old printer.new) }
+    ensures { IfOk result (λ _. Prints (transaction list.now) printer.old printer.new) }
 {
     printer.word(Word::Transact)?;
     printer.word(Word::BraceOpen)?;

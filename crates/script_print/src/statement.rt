@@ -57,7 +57,8 @@ fn print_statement_node(printer: &mut Printer, node: &StatementNode) -> Result<(
 
 #[cycle(statement)]
 fn print_else(printer: &mut Printer, other: &Else) -> Result<(), AllocError>
-    ensures { IfOk result (λ _. Prints (else_spelling (else_of other.now)) printer.old printer.new) }
+    ensures { IfOk result
+        (λ _. Prints (else_spelling (else_of other.now)) printer.old printer.new) }
 {
     match other {
         Else::None => Ok(()),
@@ -95,7 +96,8 @@ fn print_setting(
     name: &Name,
     value: &Expression,
 ) -> Result<(), AllocError>
-    ensures { IfOk result (λ _. Prints (setting keyword name.now value.now) printer.old printer.new) }
+    ensures { IfOk result
+        (λ _. Prints (setting keyword name.now value.now) printer.old printer.new) }
 {
     printer.word(keyword)?;
     print_name(printer, name)?;
@@ -106,7 +108,8 @@ fn print_setting(
 
 /// A statement of a keyword and an expression.
 fn print_simple(printer: &mut Printer, keyword: Word, value: &Expression) -> Result<(), AllocError>
-    ensures { IfOk result (λ _. Prints (simple_statement keyword value.now) printer.old printer.new) }
+    ensures { IfOk result
+        (λ _. Prints (simple_statement keyword value.now) printer.old printer.new) }
 {
     printer.word(keyword)?;
     print_expression(printer, value)?;

@@ -49,7 +49,7 @@ fn print_declaration(printer: &mut Printer, declaration: &Declaration) -> Result
     }
 }
 
-/// The normal spelling of a program.
+/// The normal spelling of a program: docs/language.md, "How a program text prints".
 pub fn print(alloc: Global, tree: &Tree) -> Result<Vec<u8>, AllocError>
     ensures { IfOk result (λ out. out.items ≡ printed_tree tree.now) }
 {

@@ -1,18 +1,18 @@
 ghost use Rattle.std.specs.Prelude.{◌≡◌, IfOk};
+ghost use Rattle.script_tokens.specs.Kinds as kind;
 ghost use Rattle.script_grammar.specs.Spelling.{names, names_before};
 ghost use Rattle.script_print.specs.Prints.{Adds};
 ghost use Rattle.script_print.specs.TreePrints.{Prints};
-ghost use Rattle.script_tokens.specs.Kinds.{name};
 
 use crate::printer::Printer;
 use script_tokens::word::Word;
 use script_tree::syntax::name::Name;
 use std::alloc::AllocError;
 
-pub(crate) fn print_name(printer: &mut Printer, declared: &Name) -> Result<(), AllocError>
-    ensures { IfOk result (λ _. Adds (name declared.now.text) printer.old printer.new) }
+pub(crate) fn print_name(printer: &mut Printer, name: &Name) -> Result<(), AllocError>
+    ensures { IfOk result (λ _. Adds (kind.name name.now.text) printer.old printer.new) }
 {
-    printer.name(declared.text.as_bytes())
+    printer.name(name.text.as_bytes())
 }
 
 /// Names with commas between them.

@@ -8,7 +8,7 @@ use Rattle.script_tree.specs.declared.syntax.expression.Assignment.{Assignment}
 use Rattle.script_tree.specs.declared.syntax.name.Name.{Name}
 use Rattle.script_tokens.specs.declared.word.Word.{Word}
 use Rattle.script_tokens.specs.declared.word.Word.TheVariants as w
-use Rattle.script_grammar.specs.Spelling.{Mark, word, named, comparison_word, spelling, list_spelling, more_spelling, queries_spelling, where_spelling, and_spelling, sets_spelling, more_sets_spelling, statements_spelling}
+use Rattle.script_grammar.specs.Spelling.{Mark, word, named, comparison_word, names, spelling, list_spelling, more_spelling, queries_spelling, where_spelling, and_spelling, sets_spelling, more_sets_spelling, statements_spelling, block_spelling}
 
 -- ---- the lists of the code
 
@@ -42,11 +42,19 @@ statements ss = statements_spelling (statements_of ss)
 abbrev pub enclosed : Word → (List Mark → List Mark) → Word → List Mark → List Mark
 enclosed opening part closing marks = word opening ∷ part (word closing ∷ marks)
 
+-- columns or parameters
+abbrev pub bracketed : List Name → List Mark → List Mark
+bracketed xs = enclosed w.Open (names xs) w.Close
+
 abbrev pub transaction : List Query → List Mark → List Mark
 transaction qs marks = word w.Transact ∷ enclosed w.BraceOpen (queries qs) w.BraceClose marks
 
 abbrev pub block : List Statement → List Mark → List Mark
-block body = enclosed w.BraceOpen (statements body) w.BraceClose
+block ss = enclosed w.BraceOpen (statements ss) w.BraceClose
+
+-- the statements of a function or a page
+abbrev pub body : List Statement → List Mark → List Mark
+body ss = enclosed w.BraceOpen (block_spelling ss) w.BraceClose
 
 abbrev pub infix_spelling : Expression → Word → Expression → List Mark → List Mark
 infix_spelling left sign right marks = spelling left (word sign ∷ spelling right marks)

@@ -1,5 +1,12 @@
+pub mod Blocks
 pub mod Ends
+pub mod Lighter
+pub mod Parts
+pub mod PrintsAgain
+pub mod Replaced
 pub mod Runs
+pub mod SameLevels
+pub mod Scanned
 pub mod ScansAgain
 pub mod Spaces
 pub mod Spelled

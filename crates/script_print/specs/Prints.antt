@@ -1,5 +1,5 @@
 -- How the tokens of a program's text are printed.
-use Rattle.std.specs.Prelude.{ℕ, ◌/◌, ◌%◌, List, [], ◌∷◌, ◌++◌, false, ◌==◌, ◌||◌, if◌then◌else◌, codes}
+use Rattle.std.specs.Prelude.{◌≡◌, ℕ, ◌/◌, ◌%◌, List, [], ◌∷◌, ◌++◌, false, ◌==◌, ◌||◌, if◌then◌else◌, codes}
 use Rattle.std.specs.Fmt.{signed_decimal, digit_glyph}
 use Rattle.std.specs.List.{flat_map}
 use Rattle.script_tokens.specs.Kinds.{Kind, fixed, name, number, text}
@@ -44,3 +44,11 @@ joined (k ∷ ks) = printed k ++ separator ks ∷ joined ks
 abbrev pub spaced : List Kind → List ℕ
 spaced [] = []
 spaced (k ∷ ks) = printed k ++ 32 ∷ spaced ks
+
+-- these bytes, and behind them such tokens
+unfoldable pub followed : List ℕ → List Kind → List ℕ
+followed bytes ks = bytes ++ spaced ks
+
+-- What was printed before, with a token behind it: whatever tokens follow.
+abbrev pub Adds : Kind → (before after : List ℕ) → Type 0
+Adds k before after = (ks : List Kind) → followed after ks ≡ followed before (k ∷ ks)

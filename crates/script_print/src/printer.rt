@@ -1,6 +1,6 @@
 ghost use Rattle.std.specs.Prelude.{◌≡◌, List, [], ◌∷◌, ◌++◌, IfOk};
 ghost use Rattle.script_tokens.specs.Kinds.{Kind, fixed, name, number, text};
-ghost use Rattle.script_print.specs.Prints.{spaced, joined};
+ghost use Rattle.script_print.specs.Prints.{spaced, joined, Adds};
 
 use crate::text::push_text;
 use itoa::Buffer;
@@ -8,8 +8,8 @@ use script_tokens::word::Word;
 use std::alloc::{AllocError, Global};
 use std::marker::Model;
 
-/// Prints tokens one after another. Contracts see the bytes so far, where a space stands behind each token.
-/// After an error it has bytes of part of a token.
+/// Prints tokens one after another. Contracts see the bytes so far, where a space stands behind each
+/// token. After an error it has bytes of part of a token.
 #[derive(Drop)]
 pub struct Printer {
     bytes: Vec<u8>,
@@ -40,21 +40,21 @@ impl Printer {
     }
 
     pub fn word(&mut self, word: Word) -> Result<(), AllocError>
-        ensures { IfOk result (λ _. self.new ≡ self.old ++ spaced (fixed word ∷ [])) }
+        ensures { IfOk result (λ _. Adds (fixed word) self.old self.new) }
     {
         self.bytes.extend_from_slice(word.spelling())?;
         self.end_token()
     }
 
     pub fn name(&mut self, bytes: &[u8]) -> Result<(), AllocError>
-        ensures { IfOk result (λ _. self.new ≡ self.old ++ spaced (name bytes.now ∷ [])) }
+        ensures { IfOk result (λ _. Adds (name bytes.now) self.old self.new) }
     {
         self.bytes.extend_from_slice(bytes)?;
         self.end_token()
     }
 
     pub fn number(&mut self, value: i64) -> Result<(), AllocError>
-        ensures { IfOk result (λ _. self.new ≡ self.old ++ spaced (number value ∷ [])) }
+        ensures { IfOk result (λ _. Adds (number value) self.old self.new) }
     {
         let mut buffer = Buffer::new();
         let digits = buffer.format(value).as_bytes();
@@ -63,7 +63,7 @@ impl Printer {
     }
 
     pub fn text(&mut self, content: &[u8]) -> Result<(), AllocError>
-        ensures { IfOk result (λ _. self.new ≡ self.old ++ spaced (text content.now ∷ [])) }
+        ensures { IfOk result (λ _. Adds (text content.now) self.old self.new) }
     {
         push_text(&mut self.bytes, content)?;
         self.end_token()

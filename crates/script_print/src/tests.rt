@@ -1,6 +1,13 @@
+use crate::declaration::print;
 use crate::printer::Printer;
 use crate::text::print_text;
+use basis::Items;
 use script_tokens::word::Word;
+use script_tree::syntax::declaration::{Declaration, Tree};
+use script_tree::syntax::expression::{Expression, ExpressionNode};
+use script_tree::syntax::name::Name;
+use script_tree::syntax::statement::{Statement, StatementNode};
+use script_tree::text::Text;
 use std::alloc::{AllocError, Global};
 use std::test::Fail;
 
@@ -54,5 +61,31 @@ fn texts_print(rt: HostRuntime) -> Result<(), Fail> {
     let bytes = print_text(rt.alloc(), b"\"\\\n\t\x00\x7f\xffa")?;
     let expected = b"\"\\\"\\\\\\n\\t\\x00\\x7f\\xffa\"";
     assert!(rt; bytes.as_slice() == expected.as_slice());
+    Ok(())
+}
+
+/// The tree of `page "/e"{echo 007;}`.
+fn page(alloc: Global) -> Result<Tree, AllocError> {
+    let mut body = Items::new(alloc);
+    body.push(Statement {
+        at: 10,
+        node: StatementNode::Echo(Expression {
+            at: 15,
+            node: ExpressionNode::Number(7),
+        }),
+    })?;
+    let path = Name {
+        at: 5,
+        text: Text::from_vec(b"/e".to_vec(alloc)?),
+    };
+    let mut tree = Items::new(alloc);
+    tree.push(Declaration::Page { at: 0, path, body })?;
+    Ok(tree)
+}
+
+#[test]
+fn tree_prints(rt: HostRuntime) -> Result<(), Fail> {
+    let bytes = print(rt.alloc(), &page(rt.alloc())?)?;
+    assert!(rt; bytes.as_slice() == b"page \"/e\" { echo 7 ; }\n".as_slice());
     Ok(())
 }

@@ -1,5 +1,5 @@
 -- The least fault.
-use Rattle.std.specs.Prelude.{◌≡◌, ℕ, ◌<◌, ◌≤◌, ◌⊎◌, List, Contains, Result, Ok, Err}
+use Rattle.std.specs.Prelude.{◌≡◌, ℕ, ◌<◌, ◌≤◌, ◌⊎◌, ◌&&◌, ◌||◌, nat_lt, nat_eq, Bool, if◌then◌else◌, List, [], ◌∷◌, Contains, Option, Some, None, Result}
 use Rattle.basis.specs.declared.or_memory.OrMemory.{OrMemory}
 use Rattle.basis.specs.UnlessMemory.{UnlessMemory}
 use Rattle.script_tree.specs.Programs.{Program}
@@ -16,6 +16,18 @@ number_of WrongCount = 3
 number_of Unknown = 4
 number_of KeyWritten = 5
 number_of PageTwice = 6
+
+abbrev pub is_below : CheckFault → CheckFault → Bool
+is_below a b = nat_lt a.at b.at || (nat_eq a.at b.at && nat_lt (number_of a.kind) (number_of b.kind))
+
+abbrev pub lesser : CheckFault → Option CheckFault → Option CheckFault
+lesser a None = Some a
+lesser a (Some b) = if is_below a b then Some a else Some b
+
+-- the least of these and of the one before
+unfoldable pub lower : Option CheckFault → List CheckFault → Option CheckFault
+lower least [] = least
+lower least (a ∷ more) = lower (lesser a least) more
 
 -- It stands before the other one; or at one place, its kind is no greater.
 abbrev pub IsNotAbove : CheckFault → CheckFault → Type 0

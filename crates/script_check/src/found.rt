@@ -1,0 +1,43 @@
+ghost use Rattle.std.specs.Prelude.{◌≡◌, None};
+ghost use Rattle.script_check.specs.Validity.{fault, fault_unless};
+ghost use Rattle.script_check.specs.Least.{lower};
+
+use crate::fault::{CheckFault, CheckFaultKind};
+
+/// The least fault that was found so far.
+#[derive(Drop)]
+pub(crate) struct Found {
+    pub(crate) least: Option<CheckFault>,
+}
+
+impl Found {
+    pub(crate) fn new() -> Found
+        ensures { result.least ≡ None }
+    {
+        Found { least: None }
+    }
+
+    pub(crate) fn note(&mut self, at: usize, kind: CheckFaultKind)
+        ensures { self.new.least ≡ lower self.old.least (fault at kind) }
+    {
+        let fault = CheckFault { at, kind };
+        match self.least {
+            None => self.least = Some(fault),
+            Some(least) => {
+                if fault.is_below(&least) {
+                    self.least = Some(fault);
+                }
+            }
+        }
+    }
+
+    #[tactic(auto, unfolding(crate::specs::Least::lower))]
+    /// Notes the fault, but where that holds.
+    pub(crate) fn unless(&mut self, holds: bool, at: usize, kind: CheckFaultKind)
+        ensures { self.new.least ≡ lower self.old.least (fault_unless holds at kind) }
+    {
+        if !holds {
+            self.note(at, kind);
+        }
+    }
+}

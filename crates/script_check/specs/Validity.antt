@@ -196,12 +196,13 @@ declaration_faults program earlier (Table at name columns) = fault_unless (not (
 declaration_faults program earlier (Function at name parameters body) = fault_unless (not (names_function earlier name.text)) name.at DeclaredTwice ++ declared_in_turn [] parameters ++ block_faults program (with_names [] parameters) body
 declaration_faults program earlier (Page at path body) = fault_unless (not (is_some (page_from 0 path.text earlier))) path.at PageTwice ++ block_faults program [] body
 
-abbrev pub faults_behind : (program earlier later : List Declaration) → List CheckFault
-faults_behind program earlier [] = []
-faults_behind program earlier (d ∷ ds) = declaration_faults program earlier d ++ faults_behind program (earlier ++ d ∷ []) ds
+-- what is wrong with each of the later ones, where these stand before them
+abbrev pub in_turn : ((earlier : List Declaration) → Declaration → List CheckFault) → (earlier later : List Declaration) → List CheckFault
+in_turn faults earlier [] = []
+in_turn faults earlier (d ∷ ds) = faults earlier d ++ in_turn faults (earlier ++ d ∷ []) ds
 
 abbrev pub faults_of : List Declaration → List CheckFault
-faults_of program = faults_behind program [] program
+faults_of program = in_turn (declaration_faults program) [] program
 
 abbrev pub IsValid : List Declaration → Type 0
 IsValid program = faults_of program ≡ []

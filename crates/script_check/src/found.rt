@@ -1,6 +1,6 @@
 ghost use Rattle.std.specs.Prelude.{◌≡◌, None};
 ghost use Rattle.script_check.specs.Validity.{fault, fault_unless};
-ghost use Rattle.script_check.specs.Least.{lower};
+ghost use Rattle.script_check.specs.Finds.{Finds};
 
 use crate::fault::{CheckFault, CheckFaultKind};
 
@@ -18,7 +18,7 @@ impl Found {
     }
 
     pub(crate) fn note(&mut self, at: usize, kind: CheckFaultKind)
-        ensures { self.new.least ≡ lower self.old.least (fault at kind) }
+        ensures { Finds (fault at kind) self.old self.new }
     {
         let fault = CheckFault { at, kind };
         match self.least {
@@ -34,7 +34,7 @@ impl Found {
     #[tactic(auto, unfolding(crate::specs::Least::lower))]
     /// Notes the fault, but where that holds.
     pub(crate) fn unless(&mut self, holds: bool, at: usize, kind: CheckFaultKind)
-        ensures { self.new.least ≡ lower self.old.least (fault_unless holds at kind) }
+        ensures { Finds (fault_unless holds at kind) self.old self.new }
     {
         if !holds {
             self.note(at, kind);

@@ -1,11 +1,17 @@
 ghost use Rattle.std.specs.Prelude.{◌≡◌, ◌-◌, [], length, drop, not, IfOk, OnOk};
-ghost use Rattle.script_check.specs.Validity.{has, with_name};
+ghost use Rattle.script_check.specs.Validity.{has, with_name, with_names};
+ghost use Rattle.script_check.specs.Validity.{declared_where, declared_in_turn};
+ghost use Rattle.script_check.specs.Finds.{Finds};
 
+use crate::fault::CheckFaultKind;
+use crate::found::Found;
+use script_tree::syntax::name::Name;
 use std::alloc::{AllocError, Global};
 use std::collections::BTreeSet;
 use std::marker::Model;
 
-/// The variables that are known at a place of a body. Contracts see their names, the newest first.
+/// Names that were declared one after another: the variables that are known at a place, or the columns
+/// of a table. Contracts see them, the newest first, none of them twice.
 #[derive(Drop)]
 pub(crate) struct Scope<'a> {
     known: BTreeSet<&'a [u8]>,
@@ -51,9 +57,33 @@ impl<'a> Scope<'a> {
         self.declared.len()
     }
 
-    /// Makes a name known, and tells whether it wasn't. Where it runs out of memory, the scope stays
-    /// as it is.
-    pub(crate) fn declare(&mut self, name: &'a [u8]) -> Result<bool, AllocError>
+    /// Makes a name known, and notes a fault where it was known.
+    pub(crate) fn declare(&mut self, name: &'a Name, found: &mut Found) -> Result<(), AllocError>
+        ensures declared { OnOk result (self.new ≡ with_name self.old name.now.text) }
+        ensures faults { OnOk result (Finds (declared_where self.old name.now) found.old found.new) }
+    {
+        let was_new = self.add(name.text.as_bytes())?;
+        found.unless(was_new, name.at, CheckFaultKind::DeclaredTwice);
+        Ok(())
+    }
+
+    /// Does so with one name after another.
+    pub(crate) fn declare_all(
+        &mut self,
+        names: &'a [Name],
+        found: &mut Found,
+    ) -> Result<(), AllocError>
+        ensures declared { OnOk result (self.new ≡ with_names self.old names.now) }
+        ensures faults { OnOk result (Finds (declared_in_turn self.old names.now) found.old found.new) }
+    {
+        for name in names {
+            self.declare(name, found)?;
+        }
+        Ok(())
+    }
+
+    /// Makes a name known, and tells whether it wasn't.
+    fn add(&mut self, name: &'a [u8]) -> Result<bool, AllocError>
         ensures declared { OnOk result (self.new ≡ with_name self.old name.now) }
         ensures was_new { IfOk result (λ was_new. was_new ≡ not (has self.old name.now)) }
     {

@@ -2,7 +2,7 @@ use Rattle.std.proofs.Common.{◌≡◌, [], false, sym, ap, ◌∙◌}
 use Rattle.script_check.specs.Validity.{has, with_name}
 use Rattle.script_check.specs.Scopes.{newest_first}
 use Rattle.script_check.proofs.Names.{known_more, apart_more, names_push, with_new}
-use Rattle.script_check.proofs.scope.Scope.declare.Goals as goal
+use Rattle.script_check.proofs.scope.Scope.add.Goals as goal
 
 pub invariant_of-self-in-Ok : goal.invariant_of-self-in-Ok
 invariant_of-self-in-Ok c =

@@ -1,0 +1,40 @@
+-- What each pass over the declarations looks for, where these stand before them; together it is `declaration_faults`.
+use Rattle.std.specs.Prelude.{List, [], ◌++◌, not, is_some}
+use Rattle.script_tree.specs.Declarations.{table_from, page_from}
+use Rattle.script_tree.specs.Fit.{declares_store}
+use Rattle.script_tree.specs.declared.syntax.declaration.Declaration.{Declaration}
+use Rattle.script_tree.specs.declared.syntax.declaration.Declaration.TheVariants.{Store, Table, Function, Page}
+use Rattle.script_check.specs.Validity.{fault_unless, declared_in_turn, names_function, with_names, block_faults}
+use Rattle.script_check.specs.declared.fault.CheckFault.{CheckFault}
+use Rattle.script_check.specs.declared.fault.CheckFaultKind.TheVariants.{DeclaredTwice, PageTwice}
+
+abbrev pub store_faults : (earlier : List Declaration) → Declaration → List CheckFault
+store_faults earlier (Store at name) = fault_unless (not (declares_store earlier name.text)) name.at DeclaredTwice
+store_faults earlier (Table at name columns) = []
+store_faults earlier (Function at name parameters body) = []
+store_faults earlier (Page at path body) = []
+
+abbrev pub table_faults : (earlier : List Declaration) → Declaration → List CheckFault
+table_faults earlier (Store at name) = []
+table_faults earlier (Table at name columns) = fault_unless (not (is_some (table_from 0 name.text earlier))) name.at DeclaredTwice ++ declared_in_turn [] columns
+table_faults earlier (Function at name parameters body) = []
+table_faults earlier (Page at path body) = []
+
+abbrev pub function_faults : (earlier : List Declaration) → Declaration → List CheckFault
+function_faults earlier (Store at name) = []
+function_faults earlier (Table at name columns) = []
+function_faults earlier (Function at name parameters body) = fault_unless (not (names_function earlier name.text)) name.at DeclaredTwice
+function_faults earlier (Page at path body) = []
+
+abbrev pub page_faults : (earlier : List Declaration) → Declaration → List CheckFault
+page_faults earlier (Store at name) = []
+page_faults earlier (Table at name columns) = []
+page_faults earlier (Function at name parameters body) = []
+page_faults earlier (Page at path body) = fault_unless (not (is_some (page_from 0 path.text earlier))) path.at PageTwice
+
+-- the parameters and the bodies
+abbrev pub body_faults : (program earlier : List Declaration) → Declaration → List CheckFault
+body_faults program earlier (Store at name) = []
+body_faults program earlier (Table at name columns) = []
+body_faults program earlier (Function at name parameters body) = declared_in_turn [] parameters ++ block_faults program (with_names [] parameters) body
+body_faults program earlier (Page at path body) = block_faults program [] body

@@ -24,6 +24,9 @@ taken {A} xs i x h e = take_more xs i x h ∙ ap (λ y. take i xs ++ y ∷ []) (
 pub then_rest : (l m : Option CheckFault) (fs gs : List CheckFault) → m ≡ lower l fs → lower m gs ≡ lower l (fs ++ gs)
 then_rest l m fs gs e = ap (λ n. lower n gs) e ∙ sym (lower_append l fs gs)
 
+pub then_next : (l m n : Option CheckFault) (fs gs : List CheckFault) → m ≡ lower l fs → n ≡ lower m gs → n ≡ lower l (fs ++ gs)
+then_next l m n fs gs p q = q ∙ then_rest l m fs gs p
+
 -- one declaration more
 pub one_on : (faults : List Declaration → Declaration → List CheckFault) (ds : List Declaration) (i : ℕ) (d : Declaration) (l m : Option CheckFault) → i < length ds → d ≡ get_or ds i d → m ≡ lower l (faults (take i ds) d)
     → lower m (in_turn faults (take (i + 1) ds) (drop (i + 1) ds)) ≡ lower l (in_turn faults (take i ds) (drop i ds))

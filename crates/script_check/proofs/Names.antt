@@ -1,5 +1,5 @@
 -- Facts on names, and on sets of them.
-use Rattle.std.proofs.Common.{◌≡◌, ℕ, suc, ◌<◌, ◌+◌, ◌-◌, List, [], ◌∷◌, ◌++◌, length, drop, Bool, true, false, cond, not, ◌||◌, ◌&&◌, refl, sym, ap, ◌∙◌, arith}
+use Rattle.std.proofs.Common.{◌≡◌, ℕ, suc, ◌<◌, ◌+◌, ◌-◌, List, [], ◌∷◌, ◌++◌, length, drop, Bool, true, false, cond, not, ◌||◌, ◌&&◌, if◌then◌else◌, refl, sym, ap, ◌∙◌, arith}
 use Rattle.std.specs.BTreeSet as sorted
 use Rattle.std.specs.BTreeSet.{BTreeSet}
 use Rattle.std.specs.Cmp.Lexicographic.{slice_cmp}
@@ -9,7 +9,8 @@ use Rattle.std.specs.Str.{bytes_eq}
 use Rattle.std.proofs.lemmas.Map.Text.{is_eq-slice_cmp}
 use Rattle.std.proofs.lemmas.Slice.Eq.{bytes_eq-Decides}
 use denote.Ref.{Bor}
-use Rattle.script_check.specs.Validity.{has, with_name}
+use Rattle.script_tree.specs.declared.syntax.name.Name.{Name}
+use Rattle.script_check.specs.Validity.{has, texts, with_name, with_names}
 use Rattle.script_check.specs.Scopes.{holds, newest_first, AreApart}
 
 same_bool : (a b : Bool) → (a ≡ true → b ≡ true) → (b ≡ true → a ≡ true) → a ≡ b
@@ -64,7 +65,6 @@ pub names_length : (older : List (List ℕ)) (xs : List (Bor (List ℕ))) → le
 names_length older [] = omega arith
 names_length older (x ∷ xs) = omega (arith, names_length (x.now ∷ older) xs)
 
-
 pub with_new : (known : List (List ℕ)) (x : List ℕ) → has known x ≡ false → with_name known x ≡ x ∷ known
 with_new known x e = rw e refl
 
@@ -99,3 +99,33 @@ forget_one [] n h = absurd (omega arith)
 forget_one (x ∷ xs) n h =
     let e : suc (length xs) - n ≡ suc (length xs - n) = omega arith in
     sym (ap (λ k. drop k (x ∷ xs)) e)
+
+-- ---- names one after another
+
+with_has : (known : List (List ℕ)) (name x : List ℕ) (b : Bool) → has known name ≡ b → has (if b then known else name ∷ known) x ≡ (bytes_eq x name || has known x)
+with_has known name x true e = there_already (bytes_eq x name) (has known x) (λ p. ap (has known) (bytes_same x name p) ∙ e)
+  where
+    there_already : (b c : Bool) → (b ≡ true → c ≡ true) → c ≡ (b || c)
+    there_already true c f = f refl
+    there_already false c f = refl
+with_has known name x false e = refl
+
+pub with_name_has : (known : List (List ℕ)) (name x : List ℕ) → has (with_name known name) x ≡ (bytes_eq x name || has known x)
+with_name_has known name x = with_has known name x (has known name) refl
+
+or_turn : (a b c : Bool) → ((a || b) || c) ≡ (b || (a || c))
+or_turn true true c = refl
+or_turn true false c = refl
+or_turn false true c = refl
+or_turn false false c = refl
+
+pub with_names_has : (known : List (List ℕ)) (names : List Name) (x : List ℕ) → has (with_names known names) x ≡ (has known x || has (texts names) x)
+with_names_has known [] x = or_none (has known x)
+  where
+    or_none : (a : Bool) → a ≡ (a || false)
+    or_none true = refl
+    or_none false = refl
+with_names_has known (name ∷ names) x =
+    with_names_has (with_name known name.text) names x
+    ∙ ap (λ b. b || has (texts names) x) (with_name_has known name.text x)
+    ∙ or_turn (bytes_eq x name.text) (has known x) (has (texts names) x)

@@ -4,7 +4,7 @@ use Rattle.script_tree.specs.Declarations.{table_from, page_from}
 use Rattle.script_tree.specs.Fit.{declares_store}
 use Rattle.script_tree.specs.declared.syntax.declaration.Declaration.{Declaration}
 use Rattle.script_tree.specs.declared.syntax.declaration.Declaration.TheVariants.{Store, Table, Function, Page}
-use Rattle.script_check.specs.Validity.{fault_unless, declared_in_turn, names_function, with_names, block_faults}
+use Rattle.script_check.specs.Validity.{fault_unless, declared_in_turn, names_function, in_turn, with_names, block_faults}
 use Rattle.script_check.specs.declared.fault.CheckFault.{CheckFault}
 use Rattle.script_check.specs.declared.fault.CheckFaultKind.TheVariants.{DeclaredTwice, PageTwice}
 
@@ -38,3 +38,24 @@ body_faults program earlier (Store at name) = []
 body_faults program earlier (Table at name columns) = []
 body_faults program earlier (Function at name parameters body) = declared_in_turn [] parameters ++ block_faults program (with_names [] parameters) body
 body_faults program earlier (Page at path body) = block_faults program [] body
+
+-- ---- the passes over all declarations
+
+abbrev pub store_pass : List Declaration → List CheckFault
+store_pass ds = in_turn store_faults [] ds
+
+abbrev pub table_pass : List Declaration → List CheckFault
+table_pass ds = in_turn table_faults [] ds
+
+abbrev pub function_pass : List Declaration → List CheckFault
+function_pass ds = in_turn function_faults [] ds
+
+abbrev pub page_pass : List Declaration → List CheckFault
+page_pass ds = in_turn page_faults [] ds
+
+abbrev pub body_pass : List Declaration → List CheckFault
+body_pass ds = in_turn (body_faults ds) [] ds
+
+-- what is found while the index is made
+abbrev pub index_faults : List Declaration → List CheckFault
+index_faults ds = store_pass ds ++ table_pass ds ++ function_pass ds

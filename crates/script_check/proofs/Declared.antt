@@ -9,7 +9,7 @@ use Rattle.std.specs.BTreeSet.{BTreeSet}
 use Rattle.std.specs.Str.{bytes_eq}
 use denote.Ref.{Bor}
 use Rattle.basis.specs.Lists.{or_else}
-use Rattle.script_tree.specs.Declarations.{table_from, function_from, DeclaredFunction, NumberedTable}
+use Rattle.script_tree.specs.Declarations.{NumberedPage, page_from, table_from, function_from, DeclaredFunction, NumberedTable}
 use Rattle.script_tree.specs.Fit.{declares_store}
 use Rattle.script_tree.specs.Syntax.{Statement}
 use Rattle.script_tree.specs.declared.syntax.declaration.Declaration.{Declaration}
@@ -17,7 +17,7 @@ use Rattle.script_tree.specs.declared.syntax.declaration.Declaration.TheVariants
 use Rattle.script_tree.specs.declared.syntax.name.Name.{Name}
 use Rattle.script_check.specs.Validity.{columns_in}
 use Rattle.script_check.specs.Scopes.{holds}
-use Rattle.script_check.specs.Indexes.{at_text, parameters_in, TellsStores, TellsTables, TellsFunctions, Puts}
+use Rattle.script_check.specs.Indexes.{at_text, parameters_in, TellsStores, TellsTables, TellsFunctions, TellsPages, Puts}
 use Rattle.script_check.specs.Passes.{store_faults, table_faults, function_faults}
 use Rattle.script_check.proofs.Names.{by_text, key, is_name, bytes_same, set_grows}
 
@@ -214,3 +214,57 @@ has_table ds tables x told = ap is_some (told x) ∙ mapped (λ (t : NumberedTab
 
 pub has_function : (ds : List Declaration) (functions : BTreeMap (Bor (List ℕ)) ℕ) (x : List ℕ) → TellsFunctions ds functions → is_some (at_text functions x) ≡ is_some (function_from x ds)
 has_function ds functions x told = ap is_some (told x) ∙ mapped (λ (f : DeclaredFunction). length f.parameters) (function_from x ds)
+
+-- ---- pages
+
+if_page : (b : Bool) (o p : Option NumberedPage) (n : ℕ) (body : List Statement) (last : Bool) → is_some o ≡ (is_some p || last)
+    → is_some (if b then Some (record { number = n; body = body }) else o) ≡ (is_some (if b then Some (record { number = n; body = body }) else p) || last)
+if_page true o p n body last e = refl
+if_page false o p n body last e = e
+
+some_if : {A : Type 0} (b : Bool) (x y : A) → is_some (if b then Some x else None) ≡ is_some (if b then Some y else None)
+some_if true x y = refl
+some_if false x y = refl
+
+page_number : (d : Declaration) (n : ℕ) (x : List ℕ) → is_some (page_from n x (d ∷ [])) ≡ is_some (page_from 0 x (d ∷ []))
+page_number (Store at name) n x = refl
+page_number (Table at name columns) n x = refl
+page_number (Function at name parameters body) n x = refl
+page_number (Page at path body) n x = some_if (bytes_eq x path.text) (record { number = n; body = body }) (record { number = 0; body = body })
+
+page_snoc : (ds : List Declaration) (d : Declaration) (n : ℕ) (x : List ℕ) → is_some (page_from n x (ds ++ d ∷ [])) ≡ (is_some (page_from n x ds) || is_some (page_from 0 x (d ∷ [])))
+page_snoc [] d n x = page_number d n x
+page_snoc (Store at name ∷ ds) d n x = page_snoc ds d n x
+page_snoc (Table at name columns ∷ ds) d n x = page_snoc ds d n x
+page_snoc (Function at name parameters body ∷ ds) d n x = page_snoc ds d n x
+page_snoc (Page at path body ∷ ds) d n x = if_page (bytes_eq x path.text) (page_from (n + 1) x (ds ++ d ∷ [])) (page_from (n + 1) x ds) n body (is_some (page_from 0 x (d ∷ []))) (page_snoc ds d (n + 1) x)
+
+abbrev numbered : List Statement → NumberedPage
+numbered body = record { number = 0; body = body }
+
+some_page : (b a : Bool) (body : List Statement) → (b || a) ≡ (a || is_some (if b then Some (numbered body) else None))
+some_page true true body = refl
+some_page true false body = refl
+some_page false true body = refl
+some_page false false body = refl
+
+pub page_more : (ds : List Declaration) (d : Declaration) (at : ℕ) (path : Name) (body : List Statement) (text : Bor (List ℕ)) (s n : BTreeSet (Bor (List ℕ))) → d ≡ Page at path body → text.now ≡ path.text → TellsPages ds s → sorted.UpdatesBy by_text (by_text text) s n true → TellsPages (ds ++ d ∷ []) n
+page_more ds d at path body text s n is same told u x =
+    set_grows s n text u x
+    ∙ ap (λ t. bytes_eq x t || holds s x) same
+    ∙ ap (λ b. bytes_eq x path.text || b) (told x)
+    ∙ some_page (bytes_eq x path.text) (is_some (page_from 0 x ds)) body
+    ∙ sym (page_snoc ds (Page at path body) 0 x)
+    ∙ ap (λ e. is_some (page_from 0 x (ds ++ e ∷ []))) (sym is)
+
+pub page_same : (ds : List Declaration) (d : Declaration) (s : BTreeSet (Bor (List ℕ))) → ((at : ℕ) (path : Name) (body : List Statement) → d ≡ Page at path body → ⊥) → TellsPages ds s → TellsPages (ds ++ d ∷ []) s
+page_same ds (Store at name) s differs told x = told x ∙ or_none (is_some (page_from 0 x ds)) ∙ sym (page_snoc ds (Store at name) 0 x)
+page_same ds (Table at name columns) s differs told x = told x ∙ or_none (is_some (page_from 0 x ds)) ∙ sym (page_snoc ds (Table at name columns) 0 x)
+page_same ds (Function at name parameters body) s differs told x = told x ∙ or_none (is_some (page_from 0 x ds)) ∙ sym (page_snoc ds (Function at name parameters body) 0 x)
+page_same ds (Page at path body) s differs told x = absurd (differs at path body refl)
+
+pub no_page : (earlier : List Declaration) (d : Declaration) → ((at : ℕ) (path : Name) (body : List Statement) → d ≡ Page at path body → ⊥) → page_faults earlier d ≡ []
+no_page earlier (Store at name) differs = refl
+no_page earlier (Table at name columns) differs = refl
+no_page earlier (Function at name parameters body) differs = refl
+no_page earlier (Page at path body) differs = absurd (differs at path body refl)

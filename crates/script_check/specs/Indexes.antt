@@ -1,5 +1,5 @@
 -- What a program declares, as the code keeps it.
-use Rattle.std.specs.Prelude.{◌≡◌, ℕ, List, length, Option, Some, None, option_map, if◌then◌else◌}
+use Rattle.std.specs.Prelude.{◌≡◌, ℕ, List, length, Option, Some, None, option_map, is_some, if◌then◌else◌}
 use Rattle.std.specs.BTreeMap.{BTreeMap, get_by}
 use Rattle.std.specs.BTreeSet.{BTreeSet}
 use Rattle.std.specs.Cmp.Lexicographic.{slice_cmp}
@@ -7,7 +7,7 @@ use Rattle.std.specs.Ordering.{nat_cmp}
 use Rattle.std.specs.Str.{bytes_eq}
 use denote.Ref.{Bor}
 use Rattle.basis.specs.Lists.{or_else}
-use Rattle.script_tree.specs.Declarations.{function_from}
+use Rattle.script_tree.specs.Declarations.{function_from, page_from}
 use Rattle.script_tree.specs.Fit.{declares_store}
 use Rattle.script_tree.specs.declared.syntax.declaration.Declaration.{Declaration}
 use Rattle.script_tree.specs.declared.syntax.name.Name.{Name}
@@ -31,6 +31,9 @@ TellsTables ds tables = (x : List ℕ) → at_text tables x ≡ columns_in ds x
 
 abbrev pub TellsFunctions : List Declaration → BTreeMap (Bor (List ℕ)) ℕ → Type 0
 TellsFunctions ds functions = (x : List ℕ) → at_text functions x ≡ parameters_in ds x
+
+abbrev pub TellsPages : List Declaration → BTreeSet (Bor (List ℕ)) → Type 0
+TellsPages ds pages = (x : List ℕ) → holds pages x ≡ is_some (page_from 0 x ds)
 
 -- Afterwards the map has this at the name too, where it had nothing.
 abbrev pub Puts : {A : Type 0} → List ℕ → A → BTreeMap (Bor (List ℕ)) A → BTreeMap (Bor (List ℕ)) A → Type 0

@@ -38,6 +38,11 @@ pub record IsLeastFault (tree : List Declaration) (fault : CheckFault) : Type 0 
   pub there : Contains (faults_of tree) fault
   pub least : (other : CheckFault) → Contains (faults_of tree) other → IsNotAbove fault other
 
+-- the least fault, and none of a valid tree
+abbrev pub IsLeast : List Declaration → Option CheckFault → Type 0
+IsLeast tree None = IsValid tree
+IsLeast tree (Some fault) = IsLeastFault tree fault
+
 -- The program of a valid tree; the least fault of another.
 abbrev pub IsChecked : List Declaration → Result Program (OrMemory CheckFault) → Type 0
 IsChecked tree result = UnlessMemory (λ program. (program.declarations ≡ tree) × IsValid tree) (IsLeastFault tree) result

@@ -4,5 +4,6 @@ pub mod IndexView
 pub mod Indexes
 pub mod Least
 pub mod Passes
+pub mod Members
 pub mod Scopes
 pub mod Validity

@@ -32,12 +32,12 @@ page_faults earlier (Table at name columns) = []
 page_faults earlier (Function at name parameters body) = []
 page_faults earlier (Page at path body) = fault_unless (not (is_some (page_from 0 path.text earlier))) path.at PageTwice
 
--- the parameters and the bodies
-abbrev pub body_faults : (program earlier : List Declaration) → Declaration → List CheckFault
-body_faults program earlier (Store at name) = []
-body_faults program earlier (Table at name columns) = []
-body_faults program earlier (Function at name parameters body) = declared_in_turn [] parameters ++ block_faults program (with_names [] parameters) body
-body_faults program earlier (Page at path body) = block_faults program [] body
+-- the parameters and the body
+abbrev pub body_faults : (program : List Declaration) → Declaration → List CheckFault
+body_faults program (Store at name) = []
+body_faults program (Table at name columns) = []
+body_faults program (Function at name parameters body) = declared_in_turn [] parameters ++ block_faults program (with_names [] parameters) body
+body_faults program (Page at path body) = block_faults program [] body
 
 -- ---- the passes over all declarations
 
@@ -53,8 +53,8 @@ function_pass ds = in_turn function_faults [] ds
 abbrev pub page_pass : List Declaration → List CheckFault
 page_pass ds = in_turn page_faults [] ds
 
-abbrev pub body_pass : List Declaration → List CheckFault
-body_pass ds = in_turn (body_faults ds) [] ds
+abbrev pub bodies_faults : (program : List Declaration) → List Declaration → List CheckFault
+bodies_faults program ds = in_turn (λ earlier. body_faults program) [] ds
 
 -- what is found while the index is made
 abbrev pub index_faults : List Declaration → List CheckFault

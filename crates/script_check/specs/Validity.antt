@@ -61,6 +61,10 @@ call_faults at count (Some b) own = fault_unless (count == arity_of b) at WrongC
 call_faults at count None (Some f) = fault_unless (count == length f.parameters) at WrongCount
 call_faults at count None None = fault at Undeclared
 
+-- the same, where the function has this name
+abbrev pub called_faults : ℕ → ℕ → Option Builtin → List ℕ → List Declaration → List CheckFault
+called_faults at count builtin f ds = call_faults at count builtin (function_from f ds)
+
 -- whether the first argument is to be the bare name of a store
 abbrev pub names_store : Option Builtin → Bool
 names_store None = false

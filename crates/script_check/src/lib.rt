@@ -2,7 +2,11 @@
 #![tactic(auto)]
 
 mod columns;
+mod declaration;
 pub mod fault;
 mod found;
+mod expression;
 mod index;
+mod query;
 mod scope;
+mod statement;

@@ -18,7 +18,7 @@ use Rattle.script_tree.specs.declared.syntax.name.Name.{Name}
 use Rattle.script_check.specs.Validity.{columns_in}
 use Rattle.script_check.specs.Scopes.{holds}
 use Rattle.script_check.specs.Indexes.{at_text, parameters_in, TellsStores, TellsTables, TellsFunctions, TellsPages, Puts}
-use Rattle.script_check.specs.Passes.{store_faults, table_faults, function_faults}
+use Rattle.script_check.specs.Passes.{store_faults, table_faults, function_faults, page_faults}
 use Rattle.script_check.proofs.Names.{by_text, key, is_name, bytes_same, set_grows}
 
 -- ---- stores

@@ -1,13 +1,13 @@
 -- The passes over the declarations find what is wrong with each of them.
-use Rattle.std.proofs.Common.{◌≡◌, List, [], ◌∷◌, ◌++◌, Option, refl, sym, ap, ◌∙◌}
+use Rattle.std.proofs.Common.{◌≡◌, List, [], ◌∷◌, ◌++◌, Option, Some, None, refl, sym, ap, ◌∙◌}
 use Rattle.script_tree.specs.declared.syntax.declaration.Declaration.{Declaration}
 use Rattle.script_tree.specs.declared.syntax.declaration.Declaration.TheVariants.{Store, Table, Function, Page}
-use Rattle.script_check.specs.Least.{lower}
+use Rattle.script_check.specs.Least.{lower, IsLeast}
 use Rattle.script_check.specs.Passes.{store_faults, table_faults, function_faults, page_faults, body_faults, store_pass, table_pass, function_pass, page_pass, bodies_faults, index_faults}
 use Rattle.script_check.specs.Validity.{fault_unless, declared_in_turn, block_faults, with_names, names_function, declaration_faults, in_turn, faults_of}
 use Rattle.script_check.specs.declared.fault.CheckFault.{CheckFault}
 use Rattle.script_check.specs.declared.fault.CheckFaultKind.TheVariants.{DeclaredTwice}
-use Rattle.script_check.proofs.Least.{lower_append, lower_swap}
+use Rattle.script_check.proofs.Least.{lower_append, lower_swap, lowered_none, lowered_some}
 
 abbrev Faults : Type 0
 Faults = List Declaration → Declaration → List CheckFault
@@ -70,3 +70,7 @@ all_passes ds l a b c p q r =
     ∙ ap (λ k. lower (lower k (page_pass ds)) (bodies_faults ds ds)) (sym (in_two first_three first_two function_faults (pairs first_two function_faults) l [] ds))
     ∙ ap (λ k. lower k (bodies_faults ds ds)) (sym (in_two first_four first_three page_faults (pairs first_three page_faults) l [] ds))
     ∙ sym (in_two (declaration_faults ds) first_four (λ earlier. body_faults ds) (declared ds) l [] ds)
+
+pub is_least : (ds : List Declaration) (found : Option CheckFault) → found ≡ lower None (faults_of ds) → IsLeast ds found
+is_least ds None e = lowered_none (faults_of ds) (sym e)
+is_least ds (Some f) e = let least = lowered_some (faults_of ds) f (sym e) in record { there = least.0; least = least.1 }

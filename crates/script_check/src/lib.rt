@@ -2,11 +2,13 @@
 #![tactic(auto)]
 
 mod columns;
+pub mod counts;
 mod declaration;
+mod expression;
 pub mod fault;
 mod found;
-mod expression;
 mod index;
+pub mod program;
 mod query;
 mod scope;
 mod statement;

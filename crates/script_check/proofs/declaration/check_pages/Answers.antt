@@ -1,4 +1,4 @@
-use Rattle.std.proofs.Common.{◌≡◌, ◌+◌, take, sym, ap, ◌∙◌, subst, not}
+use Rattle.std.proofs.Common.{◌≡◌, ◌+◌, take, sym, ap, ◌∙◌, subst, not, is_some}
 use Rattle.script_tree.specs.Declarations.{page_from}
 use Rattle.script_check.specs.Least.{lower}
 use Rattle.script_check.specs.Indexes.{TellsPages}

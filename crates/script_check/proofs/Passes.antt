@@ -4,9 +4,8 @@ use Rattle.script_tree.specs.declared.syntax.declaration.Declaration.{Declaratio
 use Rattle.script_tree.specs.declared.syntax.declaration.Declaration.TheVariants.{Store, Table, Function, Page}
 use Rattle.script_check.specs.Least.{lower, IsLeast}
 use Rattle.script_check.specs.Passes.{store_faults, table_faults, function_faults, page_faults, body_faults, store_pass, table_pass, function_pass, page_pass, bodies_faults, index_faults}
-use Rattle.script_check.specs.Validity.{fault_unless, declared_in_turn, block_faults, with_names, names_function, declaration_faults, in_turn, faults_of}
+use Rattle.script_check.specs.Validity.{declared_in_turn, block_faults, with_names, declaration_faults, in_turn, faults_of}
 use Rattle.script_check.specs.declared.fault.CheckFault.{CheckFault}
-use Rattle.script_check.specs.declared.fault.CheckFaultKind.TheVariants.{DeclaredTwice}
 use Rattle.script_check.proofs.Least.{lower_append, lower_swap, lowered_none, lowered_some}
 
 abbrev Faults : Type 0

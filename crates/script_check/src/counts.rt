@@ -15,10 +15,19 @@ pub struct Counts {
 pub(crate) fn counts_of(declarations: &[Declaration]) -> Counts
     ensures { result ≡ counts_of declarations.now }
 {
-    Counts {
-        pages: declarations.iter().filter(|d| matches!(d, Declaration::Page { .. })).count(),
-        functions: declarations.iter().filter(|d| matches!(d, Declaration::Function { .. })).count(),
-        stores: declarations.iter().filter(|d| matches!(d, Declaration::Store { .. })).count(),
-        tables: declarations.iter().filter(|d| matches!(d, Declaration::Table { .. })).count(),
+    let mut counts = Counts {
+        pages: 0,
+        functions: 0,
+        stores: 0,
+        tables: 0,
+    };
+    for declaration in declarations {
+        match declaration {
+            Declaration::Store { .. } => counts.stores += 1,
+            Declaration::Table { .. } => counts.tables += 1,
+            Declaration::Function { .. } => counts.functions += 1,
+            Declaration::Page { .. } => counts.pages += 1,
+        }
     }
+    counts
 }

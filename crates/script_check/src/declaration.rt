@@ -80,8 +80,6 @@ fn check_body(
             scope.declare_all(parameters.as_slice(), found)?;
             check_block(index, &mut scope, body.as_slice(), found)
         }
-        Declaration::Page { body, .. } => {
-            check_block(index, &mut scope, body.as_slice(), found)
-        }
+        Declaration::Page { body, .. } => { check_block(index, &mut scope, body.as_slice(), found) }
     }
 }

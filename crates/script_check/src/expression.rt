@@ -72,13 +72,7 @@ pub(crate) fn check_expression(
 }
 
 #[cycle(expression)]
-fn check_node(
-    index: &Index,
-    scope: &Scope,
-    at: usize,
-    node: &ExpressionNode,
-    found: &mut Found,
-)
+fn check_node(index: &Index, scope: &Scope, at: usize, node: &ExpressionNode, found: &mut Found)
     ensures { Finds (expression_faults index.now scope.now (expression_of at node.now)) found.old found.new }
 {
     match node {
@@ -133,7 +127,13 @@ fn check_call(
 {
     let builtin = Builtin::named(name.as_bytes());
     check_count(index, at, name.as_bytes(), builtin, arguments.len(), found);
-    check_arguments(index, scope, takes_store(builtin), arguments.as_slice(), found);
+    check_arguments(
+        index,
+        scope,
+        takes_store(builtin),
+        arguments.as_slice(),
+        found,
+    );
 }
 
 #[cycle(expression)]

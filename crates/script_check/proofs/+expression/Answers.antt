@@ -1,11 +1,11 @@
-use Rattle.std.proofs.Common.{◌≡◌, ◌<◌, ◌-◌, ◌++◌, length, take, drop, refl, sym, ap, ◌∙◌, arith}
+use Rattle.std.proofs.Common.{◌-◌, length, take, drop, refl, sym, ap, ◌∙◌, arith}
 use Rattle.std.specs.Option.{option_copied}
 use Rattle.script_tree.specs.Builtins.{builtin_of}
 use Rattle.script_check.specs.Least.{lower}
 use Rattle.script_check.specs.Members.{faults_of_expressions, faults_of_arguments, faults_of_queries, faults_of_conditions, faults_of_assignments}
-use Rattle.script_check.specs.Validity.{store_faults, called_faults, names_store, expression_faults, query_faults, column_faults, set_faults, row_faults, table_faults, columns_in}
+use Rattle.script_check.specs.Validity.{store_faults, expression_faults, query_faults, column_faults, set_faults, columns_in}
 use Rattle.script_check.proofs.Lists.{next_of_loop, end_of_loop, then_next}
-use Rattle.script_check.proofs.Trees.{store_and_others, call_found, row_found, faults_of_condition, faults_of_assignment, conditions_step, assignments_step, how_many_of, lighter_expression, lighter_query, lighter_condition, lighter_assignment}
+use Rattle.script_check.proofs.Trees.{store_and_others, call_found, row_found, faults_of_condition, faults_of_assignment, conditions_step, assignments_step, lighter_expression, lighter_query, lighter_condition, lighter_assignment}
 use Rattle.script_check.proofs.+expression.Goals as goal
 
 pub expression::check_arguments-returns-in-len1-up : goal.expression::check_arguments-returns-in-len1-up

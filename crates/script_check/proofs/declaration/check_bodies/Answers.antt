@@ -1,4 +1,4 @@
-use Rattle.std.proofs.Common.{[], ◌∙◌}
+use Rattle.std.proofs.Common.{◌∙◌}
 use Rattle.script_check.specs.Passes.{body_faults}
 use Rattle.script_check.proofs.Lists.{one_on, all_on}
 use Rattle.script_check.proofs.declaration.check_bodies.Goals as goal

@@ -1,4 +1,4 @@
-use Rattle.std.proofs.Common.{◌≡◌, [], take, drop}
+use Rattle.std.proofs.Common.{◌≡◌, take, drop}
 use Rattle.script_check.specs.Least.{lower}
 use Rattle.script_check.specs.Validity.{in_turn}
 use Rattle.script_check.specs.Passes.{body_faults, bodies_faults}

@@ -1,6 +1,5 @@
-use Rattle.std.proofs.Common.{refl, ◌+◌, drop, sym, ap, ◌∙◌}
+use Rattle.std.proofs.Common.{refl, ◌∙◌}
 use Rattle.std.specs.Option.{option_copied}
-use Rattle.script_check.specs.Least.{lower}
 use Rattle.script_check.specs.Validity.{column_faults, columns_faults}
 use Rattle.script_check.proofs.Lists.{next_of_loop, end_of_loop}
 use Rattle.script_check.proofs.query.check_columns.Goals as goal

@@ -1,8 +1,8 @@
-use Rattle.std.proofs.Common.{◌≡◌, ◌<◌, ◌-◌, ◌++◌, length, drop, refl, sym, ap, ◌∙◌, arith}
+use Rattle.std.proofs.Common.{◌-◌, ◌++◌, length, drop, sym, ap, ◌∙◌, arith}
 use Rattle.script_check.specs.Least.{lower}
 use Rattle.script_check.specs.Validity.{declared_where, with_name, expression_faults, block_faults}
 use Rattle.script_check.proofs.Lists.{then_next, then_before}
-use Rattle.script_check.proofs.Blocks.{grows_then, after_grows, with_name_grows, left_again, lighter_statement, block_next, block_end, grows_same}
+use Rattle.script_check.proofs.Blocks.{grows_then, after_grows, left_again, lighter_statement, block_next, block_end}
 use Rattle.script_check.proofs.statement.+statement.Goals as goal
 
 pub check_block-loop-statement-preserved : goal.check_block-loop-statement-preserved

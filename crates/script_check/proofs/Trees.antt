@@ -1,5 +1,5 @@
 -- Facts on the lists of a tree.
-use Rattle.std.proofs.Common.{◌≡◌, ℕ, zero, suc, ◌<◌, ◌≤◌, ◌-◌, List, [], ◌∷◌, ◌++◌, length, take, drop, get_or, map, Bool, true, Option, refl, sym, ap, ◌∙◌, arith, take_all}
+use Rattle.std.proofs.Common.{◌≡◌, ℕ, zero, suc, ◌<◌, ◌≤◌, ◌-◌, List, [], ◌∷◌, ◌++◌, length, take, drop, get_or, map, true, Option, refl, sym, ap, ◌∙◌, arith, take_all}
 use Rattle.std.specs.Option.{option_copied}
 use denote.Ref.{Bor}
 use Rattle.script_tree.specs.declared.syntax.name.Name.{Name}
@@ -12,10 +12,10 @@ use Rattle.script_tree.specs.SyntaxLists.{expressions_of, queries_of, conditions
 use Rattle.script_tree.specs.declared.syntax.declaration.Declaration.{Declaration}
 use Rattle.script_tree.specs.declared.syntax.expression.Condition.{Condition}
 use Rattle.script_tree.specs.declared.syntax.expression.Assignment.{Assignment}
-use Rattle.script_check.specs.Validity.{how_many, called_faults, names_store, store_faults, columns_in, table_faults, row_faults, column_faults, set_faults, expression_faults, query_faults}
+use Rattle.script_check.specs.Validity.{how_many, called_faults, arguments_faults, store_faults, columns_in, table_faults, row_faults, column_faults, set_faults, expression_faults, query_faults}
 use Rattle.script_check.specs.Least.{lower}
 use Rattle.script_check.proofs.Lists.{then_next}
-use Rattle.script_check.specs.Members.{faults_of_arguments, faults_of_expressions, faults_of_conditions, faults_of_assignments}
+use Rattle.script_check.specs.Members.{in_arguments, in_expressions, in_tests, in_sets}
 use Rattle.script_check.specs.declared.fault.CheckFault.{CheckFault}
 
 pub how_many_of : (es : List Expression) → how_many (expressions_of es) ≡ length es
@@ -49,13 +49,13 @@ lighter_assignment (f ∷ sets) (suc i) a h q = omega (arith, lighter_assignment
 abbrev pub faults_of_condition : List Declaration → List (List ℕ) → Option (Bor (List Name)) → Condition → List CheckFault
 faults_of_condition ds known table c = column_faults (option_copied table) c.column ++ expression_faults ds known c.value
 
-pub conditions_step : (ds : List Declaration) (known : List (List ℕ)) (table : Option (Bor (List Name))) (c : Condition) (cs : List Condition) → faults_of_conditions ds known table (c ∷ cs) ≡ faults_of_condition ds known table c ++ faults_of_conditions ds known table cs
+pub conditions_step : (ds : List Declaration) (known : List (List ℕ)) (table : Option (Bor (List Name))) (c : Condition) (cs : List Condition) → in_tests ds known table (c ∷ cs) ≡ faults_of_condition ds known table c ++ in_tests ds known table cs
 conditions_step ds known table c cs = refl
 
 abbrev pub faults_of_assignment : List Declaration → List (List ℕ) → Option (Bor (List Name)) → Assignment → List CheckFault
 faults_of_assignment ds known table a = set_faults (option_copied table) a.column ++ expression_faults ds known a.value
 
-pub assignments_step : (ds : List Declaration) (known : List (List ℕ)) (table : Option (Bor (List Name))) (a : Assignment) (sets : List Assignment) → faults_of_assignments ds known table (a ∷ sets) ≡ faults_of_assignment ds known table a ++ faults_of_assignments ds known table sets
+pub assignments_step : (ds : List Declaration) (known : List (List ℕ)) (table : Option (Bor (List Name))) (a : Assignment) (sets : List Assignment) → in_sets ds known table (a ∷ sets) ≡ faults_of_assignment ds known table a ++ in_sets ds known table sets
 assignments_step ds known table a sets = refl
 
 -- ---- calls and rows
@@ -64,33 +64,33 @@ others : {A : Type 0} (xs : List A) → take (suc (length xs) - 1) xs ≡ xs
 others xs = let e : suc (length xs) - 1 ≡ length xs = omega arith in rw e (take_all (length xs) xs (omega arith))
 
 pub store_and_others : (ds : List Declaration) (known : List (List ℕ)) (es : List Expression) (store : Expression) → 1 ≤ length es → store ≡ get_or es 0 store
-    → store_faults ds store ++ faults_of_expressions ds known (take (length es - 1) (drop 1 es)) ≡ faults_of_arguments ds known true es
+    → store_faults ds store ++ in_expressions ds known (take (length es - 1) (drop 1 es)) ≡ arguments_faults ds known true (expressions_of es)
 store_and_others ds known [] store h e = absurd (omega arith)
 store_and_others ds known (x ∷ es) store h e =
-    ap (λ s. store_faults ds s ++ faults_of_expressions ds known (take (suc (length es) - 1) es)) e
-    ∙ ap (λ ys. store_faults ds x ++ faults_of_expressions ds known ys) (others es)
+    ap (λ s. store_faults ds s ++ in_expressions ds known (take (suc (length es) - 1) es)) e
+    ∙ ap (λ ys. store_faults ds x ++ in_expressions ds known ys) (others es)
 
-pub call_found : (ds : List Declaration) (known : List (List ℕ)) (at : ℕ) (f : List ℕ) (es : List Expression) (l m n : Option CheckFault) (b : Option Builtin) (count : ℕ) (name : List ℕ) (store : Bool) (arguments : List Expression)
-    → count ≡ length es → b ≡ builtin_of f → name ≡ f → store ≡ names_store b → arguments ≡ es
-    → m ≡ lower l (called_faults at count b name ds) → n ≡ lower m (faults_of_arguments ds known store arguments) → n ≡ lower l (expression_faults ds known (call at f (expressions_of es)))
-call_found ds known at f es l m n b count name store arguments many built named takes same p q =
-    then_next l m n (called_faults at (how_many (expressions_of es)) (builtin_of f) f ds) (faults_of_arguments ds known (names_store (builtin_of f)) es)
+pub call_found : (ds : List Declaration) (known : List (List ℕ)) (at : ℕ) (f : List ℕ) (es : List Expression) (l m n : Option CheckFault) (b : Option Builtin) (count : ℕ) (name : List ℕ) (arguments : List Expression)
+    → count ≡ length es → b ≡ builtin_of f → name ≡ f → arguments ≡ es
+    → m ≡ lower l (called_faults at count b name ds) → n ≡ lower m (in_arguments ds known b arguments) → n ≡ lower l (expression_faults ds known (call at f (expressions_of es)))
+call_found ds known at f es l m n b count name arguments many built named same p q =
+    then_next l m n (called_faults at (how_many (expressions_of es)) (builtin_of f) f ds) (in_arguments ds known (builtin_of f) es)
     (p
     ∙ ap (λ k. lower l (called_faults at k b name ds)) (many ∙ sym (how_many_of es))
     ∙ ap (λ o. lower l (called_faults at (how_many (expressions_of es)) o name ds)) built
     ∙ ap (λ x. lower l (called_faults at (how_many (expressions_of es)) (builtin_of f) x ds)) named)
     (q
-    ∙ ap (λ s. lower m (faults_of_arguments ds known s arguments)) (takes ∙ ap names_store built)
-    ∙ ap (λ xs. lower m (faults_of_arguments ds known (names_store (builtin_of f)) xs)) same)
+    ∙ ap (λ o. lower m (in_arguments ds known o arguments)) built
+    ∙ ap (λ xs. lower m (in_arguments ds known (builtin_of f) xs)) same)
 
 pub row_found : (ds : List Declaration) (known : List (List ℕ)) (at : ℕ) (t : Name) (es : List Expression) (l m n o : Option CheckFault) (table : Option (List Name)) (count : ℕ) (values : List Expression)
     → table ≡ columns_in ds t.text → count ≡ length es → values ≡ es
-    → m ≡ lower l (table_faults table t) → n ≡ lower m (row_faults table t count) → o ≡ lower n (faults_of_expressions ds known values) → o ≡ lower l (query_faults ds known (insert at t (expressions_of es)))
+    → m ≡ lower l (table_faults table t) → n ≡ lower m (row_faults table t count) → o ≡ lower n (in_expressions ds known values) → o ≡ lower l (query_faults ds known (insert at t (expressions_of es)))
 row_found ds known at t es l m n o table count values is many same p q r =
     let columns = columns_in ds t.text in
     let width = how_many (expressions_of es) in
-    then_next l n o (table_faults columns t ++ row_faults columns t width) (faults_of_expressions ds known es)
+    then_next l n o (table_faults columns t ++ row_faults columns t width) (in_expressions ds known es)
     (then_next l m n (table_faults columns t) (row_faults columns t width)
     (p ∙ ap (λ c. lower l (table_faults c t)) is)
     (q ∙ ap (λ c. lower m (row_faults c t count)) is ∙ ap (λ k. lower m (row_faults columns t k)) (many ∙ sym (how_many_of es))))
-    (r ∙ ap (λ xs. lower n (faults_of_expressions ds known xs)) same)
+    (r ∙ ap (λ xs. lower n (in_expressions ds known xs)) same)

@@ -1,5 +1,5 @@
 -- What a function of the checker found.
-use Rattle.std.specs.Prelude.{◌≡◌, ◌++◌, ◌||◌, ℕ, List, [], not, is_some}
+use Rattle.std.specs.Prelude.{◌≡◌, ◌++◌, ◌||◌, ℕ, List, [], not, is_some, Result, OnOk}
 use Rattle.std.specs.BTreeMap.{BTreeMap}
 use denote.Ref.{Bor}
 use Rattle.script_tree.specs.Builtins.{builtin_of}
@@ -14,6 +14,10 @@ use Rattle.script_check.specs.declared.found.Found.{Found}
 -- Afterwards it is the least of these faults and of the one before.
 abbrev pub Finds : List CheckFault → Found → Found → Type 0
 Finds faults before after = after.least ≡ lower before.least faults
+
+-- the same of a call that may run out of memory, where it didn't
+abbrev pub Notes : {A E : Type 0} → Result A E → List CheckFault → Found → Found → Type 0
+Notes result faults before after = OnOk result (Finds faults before after)
 
 -- the same of a table that is declared where the map has those before it
 abbrev pub FindsTable : Name → List Name → BTreeMap (Bor (List ℕ)) (List Name) → Found → Found → Type 0

@@ -1,6 +1,6 @@
-ghost use Rattle.std.specs.Prelude.{◌≡◌, [], length, IfOk, OnOk};
+ghost use Rattle.std.specs.Prelude.{◌≡◌, [], length, IfOk};
 ghost use Rattle.script_check.specs.Validity.{declared_in_turn, has, is_key, texts};
-ghost use Rattle.script_check.specs.Finds.{Finds};
+ghost use Rattle.script_check.specs.Finds.{Notes};
 
 use crate::found::Found;
 use crate::scope::Scope;
@@ -39,7 +39,7 @@ impl<'a> Columns<'a> {
         found: &mut Found,
     ) -> Result<Columns<'a>, AllocError>
         ensures columns { IfOk result (λ columns. columns ≡ names.now) }
-        ensures faults { OnOk result (Finds (declared_in_turn [] names.now) found.old found.new) }
+        ensures faults { Notes result (declared_in_turn [] names.now) found.old found.new }
     {
         let mut known = Scope::new(alloc);
         known.declare_all(names, found)?;

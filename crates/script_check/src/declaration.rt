@@ -1,7 +1,7 @@
 #![tactic(auto, using(crate::proofs::Least::lower_append, crate::proofs::Least::lower_none))]
 
-ghost use Rattle.std.specs.Prelude.{IfOk, OnOk};
-ghost use Rattle.script_check.specs.Finds.{Finds};
+ghost use Rattle.std.specs.Prelude.{IfOk};
+ghost use Rattle.script_check.specs.Finds.{Notes};
 ghost use Rattle.script_check.specs.Least.{IsLeast};
 ghost use Rattle.script_check.specs.Passes.{page_pass, bodies_faults, body_faults};
 
@@ -34,7 +34,7 @@ fn check_pages(
     declarations: &[Declaration],
     found: &mut Found,
 ) -> Result<(), AllocError>
-    ensures { OnOk result (Finds (page_pass declarations.now) found.old found.new) }
+    ensures { Notes result (page_pass declarations.now) found.old found.new }
 {
     let mut pages = BTreeSet::new(alloc);
     for declaration in declarations {
@@ -53,7 +53,7 @@ fn check_bodies(
     declarations: &[Declaration],
     found: &mut Found,
 ) -> Result<(), AllocError>
-    ensures { OnOk result (Finds (bodies_faults index.now declarations.now) found.old found.new) }
+    ensures { Notes result (bodies_faults index.now declarations.now) found.old found.new }
 {
     for declaration in declarations {
         check_body(alloc, index, declaration, found)?;
@@ -67,7 +67,7 @@ fn check_body(
     declaration: &Declaration,
     found: &mut Found,
 ) -> Result<(), AllocError>
-    ensures { OnOk result (Finds (body_faults index.now declaration.now) found.old found.new) }
+    ensures { Notes result (body_faults index.now declaration.now) found.old found.new }
 {
     let mut scope = Scope::new(alloc);
     match declaration {

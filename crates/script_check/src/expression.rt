@@ -1,12 +1,8 @@
 #![tactic(auto, using(crate::proofs::Least::lower_append, crate::proofs::Least::lower_none))]
 
 ghost use Rattle.std.specs.Prelude.{◌≡◌};
-ghost use Rattle.script_tree.specs.Declarations.{function_from};
-ghost use Rattle.script_tree.specs.ExpressionView.{expression_of};
-ghost use Rattle.script_tree.specs.Syntax.{call};
-ghost use Rattle.script_tree.specs.SyntaxLists.{expressions_of};
 ghost use Rattle.script_check.specs.Finds.{Finds};
-ghost use Rattle.script_check.specs.Members.{faults_of_expressions, faults_of_arguments};
+ghost use Rattle.script_check.specs.Members.{in_node, in_call, in_arguments, in_expressions};
 ghost use Rattle.script_check.specs.Validity.{called_faults, names_store};
 ghost use Rattle.script_check.specs.Validity.{store_faults, expression_faults};
 
@@ -59,6 +55,7 @@ fn check_store(index: &Index, argument: &Expression, found: &mut Found)
     }
 }
 
+/// An expression, where these variables are known.
 #[cycle(expression)]
 pub(crate) fn check_expression(
     index: &Index,
@@ -73,7 +70,7 @@ pub(crate) fn check_expression(
 
 #[cycle(expression)]
 fn check_node(index: &Index, scope: &Scope, at: usize, node: &ExpressionNode, found: &mut Found)
-    ensures { Finds (expression_faults index.now scope.now (expression_of at node.now)) found.old found.new }
+    ensures { Finds (in_node index.now scope.now at node.now) found.old found.new }
 {
     match node {
         ExpressionNode::Number(_)
@@ -123,31 +120,25 @@ fn check_call(
     arguments: &Expressions,
     found: &mut Found,
 )
-    ensures { Finds (expression_faults index.now scope.now (call at name.now (expressions_of arguments.now))) found.old found.new }
+    ensures { Finds (in_call index.now scope.now at name.now arguments.now) found.old found.new }
 {
     let builtin = Builtin::named(name.as_bytes());
     check_count(index, at, name.as_bytes(), builtin, arguments.len(), found);
-    check_arguments(
-        index,
-        scope,
-        takes_store(builtin),
-        arguments.as_slice(),
-        found,
-    );
+    check_arguments(index, scope, builtin, arguments.as_slice(), found);
 }
 
 #[cycle(expression)]
 fn check_arguments(
     index: &Index,
     scope: &Scope,
-    takes_store: bool,
+    builtin: Option<Builtin>,
     arguments: &[Expression],
     found: &mut Found,
 )
-    ensures { Finds (faults_of_arguments index.now scope.now takes_store arguments.now) found.old found.new }
+    ensures { Finds (in_arguments index.now scope.now builtin arguments.now) found.old found.new }
 {
     match arguments {
-        [store, others @ ..] if takes_store => {
+        [store, others @ ..] if takes_store(builtin) => {
             check_store(index, store, found);
             check_expressions(index, scope, others, found);
         }
@@ -163,7 +154,7 @@ pub(crate) fn check_expressions(
     expressions: &[Expression],
     found: &mut Found,
 )
-    ensures { Finds (faults_of_expressions index.now scope.now expressions.now) found.old found.new }
+    ensures { Finds (in_expressions index.now scope.now expressions.now) found.old found.new }
 {
     for expression in expressions {
         check_expression(index, scope, expression, found);

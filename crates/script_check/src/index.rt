@@ -2,7 +2,7 @@ ghost use Rattle.std.specs.Prelude.{◌≡◌, [], IfOk, OnOk};
 ghost use Rattle.std.specs.Option.{option_copied};
 ghost use Rattle.script_tree.specs.Fit.{declares_store};
 ghost use Rattle.script_check.specs.Validity.{columns_in};
-ghost use Rattle.script_check.specs.Finds.{Finds, FindsTable, FindsFunction};
+ghost use Rattle.script_check.specs.Finds.{Notes, FindsTable, FindsFunction};
 ghost use Rattle.script_check.specs.Indexes.{parameters_in, TellsStores, TellsTables};
 ghost use Rattle.script_check.specs.Indexes.{TellsFunctions, Puts};
 ghost use Rattle.script_check.specs.Passes.{index_faults, store_pass, table_pass, function_pass};
@@ -45,7 +45,7 @@ impl<'a> Model for Index<'a> {
 }
 
 impl<'a> Index<'a> {
-    /// What these declare. Of two of one name the first counts, and the second is noted, and so is a
+    /// What these declare. Of two of one name the first counts, and the second is noted. So is a
     /// function with the name of a built-in one.
     pub(crate) fn new(
         alloc: Global,
@@ -53,7 +53,7 @@ impl<'a> Index<'a> {
         found: &mut Found,
     ) -> Result<Index<'a>, AllocError>
         ensures index { IfOk result (λ index. index ≡ declarations.now) }
-        ensures faults { OnOk result (Finds (index_faults declarations.now) found.old found.new) }
+        ensures faults { Notes result (index_faults declarations.now) found.old found.new }
     {
         Ok(Index {
             declarations,
@@ -92,7 +92,7 @@ fn stores<'a>(
     found: &mut Found,
 ) -> Result<BTreeSet<&'a [u8]>, AllocError>
     ensures stores { IfOk result (TellsStores declarations.now) }
-    ensures faults { OnOk result (Finds (store_pass declarations.now) found.old found.new) }
+    ensures faults { Notes result (store_pass declarations.now) found.old found.new }
 {
     let mut stores = BTreeSet::new(alloc);
     for declaration in declarations {
@@ -111,7 +111,7 @@ fn tables<'a>(
     found: &mut Found,
 ) -> Result<BTreeMap<&'a [u8], Columns<'a>>, AllocError>
     ensures tables { IfOk result (TellsTables declarations.now) }
-    ensures faults { OnOk result (Finds (table_pass declarations.now) found.old found.new) }
+    ensures faults { Notes result (table_pass declarations.now) found.old found.new }
 {
     let mut tables = BTreeMap::new(alloc);
     for declaration in declarations {
@@ -149,7 +149,7 @@ fn functions<'a>(
     found: &mut Found,
 ) -> Result<BTreeMap<&'a [u8], usize>, AllocError>
     ensures functions { IfOk result (TellsFunctions declarations.now) }
-    ensures faults { OnOk result (Finds (function_pass declarations.now) found.old found.new) }
+    ensures faults { Notes result (function_pass declarations.now) found.old found.new }
 {
     let mut functions = BTreeMap::new(alloc);
     for declaration in declarations {

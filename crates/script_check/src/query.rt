@@ -1,10 +1,8 @@
 #![tactic(auto, using(crate::proofs::Least::lower_append, crate::proofs::Least::lower_none))]
 
 ghost use Rattle.std.specs.Option.{option_copied};
-ghost use Rattle.script_tree.specs.ExpressionView.{query_of};
 ghost use Rattle.script_check.specs.Finds.{Finds};
-ghost use Rattle.script_check.specs.Members.{faults_of_queries, faults_of_conditions};
-ghost use Rattle.script_check.specs.Members.{faults_of_assignments};
+ghost use Rattle.script_check.specs.Members.{in_query_node, in_queries, in_tests, in_sets};
 ghost use Rattle.script_check.specs.Validity.{table_faults, row_faults, column_faults};
 ghost use Rattle.script_check.specs.Validity.{columns_faults, set_faults};
 ghost use Rattle.script_check.specs.Validity.{query_faults};
@@ -68,7 +66,7 @@ fn check_query(index: &Index, scope: &Scope, query: &Query, found: &mut Found)
 
 #[cycle(expression)]
 fn check_query_node(index: &Index, scope: &Scope, at: usize, node: &QueryNode, found: &mut Found)
-    ensures { Finds (query_faults index.now scope.now (query_of at node.now)) found.old found.new }
+    ensures { Finds (in_query_node index.now scope.now at node.now) found.old found.new }
 {
     match node {
         QueryNode::Insert(name, values) => {
@@ -81,24 +79,24 @@ fn check_query_node(index: &Index, scope: &Scope, at: usize, node: &QueryNode, f
             let table = index.table(name.text.as_bytes());
             check_columns(table, columns.as_slice(), found);
             check_table(table, name, found);
-            check_conditions(index, scope, table, conditions.as_slice(), found);
+            check_tests(index, scope, table, conditions.as_slice(), found);
         }
         QueryNode::Update(name, assignments, conditions) => {
             let table = index.table(name.text.as_bytes());
             check_table(table, name, found);
-            check_assignments(index, scope, table, assignments.as_slice(), found);
-            check_conditions(index, scope, table, conditions.as_slice(), found);
+            check_sets(index, scope, table, assignments.as_slice(), found);
+            check_tests(index, scope, table, conditions.as_slice(), found);
         }
         QueryNode::Delete(name, conditions) => {
             let table = index.table(name.text.as_bytes());
             check_table(table, name, found);
-            check_conditions(index, scope, table, conditions.as_slice(), found);
+            check_tests(index, scope, table, conditions.as_slice(), found);
         }
         QueryNode::Expect(count, name, conditions) => {
             let table = index.table(name.text.as_bytes());
             check_expression(index, scope, count, found);
             check_table(table, name, found);
-            check_conditions(index, scope, table, conditions.as_slice(), found);
+            check_tests(index, scope, table, conditions.as_slice(), found);
         }
     }
 }
@@ -106,7 +104,7 @@ fn check_query_node(index: &Index, scope: &Scope, at: usize, node: &QueryNode, f
 /// The statements of a transaction.
 #[cycle(expression)]
 pub(crate) fn check_queries(index: &Index, scope: &Scope, queries: &[Query], found: &mut Found)
-    ensures { Finds (faults_of_queries index.now scope.now queries.now) found.old found.new }
+    ensures { Finds (in_queries index.now scope.now queries.now) found.old found.new }
 {
     for query in queries {
         check_query(index, scope, query, found);
@@ -114,33 +112,33 @@ pub(crate) fn check_queries(index: &Index, scope: &Scope, queries: &[Query], fou
 }
 
 #[cycle(expression)]
-fn check_conditions(
+fn check_tests(
     index: &Index,
     scope: &Scope,
     table: Option<&Columns>,
-    conditions: &[Condition],
+    tests: &[Condition],
     found: &mut Found,
 )
-    ensures { Finds (faults_of_conditions index.now scope.now table.entry conditions.now) found.old found.new }
+    ensures { Finds (in_tests index.now scope.now table.entry tests.now) found.old found.new }
 {
-    for condition in conditions {
-        check_column(table, &condition.column, found);
-        check_expression(index, scope, &condition.value, found);
+    for test in tests {
+        check_column(table, &test.column, found);
+        check_expression(index, scope, &test.value, found);
     }
 }
 
 #[cycle(expression)]
-fn check_assignments(
+fn check_sets(
     index: &Index,
     scope: &Scope,
     table: Option<&Columns>,
-    assignments: &[Assignment],
+    sets: &[Assignment],
     found: &mut Found,
 )
-    ensures { Finds (faults_of_assignments index.now scope.now table.entry assignments.now) found.old found.new }
+    ensures { Finds (in_sets index.now scope.now table.entry sets.now) found.old found.new }
 {
-    for assignment in assignments {
-        check_set(table, &assignment.column, found);
-        check_expression(index, scope, &assignment.value, found);
+    for set in sets {
+        check_set(table, &set.column, found);
+        check_expression(index, scope, &set.value, found);
     }
 }

@@ -1,7 +1,7 @@
 ghost use Rattle.std.specs.Prelude.{◌≡◌, ◌-◌, [], length, drop, not, IfOk, OnOk};
 ghost use Rattle.script_check.specs.Validity.{has, with_name, with_names};
 ghost use Rattle.script_check.specs.Validity.{declared_where, declared_in_turn};
-ghost use Rattle.script_check.specs.Finds.{Finds};
+ghost use Rattle.script_check.specs.Finds.{Notes};
 
 use crate::fault::CheckFaultKind;
 use crate::found::Found;
@@ -10,8 +10,8 @@ use std::alloc::{AllocError, Global};
 use std::collections::BTreeSet;
 use std::marker::Model;
 
-/// Names that were declared one after another: the variables that are known at a place, or the columns
-/// of a table. Contracts see them, the newest first, none of them twice.
+/// Names that were declared one after another: the variables that are known at a place, or the
+/// columns of a table. Contracts see them, the newest first, none of them twice.
 #[derive(Drop)]
 pub(crate) struct Scope<'a> {
     known: BTreeSet<&'a [u8]>,
@@ -60,7 +60,7 @@ impl<'a> Scope<'a> {
     /// Makes a name known, and notes a fault where it was known.
     pub(crate) fn declare(&mut self, name: &'a Name, found: &mut Found) -> Result<(), AllocError>
         ensures declared { OnOk result (self.new ≡ with_name self.old name.now.text) }
-        ensures faults { OnOk result (Finds (declared_where self.old name.now) found.old found.new) }
+        ensures faults { Notes result (declared_where self.old name.now) found.old found.new }
     {
         let was_new = self.add(name.text.as_bytes())?;
         found.unless(was_new, name.at, CheckFaultKind::DeclaredTwice);
@@ -74,7 +74,7 @@ impl<'a> Scope<'a> {
         found: &mut Found,
     ) -> Result<(), AllocError>
         ensures declared { OnOk result (self.new ≡ with_names self.old names.now) }
-        ensures faults { OnOk result (Finds (declared_in_turn self.old names.now) found.old found.new) }
+        ensures faults { Notes result (declared_in_turn self.old names.now) found.old found.new }
     {
         for name in names {
             self.declare(name, found)?;

@@ -1,10 +1,10 @@
 #![tactic(auto, using(crate::proofs::Least::lower_append, crate::proofs::Least::lower_none))]
 
 ghost use Rattle.std.specs.Prelude.{◌≡◌, OnOk};
-ghost use Rattle.script_tree.specs.StatementView.{statement_of, else_of};
-ghost use Rattle.script_check.specs.Finds.{Finds};
-ghost use Rattle.script_check.specs.Validity.{statement_faults, else_faults, block_faults};
-ghost use Rattle.script_check.specs.Validity.{known_after};
+ghost use Rattle.script_tree.specs.StatementView.{statement_of};
+ghost use Rattle.script_check.specs.Finds.{Notes};
+ghost use Rattle.script_check.specs.Members.{in_statement, in_statement_node, in_else};
+ghost use Rattle.script_check.specs.Validity.{block_faults, known_after};
 
 use crate::expression::check_expression;
 use crate::fault::CheckFaultKind;
@@ -23,7 +23,7 @@ pub(crate) fn check_block<'a>(
     found: &mut Found,
 ) -> Result<(), AllocError>
     ensures known { OnOk result (scope.new ≡ scope.old) }
-    ensures faults { OnOk result (Finds (block_faults index.now scope.old block.now) found.old found.new) }
+    ensures ok { Notes result (block_faults index.now scope.old block.now) found.old found.new }
 {
     let known = scope.len();
     for statement in block {
@@ -41,7 +41,7 @@ fn check_statement<'a>(
     found: &mut Found,
 ) -> Result<(), AllocError>
     ensures known { OnOk result (scope.new ≡ known_after scope.old statement.now) }
-    ensures faults { OnOk result (Finds (statement_faults index.now scope.old statement.now) found.old found.new) }
+    ensures ok { Notes result (in_statement index.now scope.old statement.now) found.old found.new }
 {
     check_statement_node(index, scope, statement.at, &statement.node, found)
 }
@@ -55,7 +55,7 @@ fn check_statement_node<'a>(
     found: &mut Found,
 ) -> Result<(), AllocError>
     ensures known { OnOk result (scope.new ≡ known_after scope.old (statement_of at node.now)) }
-    ensures faults { OnOk result (Finds (statement_faults index.now scope.old (statement_of at node.now)) found.old found.new) }
+    ensures ok { Notes result (in_statement_node index.now scope.old at node.now) found.old found.new }
 {
     match node {
         StatementNode::Let(name, value) => {
@@ -104,7 +104,7 @@ fn check_else<'a>(
     found: &mut Found,
 ) -> Result<(), AllocError>
     ensures known { OnOk result (scope.new ≡ scope.old) }
-    ensures faults { OnOk result (Finds (else_faults index.now scope.old (else_of otherwise.now)) found.old found.new) }
+    ensures ok { Notes result (in_else index.now scope.old otherwise.now) found.old found.new }
 {
     match otherwise {
         Else::None => Ok(()),

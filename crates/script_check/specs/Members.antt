@@ -46,8 +46,9 @@ in_sets ds known table sets = assignments_faults ds known (option_copied table) 
 abbrev pub in_statement : List Declaration → List (List ℕ) → Statement → List CheckFault
 in_statement ds known s = statement_faults ds known s
 
-abbrev pub in_statement_node : List Declaration → List (List ℕ) → (at : ℕ) → StatementNode → List CheckFault
-in_statement_node ds known at node = statement_faults ds known (statement_of at node)
+-- a statement of this kind at a place
+abbrev pub in_kind : List Declaration → List (List ℕ) → (at : ℕ) → StatementNode → List CheckFault
+in_kind ds known at node = statement_faults ds known (statement_of at node)
 
 abbrev pub in_else : List Declaration → List (List ℕ) → Else → List CheckFault
 in_else ds known other = else_faults ds known (else_of other)

@@ -12,3 +12,5 @@ pub mod program;
 mod query;
 mod scope;
 mod statement;
+#[cfg(test)]
+mod tests;

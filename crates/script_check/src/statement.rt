@@ -3,7 +3,7 @@
 ghost use Rattle.std.specs.Prelude.{◌≡◌, OnOk};
 ghost use Rattle.script_tree.specs.StatementView.{statement_of};
 ghost use Rattle.script_check.specs.Finds.{Notes};
-ghost use Rattle.script_check.specs.Members.{in_statement, in_statement_node, in_else};
+ghost use Rattle.script_check.specs.Members.{in_statement, in_kind, in_else};
 ghost use Rattle.script_check.specs.Validity.{block_faults, known_after};
 
 use crate::expression::check_expression;
@@ -55,7 +55,7 @@ fn check_statement_node<'a>(
     found: &mut Found,
 ) -> Result<(), AllocError>
     ensures known { OnOk result (scope.new ≡ known_after scope.old (statement_of at node.now)) }
-    ensures ok { Notes result (in_statement_node index.now scope.old at node.now) found.old found.new }
+    ensures ok { Notes result (in_kind index.now scope.old at node.now) found.old found.new }
 {
     match node {
         StatementNode::Let(name, value) => {
@@ -80,10 +80,10 @@ fn check_statement_node<'a>(
         }
         StatementNode::For(name, list, body) => {
             check_expression(index, scope, list, found);
-            let known = scope.len();
+            let outside = scope.len();
             scope.declare(name, found)?;
             check_block(index, scope, body.as_slice(), found)?;
-            scope.leave(known);
+            scope.leave(outside);
             Ok(())
         }
         StatementNode::Echo(value)

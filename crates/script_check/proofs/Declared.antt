@@ -18,7 +18,7 @@ use Rattle.script_tree.specs.declared.syntax.name.Name.{Name}
 use Rattle.script_check.specs.Validity.{columns_in}
 use Rattle.script_check.specs.Scopes.{holds}
 use Rattle.script_check.specs.Indexes.{at_text, parameters_in, TellsStores, TellsTables, TellsFunctions, TellsPages, Puts}
-use Rattle.script_check.specs.Passes.{store_faults, table_faults, function_faults, page_faults}
+use Rattle.script_check.specs.Passes.{store_twice, table_twice, function_twice, page_twice}
 use Rattle.script_check.proofs.Names.{by_text, key, is_name, bytes_same, set_grows}
 
 -- ---- stores
@@ -59,7 +59,7 @@ store_same ds (Table at name columns) s differs told x = told x ∙ or_none (dec
 store_same ds (Function at name parameters body) s differs told x = told x ∙ or_none (declares_store ds x) ∙ sym (store_snoc ds (Function at name parameters body) x)
 store_same ds (Page at path body) s differs told x = told x ∙ or_none (declares_store ds x) ∙ sym (store_snoc ds (Page at path body) x)
 
-pub no_store : (earlier : List Declaration) (d : Declaration) → ((at : ℕ) (name : Name) → d ≡ Store at name → ⊥) → store_faults earlier d ≡ []
+pub no_store : (earlier : List Declaration) (d : Declaration) → ((at : ℕ) (name : Name) → d ≡ Store at name → ⊥) → store_twice earlier d ≡ []
 no_store earlier (Store at name) differs = absurd (differs at name refl)
 no_store earlier (Table at name columns) differs = refl
 no_store earlier (Function at name parameters body) differs = refl
@@ -120,7 +120,7 @@ table_same ds (Table at name columns) s differs told x = absurd (differs at name
 table_same ds (Function at name parameters body) s differs told x = told x ∙ or_else_none (columns_in ds x) ∙ sym (table_snoc ds (Function at name parameters body) 0 x)
 table_same ds (Page at path body) s differs told x = told x ∙ or_else_none (columns_in ds x) ∙ sym (table_snoc ds (Page at path body) 0 x)
 
-pub no_table : (earlier : List Declaration) (d : Declaration) → ((at : ℕ) (name : Name) (columns : List Name) → d ≡ Table at name columns → ⊥) → table_faults earlier d ≡ []
+pub no_table : (earlier : List Declaration) (d : Declaration) → ((at : ℕ) (name : Name) (columns : List Name) → d ≡ Table at name columns → ⊥) → table_twice earlier d ≡ []
 no_table earlier (Store at name) differs = refl
 no_table earlier (Table at name columns) differs = absurd (differs at name columns refl)
 no_table earlier (Function at name parameters body) differs = refl
@@ -164,7 +164,7 @@ function_same ds (Table at name columns) s differs told x = told x ∙ or_else_n
 function_same ds (Function at name parameters body) s differs told x = absurd (differs at name parameters body refl)
 function_same ds (Page at path body) s differs told x = told x ∙ or_else_none (parameters_in ds x) ∙ sym (function_snoc ds (Page at path body) x)
 
-pub no_function : (earlier : List Declaration) (d : Declaration) → ((at : ℕ) (name : Name) (parameters : List Name) (body : List Statement) → d ≡ Function at name parameters body → ⊥) → function_faults earlier d ≡ []
+pub no_function : (earlier : List Declaration) (d : Declaration) → ((at : ℕ) (name : Name) (parameters : List Name) (body : List Statement) → d ≡ Function at name parameters body → ⊥) → function_twice earlier d ≡ []
 no_function earlier (Store at name) differs = refl
 no_function earlier (Table at name columns) differs = refl
 no_function earlier (Function at name parameters body) differs = absurd (differs at name parameters body refl)
@@ -263,7 +263,7 @@ page_same ds (Table at name columns) s differs told x = told x ∙ or_none (is_s
 page_same ds (Function at name parameters body) s differs told x = told x ∙ or_none (is_some (page_from 0 x ds)) ∙ sym (page_snoc ds (Function at name parameters body) 0 x)
 page_same ds (Page at path body) s differs told x = absurd (differs at path body refl)
 
-pub no_page : (earlier : List Declaration) (d : Declaration) → ((at : ℕ) (path : Name) (body : List Statement) → d ≡ Page at path body → ⊥) → page_faults earlier d ≡ []
+pub no_page : (earlier : List Declaration) (d : Declaration) → ((at : ℕ) (path : Name) (body : List Statement) → d ≡ Page at path body → ⊥) → page_twice earlier d ≡ []
 no_page earlier (Store at name) differs = refl
 no_page earlier (Table at name columns) differs = refl
 no_page earlier (Function at name parameters body) differs = refl

@@ -8,29 +8,30 @@ use Rattle.script_check.specs.Validity.{fault_unless, declared_in_turn, names_fu
 use Rattle.script_check.specs.declared.fault.CheckFault.{CheckFault}
 use Rattle.script_check.specs.declared.fault.CheckFaultKind.TheVariants.{DeclaredTwice, PageTwice}
 
-abbrev pub store_faults : (earlier : List Declaration) → Declaration → List CheckFault
-store_faults earlier (Store at name) = fault_unless (not (declares_store earlier name.text)) name.at DeclaredTwice
-store_faults earlier (Table at name columns) = []
-store_faults earlier (Function at name parameters body) = []
-store_faults earlier (Page at path body) = []
+abbrev pub store_twice : (earlier : List Declaration) → Declaration → List CheckFault
+store_twice earlier (Store at name) = fault_unless (not (declares_store earlier name.text)) name.at DeclaredTwice
+store_twice earlier (Table at name columns) = []
+store_twice earlier (Function at name parameters body) = []
+store_twice earlier (Page at path body) = []
 
-abbrev pub table_faults : (earlier : List Declaration) → Declaration → List CheckFault
-table_faults earlier (Store at name) = []
-table_faults earlier (Table at name columns) = fault_unless (not (is_some (table_from 0 name.text earlier))) name.at DeclaredTwice ++ declared_in_turn [] columns
-table_faults earlier (Function at name parameters body) = []
-table_faults earlier (Page at path body) = []
+-- and its columns
+abbrev pub table_twice : (earlier : List Declaration) → Declaration → List CheckFault
+table_twice earlier (Store at name) = []
+table_twice earlier (Table at name columns) = fault_unless (not (is_some (table_from 0 name.text earlier))) name.at DeclaredTwice ++ declared_in_turn [] columns
+table_twice earlier (Function at name parameters body) = []
+table_twice earlier (Page at path body) = []
 
-abbrev pub function_faults : (earlier : List Declaration) → Declaration → List CheckFault
-function_faults earlier (Store at name) = []
-function_faults earlier (Table at name columns) = []
-function_faults earlier (Function at name parameters body) = fault_unless (not (names_function earlier name.text)) name.at DeclaredTwice
-function_faults earlier (Page at path body) = []
+abbrev pub function_twice : (earlier : List Declaration) → Declaration → List CheckFault
+function_twice earlier (Store at name) = []
+function_twice earlier (Table at name columns) = []
+function_twice earlier (Function at name parameters body) = fault_unless (not (names_function earlier name.text)) name.at DeclaredTwice
+function_twice earlier (Page at path body) = []
 
-abbrev pub page_faults : (earlier : List Declaration) → Declaration → List CheckFault
-page_faults earlier (Store at name) = []
-page_faults earlier (Table at name columns) = []
-page_faults earlier (Function at name parameters body) = []
-page_faults earlier (Page at path body) = fault_unless (not (is_some (page_from 0 path.text earlier))) path.at PageTwice
+abbrev pub page_twice : (earlier : List Declaration) → Declaration → List CheckFault
+page_twice earlier (Store at name) = []
+page_twice earlier (Table at name columns) = []
+page_twice earlier (Function at name parameters body) = []
+page_twice earlier (Page at path body) = fault_unless (not (is_some (page_from 0 path.text earlier))) path.at PageTwice
 
 -- the parameters and the body
 abbrev pub body_faults : (program : List Declaration) → Declaration → List CheckFault
@@ -42,16 +43,16 @@ body_faults program (Page at path body) = block_faults program [] body
 -- ---- the passes over all declarations
 
 abbrev pub store_pass : List Declaration → List CheckFault
-store_pass ds = in_turn store_faults [] ds
+store_pass ds = in_turn store_twice [] ds
 
 abbrev pub table_pass : List Declaration → List CheckFault
-table_pass ds = in_turn table_faults [] ds
+table_pass ds = in_turn table_twice [] ds
 
 abbrev pub function_pass : List Declaration → List CheckFault
-function_pass ds = in_turn function_faults [] ds
+function_pass ds = in_turn function_twice [] ds
 
 abbrev pub page_pass : List Declaration → List CheckFault
-page_pass ds = in_turn page_faults [] ds
+page_pass ds = in_turn page_twice [] ds
 
 abbrev pub bodies_faults : (program : List Declaration) → List Declaration → List CheckFault
 bodies_faults program ds = in_turn (λ earlier. body_faults program) [] ds

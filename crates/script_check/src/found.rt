@@ -31,8 +31,8 @@ impl Found {
         }
     }
 
-    #[tactic(auto, unfolding(crate::specs::Least::lower))]
     /// Notes the fault, but where that holds.
+    #[tactic(auto, unfolding(crate::specs::Least::lower))]
     pub(crate) fn unless(&mut self, holds: bool, at: usize, kind: CheckFaultKind)
         ensures { Finds (fault_unless holds at kind) self.old self.new }
     {

@@ -1,2 +1,11 @@
+pub mod ColumnsView
+pub mod Counts
+pub mod Finds
+pub mod IndexView
+pub mod Indexes
 pub mod Least
+pub mod Members
+pub mod Passes
+pub mod ProgramView
+pub mod Scopes
 pub mod Validity

@@ -1,9 +1,10 @@
 -- When a tree is a program: docs/language.md, "Check" and "Scope". Each part of the tree has these faults, in the order of the text.
-use Rattle.std.specs.Prelude.{◌≡◌, ℕ, suc, ◌==◌, ◌&&◌, ◌||◌, List, [], ◌∷◌, ◌++◌, length, map, Bool, true, false, not, Option, Some, None, is_some}
+use Rattle.std.specs.Prelude.{◌≡◌, ℕ, suc, ◌==◌, ◌||◌, List, [], ◌∷◌, ◌++◌, length, Bool, true, false, not, Option, Some, None, is_some, option_map, if◌then◌else◌}
 use Rattle.std.specs.Str.{bytes_eq}
 use Rattle.script_tree.specs.Builtins.{builtin_of, takes_store, arity_of}
-use Rattle.script_tree.specs.Declarations.{NumberedTable, table_from, DeclaredFunction, function_from, NumberedPage, page_from}
+use Rattle.script_tree.specs.Declarations.{table_from, DeclaredFunction, function_from, page_from}
 use Rattle.script_tree.specs.Fit.{declares_store}
+use Rattle.script_tree.specs.SyntaxLists.{statements_of}
 use Rattle.script_tree.specs.SyntaxPlaces.{place_of}
 use Rattle.script_tree.specs.Syntax.{Expression, number, text, truth, null, bracket, variable, call, list, transact, unary, binary, and_, or_, index, Expressions, no_expression, expression, Query, insert, select, update, delete, expect, Queries, no_query, query, Conditions, no_condition, condition, Assignments, no_assignment, assignment, Statement, let_, set_, if_, while_, for_, echo, status, return, do_, Else, no_else, else_, Statements, no_statement, statement}
 use Rattle.script_tree.specs.declared.syntax.builtin.Builtin.{Builtin}
@@ -35,10 +36,18 @@ texts (x ∷ xs) = x.text ∷ texts xs
 abbrev pub declared_where : List (List ℕ) → Name → List CheckFault
 declared_where known x = fault_unless (not (has known x.text)) x.at DeclaredTwice
 
+-- these names and this one, none of them twice
+abbrev pub with_name : List (List ℕ) → List ℕ → List (List ℕ)
+with_name known x = if has known x then known else x ∷ known
+
+abbrev pub with_names : List (List ℕ) → List Name → List (List ℕ)
+with_names known [] = known
+with_names known (x ∷ xs) = with_names (with_name known x.text) xs
+
 -- names that are declared one after another
 abbrev pub declared_in_turn : List (List ℕ) → List Name → List CheckFault
 declared_in_turn known [] = []
-declared_in_turn known (x ∷ xs) = declared_where known x ++ declared_in_turn (x.text ∷ known) xs
+declared_in_turn known (x ∷ xs) = declared_where known x ++ declared_in_turn (with_name known x.text) xs
 
 -- ---- expressions, where the program's declarations are these and these variables are known
 
@@ -52,6 +61,10 @@ call_faults at count (Some b) own = fault_unless (count == arity_of b) at WrongC
 call_faults at count None (Some f) = fault_unless (count == length f.parameters) at WrongCount
 call_faults at count None None = fault at Undeclared
 
+-- the same, where the function has this name
+abbrev pub called_faults : ℕ → ℕ → Option Builtin → List ℕ → List Declaration → List CheckFault
+called_faults at count builtin f ds = call_faults at count builtin (function_from f ds)
+
 -- whether the first argument is to be the bare name of a store
 abbrev pub names_store : Option Builtin → Bool
 names_store None = false
@@ -61,35 +74,36 @@ abbrev pub store_faults : List Declaration → Expression → List CheckFault
 store_faults ds (variable at x) = fault_unless (declares_store ds x) at Unknown
 store_faults ds e = fault (place_of e) Unknown
 
-abbrev pub has_column : NumberedTable → List ℕ → Bool
-has_column t x = has (texts t.columns) x
+-- the columns of the table of a name, where it is declared
+abbrev pub columns_in : List Declaration → List ℕ → Option (List Name)
+columns_in ds t = option_map (λ table. table.columns) (table_from 0 t ds)
 
 abbrev pub is_key : List Name → List ℕ → Bool
 is_key [] x = false
 is_key (key ∷ columns) x = bytes_eq x key.text
 
 -- the table's name
-abbrev pub table_faults : Option NumberedTable → Name → List CheckFault
-table_faults table name = fault_unless (is_some table) name.at Unknown
+abbrev pub table_faults : Option (List Name) → Name → List CheckFault
+table_faults columns t = fault_unless (is_some columns) t.at Unknown
 
 -- a row of so many values; where the table is unknown, that is its only fault
-abbrev pub row_faults : Option NumberedTable → Name → ℕ → List CheckFault
-row_faults None name count = []
-row_faults (Some t) name count = fault_unless (count == length t.columns) name.at WrongCount
+abbrev pub row_faults : Option (List Name) → Name → ℕ → List CheckFault
+row_faults None t count = []
+row_faults (Some columns) t count = fault_unless (count == length columns) t.at WrongCount
 
 -- a column that is named; where the table is unknown, that is no fault
-abbrev pub column_faults : Option NumberedTable → Name → List CheckFault
+abbrev pub column_faults : Option (List Name) → Name → List CheckFault
 column_faults None x = []
-column_faults (Some t) x = fault_unless (has_column t x.text) x.at Unknown
+column_faults (Some columns) x = fault_unless (has (texts columns) x.text) x.at Unknown
 
-abbrev pub columns_faults : Option NumberedTable → List Name → List CheckFault
-columns_faults table [] = []
-columns_faults table (x ∷ xs) = column_faults table x ++ columns_faults table xs
+abbrev pub columns_faults : Option (List Name) → List Name → List CheckFault
+columns_faults columns [] = []
+columns_faults columns (x ∷ xs) = column_faults columns x ++ columns_faults columns xs
 
 -- a column that is set: the key isn't
-abbrev pub set_faults : Option NumberedTable → Name → List CheckFault
+abbrev pub set_faults : Option (List Name) → Name → List CheckFault
 set_faults None x = []
-set_faults (Some t) x = fault_unless (has_column t x.text) x.at Unknown ++ fault_unless (not (is_key t.columns x.text)) x.at KeyWritten
+set_faults (Some columns) x = fault_unless (has (texts columns) x.text) x.at Unknown ++ fault_unless (not (is_key columns x.text)) x.at KeyWritten
 
 abbrev mutual
   pub expression_faults : List Declaration → List (List ℕ) → Expression → List CheckFault
@@ -119,21 +133,21 @@ abbrev mutual
   arguments_faults ds known true (expression e es) = store_faults ds e ++ expressions_faults ds known es
 
   pub query_faults : List Declaration → List (List ℕ) → Query → List CheckFault
-  query_faults ds known (insert at t es) = let table = table_from 0 t.text ds in table_faults table t ++ row_faults table t (how_many es) ++ expressions_faults ds known es
-  query_faults ds known (select at columns t cs) = let table = table_from 0 t.text ds in columns_faults table columns ++ table_faults table t ++ conditions_faults ds known table cs
-  query_faults ds known (update at t sets cs) = let table = table_from 0 t.text ds in table_faults table t ++ assignments_faults ds known table sets ++ conditions_faults ds known table cs
-  query_faults ds known (delete at t cs) = let table = table_from 0 t.text ds in table_faults table t ++ conditions_faults ds known table cs
-  query_faults ds known (expect at e t cs) = let table = table_from 0 t.text ds in expression_faults ds known e ++ table_faults table t ++ conditions_faults ds known table cs
+  query_faults ds known (insert at t es) = let table = columns_in ds t.text in table_faults table t ++ row_faults table t (how_many es) ++ expressions_faults ds known es
+  query_faults ds known (select at columns t cs) = let table = columns_in ds t.text in columns_faults table columns ++ table_faults table t ++ conditions_faults ds known table cs
+  query_faults ds known (update at t sets cs) = let table = columns_in ds t.text in table_faults table t ++ assignments_faults ds known table sets ++ conditions_faults ds known table cs
+  query_faults ds known (delete at t cs) = let table = columns_in ds t.text in table_faults table t ++ conditions_faults ds known table cs
+  query_faults ds known (expect at e t cs) = let table = columns_in ds t.text in expression_faults ds known e ++ table_faults table t ++ conditions_faults ds known table cs
 
   pub queries_faults : List Declaration → List (List ℕ) → Queries → List CheckFault
   queries_faults ds known no_query = []
   queries_faults ds known (query q qs) = query_faults ds known q ++ queries_faults ds known qs
 
-  pub conditions_faults : List Declaration → List (List ℕ) → Option NumberedTable → Conditions → List CheckFault
+  pub conditions_faults : List Declaration → List (List ℕ) → Option (List Name) → Conditions → List CheckFault
   conditions_faults ds known table no_condition = []
   conditions_faults ds known table (condition x comparison e cs) = column_faults table x ++ expression_faults ds known e ++ conditions_faults ds known table cs
 
-  pub assignments_faults : List Declaration → List (List ℕ) → Option NumberedTable → Assignments → List CheckFault
+  pub assignments_faults : List Declaration → List (List ℕ) → Option (List Name) → Assignments → List CheckFault
   assignments_faults ds known table no_assignment = []
   assignments_faults ds known table (assignment x e sets) = set_faults table x ++ expression_faults ds known e ++ assignments_faults ds known table sets
 
@@ -141,7 +155,7 @@ abbrev mutual
 
 -- the variables that are known after a statement
 abbrev pub known_after : List (List ℕ) → Statement → List (List ℕ)
-known_after known (let_ at x e) = x.text ∷ known
+known_after known (let_ at x e) = with_name known x.text
 known_after known (set_ at x e) = known
 known_after known (if_ at e body other) = known
 known_after known (while_ at e body) = known
@@ -157,7 +171,7 @@ abbrev mutual
   statement_faults ds known (set_ at x e) = fault_unless (has known x.text) x.at Undeclared ++ expression_faults ds known e
   statement_faults ds known (if_ at e body other) = expression_faults ds known e ++ statements_faults ds known body ++ else_faults ds known other
   statement_faults ds known (while_ at e body) = expression_faults ds known e ++ statements_faults ds known body
-  statement_faults ds known (for_ at x e body) = declared_where known x ++ expression_faults ds known e ++ statements_faults ds (x.text ∷ known) body
+  statement_faults ds known (for_ at x e body) = declared_where known x ++ expression_faults ds known e ++ statements_faults ds (with_name known x.text) body
   statement_faults ds known (echo at e) = expression_faults ds known e
   statement_faults ds known (status at e) = expression_faults ds known e
   statement_faults ds known (return at e) = expression_faults ds known e
@@ -173,8 +187,7 @@ abbrev mutual
   statements_faults ds known (statement s ss) = statement_faults ds known s ++ statements_faults ds (known_after known s) ss
 
 abbrev pub block_faults : List Declaration → List (List ℕ) → List Statement → List CheckFault
-block_faults ds known [] = []
-block_faults ds known (s ∷ ss) = statement_faults ds known s ++ block_faults ds (known_after known s) ss
+block_faults ds known ss = statements_faults ds known (statements_of ss)
 
 -- ---- declarations, of which these stand before
 
@@ -184,15 +197,16 @@ names_function earlier f = is_some (builtin_of f) || is_some (function_from f ea
 abbrev pub declaration_faults : (program earlier : List Declaration) → Declaration → List CheckFault
 declaration_faults program earlier (Store at name) = fault_unless (not (declares_store earlier name.text)) name.at DeclaredTwice
 declaration_faults program earlier (Table at name columns) = fault_unless (not (is_some (table_from 0 name.text earlier))) name.at DeclaredTwice ++ declared_in_turn [] columns
-declaration_faults program earlier (Function at name parameters body) = fault_unless (not (names_function earlier name.text)) name.at DeclaredTwice ++ declared_in_turn [] parameters ++ block_faults program (texts parameters) body
+declaration_faults program earlier (Function at name parameters body) = fault_unless (not (names_function earlier name.text)) name.at DeclaredTwice ++ declared_in_turn [] parameters ++ block_faults program (with_names [] parameters) body
 declaration_faults program earlier (Page at path body) = fault_unless (not (is_some (page_from 0 path.text earlier))) path.at PageTwice ++ block_faults program [] body
 
-abbrev pub faults_behind : (program earlier later : List Declaration) → List CheckFault
-faults_behind program earlier [] = []
-faults_behind program earlier (d ∷ ds) = declaration_faults program earlier d ++ faults_behind program (earlier ++ d ∷ []) ds
+-- what is wrong with each of the later ones, where these stand before them
+abbrev pub in_turn : ((earlier : List Declaration) → Declaration → List CheckFault) → (earlier later : List Declaration) → List CheckFault
+in_turn faults earlier [] = []
+in_turn faults earlier (d ∷ ds) = faults earlier d ++ in_turn faults (earlier ++ d ∷ []) ds
 
 abbrev pub faults_of : List Declaration → List CheckFault
-faults_of program = faults_behind program [] program
+faults_of program = in_turn (declaration_faults program) [] program
 
 abbrev pub IsValid : List Declaration → Type 0
 IsValid program = faults_of program ≡ []

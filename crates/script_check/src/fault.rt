@@ -1,3 +1,5 @@
+ghost use Rattle.std.specs.Prelude.{◌≡◌};
+
 /// What is wrong with a tree: docs/language.md, "Check".
 #[derive(Clone, Copy, Debug, PartialEq, Eq)]
 pub enum CheckFaultKind {
@@ -15,10 +17,39 @@ pub enum CheckFaultKind {
     PageTwice,
 }
 
+impl CheckFaultKind {
+    ghost use Rattle.script_check.specs.Least.{number_of};
+
+    /// The number of the kind in docs/language.md.
+    pub fn number(self) -> u8
+        ensures { result ≡ number_of self }
+    {
+        match self {
+            CheckFaultKind::Undeclared => 1,
+            CheckFaultKind::DeclaredTwice => 2,
+            CheckFaultKind::WrongCount => 3,
+            CheckFaultKind::Unknown => 4,
+            CheckFaultKind::KeyWritten => 5,
+            CheckFaultKind::PageTwice => 6,
+        }
+    }
+}
+
 /// A fault of a tree.
 #[derive(Clone, Copy, Debug, PartialEq, Eq)]
 pub struct CheckFault {
     /// How many bytes stand before it.
     pub at: usize,
     pub kind: CheckFaultKind,
+}
+
+impl CheckFault {
+    ghost use Rattle.script_check.specs.Least.{is_below};
+
+    /// Whether it is reported where both are there.
+    pub(crate) fn is_below(&self, other: &CheckFault) -> bool
+        ensures { result ≡ is_below self.now other.now }
+    {
+        self.at < other.at || self.at == other.at && self.kind.number() < other.kind.number()
+    }
 }

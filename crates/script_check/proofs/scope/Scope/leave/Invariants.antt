@@ -1,0 +1,10 @@
+use Rattle.std.proofs.Common.{◌≡◌, ◌-◌, length, drop}
+use Rattle.script_check.proofs.scope.Scope.leave.Given as goal
+
+abbrev pub invariant-loop-self : goal.invariant-loop-self
+invariant-loop-self l = record {
+  told : drop (length l.self - l.len) l.self ≡ drop (length l.fn.self - l.len) l.fn.self;
+}
+
+abbrev pub decreases-loop-self : goal.decreases-loop-self
+decreases-loop-self l = length l.self

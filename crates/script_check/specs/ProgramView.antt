@@ -1,0 +1,13 @@
+-- A checked program of the code, as definitions see it.
+use Rattle.std.specs.Prelude.{◌<◌, length}
+use Rattle.script_tree.specs.Programs.{Program, program_of}
+use Rattle.script_tree.specs.declared.limits.TheConstants.{TOO_MANY_DECLARATIONS}
+use Rattle.script_check.specs.Validity.{IsValid}
+use Rattle.script_check.specs.declared.program.Program.TheInside.{Inside}
+
+abbrev pub program_in : Inside → Program
+program_in p = program_of p.tree
+
+pub record IsCheckedProgram (p : Inside) : Type 0 where
+  pub valid : IsValid (program_in p).declarations
+  pub few : length (program_in p).declarations < TOO_MANY_DECLARATIONS

@@ -169,8 +169,8 @@ fold l (suc m) x ts next mid vs new g h few s t =
     let a = t.0 in
     let j : Joined a.joint l x a.right = join a.joint l x a.right a.level_is g h (omega (arith, few)) a.grouped a.is_right in
     let r : Row l (repeats l (joined a.joint x a.right) + m) ts mid vs new =
-        fold l m (joined a.joint x a.right) ts a.next mid vs new j.grouped (omega (arith, j.level_is)) (omega (arith, few, j.row_is))
-        (λ n h. subst (λ z. AreTokens z ts) (sym (joined_spelling a.joint x a.right n)) (s (joint_spelling a.joint a.right n) (a.spelled n h))) t.1 in
+    fold l m (joined a.joint x a.right) ts a.next mid vs new j.grouped (omega (arith, j.level_is)) (omega (arith, few, j.row_is))
+    (λ n h. subst (λ z. AreTokens z ts) (sym (joined_spelling a.joint x a.right n)) (s (joint_spelling a.joint a.right n) (a.spelled n h))) t.1 in
     record { tree = r.tree; grouped = r.grouped; level_is = r.level_is; few = omega (arith, r.few, j.row_is); spelled = r.spelled; value = r.value }
 
 -- what a tail above an expression makes of it
@@ -208,7 +208,7 @@ chain_on (suc zero) ts e k vs out h y = record { read = e; level_is = h; after =
 chain_on (suc (suc r)) ts e k vs out h y =
     let z : Leveled (suc r) ts (tail (suc (suc r)) (most_repeats (suc (suc r))) ∷ k) vs out = chain_on (suc r) ts e (tail (suc (suc r)) (most_repeats (suc (suc r))) ∷ k) vs out h y in
     let t : Tailed (suc (suc r)) (most_repeats (suc (suc r))) ts k vs out =
-        tail_on (suc (suc r)) (most_repeats (suc (suc r))) z.read.tree ts z.read.next k vs out z.read.grouped (omega (arith, z.level_is)) (not_in_row (suc (suc r)) z.read.tree (omega (arith, z.level_is))) (omega arith) z.read.spelled z.after in
+    tail_on (suc (suc r)) (most_repeats (suc (suc r))) z.read.tree ts z.read.next k vs out z.read.grouped (omega (arith, z.level_is)) (not_in_row (suc (suc r)) z.read.tree (omega (arith, z.level_is))) (omega arith) z.read.spelled z.after in
     record { read = t.read; level_is = t.level_is; after = t.after }
 
 -- ---- a token and what it begins
@@ -377,8 +377,8 @@ pub tail_back : (o : Option Joint) (l left : ℕ) (t : Token) (k : List Symbol) 
 tail_back None l left t k vs s ts out e below h y = (0, t ∷ ts, vs, omega arith, (refl, refl), below h)
 tail_back (Some j) l left t k vs s ts out e below h y =
     elim (one_of (nat_eq (joint_level j) l) (go_on j l left k vs) (feed t k vs) s h) [
-      inl q ↦ go_back j l left t k vs s ts out e (same_number (joint_level j) l q.0) q.1 y
-    | inr q ↦ (0, t ∷ ts, vs, omega arith, (refl, refl), below q.1)
+      | inl q ↦ go_back j l left t k vs s ts out e (same_number (joint_level j) l q.0) q.1 y
+      | inr q ↦ (0, t ∷ ts, vs, omega arith, (refl, refl), below q.1)
     ]
 
 -- ---- names
@@ -407,7 +407,6 @@ pub record QueryRead (ts : List Token) (k : List Symbol) (vs out : List Val) : T
   pub grouped : IsGroupedQuery tree
   pub spelled : Spelled (query_spelling tree) ts next
   pub after : Yields k (of_query tree ∷ vs) next out
-
 
 pub query_back : (at : ℕ) (v : Word) (k : List Symbol) (vs : List Val) (s : State) (ts : List Token) (out : List Val) → begin_query at v k vs ≡ Some s → Yields s.0 s.1 ts out → QueryRead (token at (kind.fixed v) ∷ ts) k vs out
 query_back at w.Insert k vs s ts out h y =
@@ -583,10 +582,13 @@ declaration_back at w.Table k vs s ts out h y =
     let z4 = z3.3 in
     let z5 = z4.3 in
     let z6 = z5.3 in
-    let z7 = z6.3 in
-    (declared.Table at z.0 (z4.0 ∷ z5.0) ∷ z7.0, z7.1, (no_name_is z4.0 z5.0, z7.2),
-     λ n g. (ts, refl, (z.1, z.2, (z3.0, z3.1, z3.2, (z4.1, z4.2, z5.2 (mark.word w.Semicolon ∷ declarations_before z7.0 n) (z6.0, z6.1, z6.2, z7.3 n g))))),
-     with_values k (with_declarations z7.0 (apply adds_declaration (apply (tabled at) (with_names (z4.0 ∷ z5.0) (of_names [] ∷ of_name z.0 ∷ vs))))) (with_declarations (declared.Table at z.0 (z4.0 ∷ z5.0) ∷ z7.0) vs) z7.1 out (ap (λ us. with_declarations z7.0 (apply adds_declaration us)) (valued_table at z.0 (z4.0 ∷ z5.0) vs)) z7.4)
+    let z7 = z6.3 in (
+      declared.Table at z.0 (z4.0 ∷ z5.0) ∷ z7.0,
+      z7.1,
+      (no_name_is z4.0 z5.0, z7.2),
+      λ n g. (ts, refl, (z.1, z.2, (z3.0, z3.1, z3.2, (z4.1, z4.2, z5.2 (mark.word w.Semicolon ∷ declarations_before z7.0 n) (z6.0, z6.1, z6.2, z7.3 n g))))),
+      with_values k (with_declarations z7.0 (apply adds_declaration (apply (tabled at) (with_names (z4.0 ∷ z5.0) (of_names [] ∷ of_name z.0 ∷ vs))))) (with_declarations (declared.Table at z.0 (z4.0 ∷ z5.0) ∷ z7.0) vs) z7.1 out (ap (λ us. with_declarations z7.0 (apply adds_declaration us)) (valued_table at z.0 (z4.0 ∷ z5.0) vs)) z7.4,
+    )
 declaration_back at w.Function k vs s ts out h y =
     let z : Yields (a_name ∷ word w.Open ∷ act (puts (of_names [])) ∷ parameters ∷ block (act (defined at) ∷ act adds_declaration ∷ declarations ∷ k)) vs ts out = land (a_name ∷ word w.Open ∷ act (puts (of_names [])) ∷ parameters ∷ block (act (defined at) ∷ act adds_declaration ∷ declarations ∷ k)) vs s ts out h y in
     let z3 = z.3 in
@@ -596,20 +598,26 @@ declaration_back at w.Function k vs s ts out h y =
     let z7 = z6.4 in
     let ss : List Statement = statements_in z6.0 in
     let value : apply (defined at) (with_statements z6.0 (of_statements [] ∷ with_names z4.0 (of_names [] ∷ of_name z.0 ∷ vs))) ≡ of_declaration (declared.Function at z.0 z4.0 ss) ∷ vs =
-        ap (apply (defined at)) (all_statements z6.0 [] (with_names z4.0 (of_names [] ∷ of_name z.0 ∷ vs))) ∙ ap (λ us. apply (defined at) (of_statements ss ∷ us)) (all_names z4.0 [] (of_name z.0 ∷ vs)) in
-    (declared.Function at z.0 z4.0 ss ∷ z7.0, z7.1, (block_grouped z6.0 z6.2, z7.2),
-     λ n g. (ts, refl, (z.1, z.2, (z3.0, z3.1, z3.2, z4.2 (mark.word w.BraceOpen ∷ block_spelling ss (mark.word w.BraceClose ∷ declarations_before z7.0 n)) (z5.0, z5.1, z5.2, block_spelled z6.0 z5.1 z6.1 z6.3 (declarations_before z7.0 n) (z7.3 n g))))),
-     with_values k (with_declarations z7.0 (apply adds_declaration (apply (defined at) (with_statements z6.0 (of_statements [] ∷ with_names z4.0 (of_names [] ∷ of_name z.0 ∷ vs)))))) (with_declarations (declared.Function at z.0 z4.0 ss ∷ z7.0) vs) z7.1 out (ap (λ us. with_declarations z7.0 (apply adds_declaration us)) value) z7.4)
+    ap (apply (defined at)) (all_statements z6.0 [] (with_names z4.0 (of_names [] ∷ of_name z.0 ∷ vs))) ∙ ap (λ us. apply (defined at) (of_statements ss ∷ us)) (all_names z4.0 [] (of_name z.0 ∷ vs)) in (
+      declared.Function at z.0 z4.0 ss ∷ z7.0,
+      z7.1,
+      (block_grouped z6.0 z6.2, z7.2),
+      λ n g. (ts, refl, (z.1, z.2, (z3.0, z3.1, z3.2, z4.2 (mark.word w.BraceOpen ∷ block_spelling ss (mark.word w.BraceClose ∷ declarations_before z7.0 n)) (z5.0, z5.1, z5.2, block_spelled z6.0 z5.1 z6.1 z6.3 (declarations_before z7.0 n) (z7.3 n g))))),
+      with_values k (with_declarations z7.0 (apply adds_declaration (apply (defined at) (with_statements z6.0 (of_statements [] ∷ with_names z4.0 (of_names [] ∷ of_name z.0 ∷ vs)))))) (with_declarations (declared.Function at z.0 z4.0 ss ∷ z7.0) vs) z7.1 out (ap (λ us. with_declarations z7.0 (apply adds_declaration us)) value) z7.4,
+    )
 declaration_back at w.Page k vs s ts out h y =
     let z : Yields (a_path ∷ block (act (paged at) ∷ act adds_declaration ∷ declarations ∷ k)) vs ts out = land (a_path ∷ block (act (paged at) ∷ act adds_declaration ∷ declarations ∷ k)) vs s ts out h y in
     let z3 = z.3 in
     let z4 = z3.3 in
     let z5 = z4.4 in
     let ss : List Statement = statements_in z4.0 in
-    let value : apply (paged at) (with_statements z4.0 (of_statements [] ∷ of_name z.0 ∷ vs)) ≡ of_declaration (declared.Page at z.0 ss) ∷ vs = ap (apply (paged at)) (all_statements z4.0 [] (of_name z.0 ∷ vs)) in
-    (declared.Page at z.0 ss ∷ z5.0, z5.1, (block_grouped z4.0 z4.2, z5.2),
-     λ n g. (ts, refl, (z.1, z.2, (z3.0, z3.1, z3.2, block_spelled z4.0 z3.1 z4.1 z4.3 (declarations_before z5.0 n) (z5.3 n g)))),
-     with_values k (with_declarations z5.0 (apply adds_declaration (apply (paged at) (with_statements z4.0 (of_statements [] ∷ of_name z.0 ∷ vs))))) (with_declarations (declared.Page at z.0 ss ∷ z5.0) vs) z5.1 out (ap (λ us. with_declarations z5.0 (apply adds_declaration us)) value) z5.4)
+    let value : apply (paged at) (with_statements z4.0 (of_statements [] ∷ of_name z.0 ∷ vs)) ≡ of_declaration (declared.Page at z.0 ss) ∷ vs = ap (apply (paged at)) (all_statements z4.0 [] (of_name z.0 ∷ vs)) in (
+      declared.Page at z.0 ss ∷ z5.0,
+      z5.1,
+      (block_grouped z4.0 z4.2, z5.2),
+      λ n g. (ts, refl, (z.1, z.2, (z3.0, z3.1, z3.2, block_spelled z4.0 z3.1 z4.1 z4.3 (declarations_before z5.0 n) (z5.3 n g)))),
+      with_values k (with_declarations z5.0 (apply adds_declaration (apply (paged at) (with_statements z4.0 (of_statements [] ∷ of_name z.0 ∷ vs))))) (with_declarations (declared.Page at z.0 ss ∷ z5.0) vs) z5.1 out (ap (λ us. with_declarations z5.0 (apply adds_declaration us)) value) z5.4,
+    )
 declaration_back at v k vs s ts out h y = no_state s h
 
 -- ---- all of them
@@ -628,8 +636,8 @@ back t [] vs s h ts out y = no_state s h
 back t (act a ∷ k) vs s h ts out y = back t k (apply a vs) s h ts out y
 back t (word v ∷ k) vs s h ts out y =
     elim (one_of (is_word v t.kind) (Some (k, vs)) None s h) [
-      inl q ↦ (t.at, ts, heads t.at v t.kind ts q.0, land k vs s ts out q.1 y)
-    | inr q ↦ no_state s q.1
+      | inl q ↦ (t.at, ts, heads t.at v t.kind ts q.0, land k vs s ts out q.1 y)
+      | inr q ↦ no_state s q.1
     ]
 back t (a_name ∷ k) vs s h ts out y = let r = name_back t.at t.kind k vs s ts out h y in (r.0, ts, r.1, r.2)
 back t (a_path ∷ k) vs s h ts out y = let r = path_back t.at t.kind k vs s ts out h y in (r.0, ts, r.1, r.2)
@@ -640,48 +648,51 @@ back t (atom ∷ k) vs s h ts out y = let r = atom_back t.at t.kind k vs s ts ou
 back t (tail l left ∷ k) vs s h ts out y = tail_back (joint_of t.kind) l left t k vs s ts out refl (λ g. back t k vs s g ts out y) h y
 back t (name_tail at x ∷ k) vs s h ts out y =
     elim (one_of (is_word w.Open t.kind) (Some (arguments w.Close ∷ act (called at x) ∷ k, of_expressions [] ∷ vs)) (feed t k (of_expression (variable at x) ∷ vs)) s h) [
-      inl q ↦
-        let z : Yields (arguments w.Close ∷ act (called at x) ∷ k) (of_expressions [] ∷ vs) ts out = land (arguments w.Close ∷ act (called at x) ∷ k) (of_expressions [] ∷ vs) s ts out q.1 y in
-        (record { tree = call at x z.0; next = z.1; grouped = z.2; spelled = λ n g. (t ∷ ts, refl, (t.at, ts, heads t.at w.Open t.kind ts q.0, z.3 n g)) }, omega arith, refl,
-         with_values k (apply (called at x) (with_expressions z.0 (of_expressions [] ∷ vs))) (of_expression (call at x z.0) ∷ vs) z.1 out (valued_call at x z.0 vs) z.4)
-    | inr q ↦ (record { tree = variable at x; next = t ∷ ts; grouped = tt; spelled = λ n g. (t ∷ ts, refl, g) }, omega arith, refl, back t k (of_expression (variable at x) ∷ vs) s q.1 ts out y)
+      | inl q ↦
+          let z : Yields (arguments w.Close ∷ act (called at x) ∷ k) (of_expressions [] ∷ vs) ts out = land (arguments w.Close ∷ act (called at x) ∷ k) (of_expressions [] ∷ vs) s ts out q.1 y in (
+            record { tree = call at x z.0; next = z.1; grouped = z.2; spelled = λ n g. (t ∷ ts, refl, (t.at, ts, heads t.at w.Open t.kind ts q.0, z.3 n g)) },
+            omega arith,
+            refl,
+            with_values k (apply (called at x) (with_expressions z.0 (of_expressions [] ∷ vs))) (of_expression (call at x z.0) ∷ vs) z.1 out (valued_call at x z.0 vs) z.4,
+          )
+      | inr q ↦ (record { tree = variable at x; next = t ∷ ts; grouped = tt; spelled = λ n g. (t ∷ ts, refl, g) }, omega arith, refl, back t k (of_expression (variable at x) ∷ vs) s q.1 ts out y)
     ]
 back t (arguments close ∷ k) vs s h ts out y =
     elim (one_of (is_word close t.kind) (Some (k, vs)) (begin_operand t.at t.kind 6 (act adds_expression ∷ more_arguments close ∷ k) vs) s h) [
-      inl q ↦ (no_expression, ts, tt, λ n g. (t.at, ts, heads t.at close t.kind ts q.0, g), land k vs s ts out q.1 y)
-    | inr q ↦
-        let a : Yields (operand 6 ∷ act adds_expression ∷ more_arguments close ∷ k) vs (t ∷ ts) out = operand_back 6 t (act adds_expression ∷ more_arguments close ∷ k) vs s ts out q.1 y in
-        let z = a.2 in
-        (expression a.0.tree z.0, z.1, (a.0.grouped, z.2), λ n g. a.0.spelled (more_spelling z.0 (mark.word close ∷ n)) (z.3 n g), z.4)
+      | inl q ↦ (no_expression, ts, tt, λ n g. (t.at, ts, heads t.at close t.kind ts q.0, g), land k vs s ts out q.1 y)
+      | inr q ↦
+          let a : Yields (operand 6 ∷ act adds_expression ∷ more_arguments close ∷ k) vs (t ∷ ts) out = operand_back 6 t (act adds_expression ∷ more_arguments close ∷ k) vs s ts out q.1 y in
+          let z = a.2 in
+          (expression a.0.tree z.0, z.1, (a.0.grouped, z.2), λ n g. a.0.spelled (more_spelling z.0 (mark.word close ∷ n)) (z.3 n g), z.4)
     ]
 back t (more_arguments close ∷ k) vs s h ts out y =
     elim (one_of (is_word close t.kind) (Some (k, vs)) (if is_word w.Comma t.kind then Some (operand 6 ∷ act adds_expression ∷ more_arguments close ∷ k, vs) else None) s h) [
-      inl q ↦ (no_expression, ts, tt, λ n g. (t.at, ts, heads t.at close t.kind ts q.0, g), land k vs s ts out q.1 y)
-    | inr q ↦ elim (one_of (is_word w.Comma t.kind) (Some (operand 6 ∷ act adds_expression ∷ more_arguments close ∷ k, vs)) None s q.1) [
-        inl q ↦
-          let a : Yields (operand 6 ∷ act adds_expression ∷ more_arguments close ∷ k) vs ts out = land (operand 6 ∷ act adds_expression ∷ more_arguments close ∷ k) vs s ts out q.1 y in
-          let z = a.2 in
-          (expression a.0.tree z.0, z.1, (a.0.grouped, z.2), λ n g. (t.at, ts, heads t.at w.Comma t.kind ts q.0, a.0.spelled (more_spelling z.0 (mark.word close ∷ n)) (z.3 n g)), z.4)
-      | inr q ↦ no_state s q.1
+      | inl q ↦ (no_expression, ts, tt, λ n g. (t.at, ts, heads t.at close t.kind ts q.0, g), land k vs s ts out q.1 y)
+      | inr q ↦ elim (one_of (is_word w.Comma t.kind) (Some (operand 6 ∷ act adds_expression ∷ more_arguments close ∷ k, vs)) None s q.1) [
+        | inl q ↦
+            let a : Yields (operand 6 ∷ act adds_expression ∷ more_arguments close ∷ k) vs ts out = land (operand 6 ∷ act adds_expression ∷ more_arguments close ∷ k) vs s ts out q.1 y in
+            let z = a.2 in
+            (expression a.0.tree z.0, z.1, (a.0.grouped, z.2), λ n g. (t.at, ts, heads t.at w.Comma t.kind ts q.0, a.0.spelled (more_spelling z.0 (mark.word close ∷ n)) (z.3 n g)), z.4)
+        | inr q ↦ no_state s q.1
       ]
     ]
 back t (parameters ∷ k) vs s h ts out y =
     elim (one_of (is_word w.Close t.kind) (Some (k, vs)) (take_name t.at t.kind (act adds_name ∷ more_names w.Close ∷ k) vs) s h) [
-      inl q ↦ ([], ts, λ n g. (t.at, ts, heads t.at w.Close t.kind ts q.0, g), land k vs s ts out q.1 y)
-    | inr q ↦
-        let r = name_back t.at t.kind (act adds_name ∷ more_names w.Close ∷ k) vs s ts out q.1 y in
-        let z = r.2 in
-        (r.0 ∷ z.0, z.1, λ n g. (ts, r.1, z.2 n g), z.3)
+      | inl q ↦ ([], ts, λ n g. (t.at, ts, heads t.at w.Close t.kind ts q.0, g), land k vs s ts out q.1 y)
+      | inr q ↦
+          let r = name_back t.at t.kind (act adds_name ∷ more_names w.Close ∷ k) vs s ts out q.1 y in
+          let z = r.2 in
+          (r.0 ∷ z.0, z.1, λ n g. (ts, r.1, z.2 n g), z.3)
     ]
 back t (more_names close ∷ k) vs s h ts out y =
     elim (one_of (is_word close t.kind) (Some (k, vs)) (if is_word w.Comma t.kind then Some (a_name ∷ act adds_name ∷ more_names close ∷ k, vs) else None) s h) [
-      inl q ↦ ([], ts, λ n g. (t.at, ts, heads t.at close t.kind ts q.0, g), land k vs s ts out q.1 y)
-    | inr q ↦ elim (one_of (is_word w.Comma t.kind) (Some (a_name ∷ act adds_name ∷ more_names close ∷ k, vs)) None s q.1) [
-        inl q ↦
-          let a : Yields (a_name ∷ act adds_name ∷ more_names close ∷ k) vs ts out = land (a_name ∷ act adds_name ∷ more_names close ∷ k) vs s ts out q.1 y in
-          let z = a.3 in
-          (a.0 ∷ z.0, z.1, λ n g. (t.at, ts, heads t.at w.Comma t.kind ts q.0, (a.1, a.2, z.2 n g)), z.3)
-      | inr q ↦ no_state s q.1
+      | inl q ↦ ([], ts, λ n g. (t.at, ts, heads t.at close t.kind ts q.0, g), land k vs s ts out q.1 y)
+      | inr q ↦ elim (one_of (is_word w.Comma t.kind) (Some (a_name ∷ act adds_name ∷ more_names close ∷ k, vs)) None s q.1) [
+        | inl q ↦
+            let a : Yields (a_name ∷ act adds_name ∷ more_names close ∷ k) vs ts out = land (a_name ∷ act adds_name ∷ more_names close ∷ k) vs s ts out q.1 y in
+            let z = a.3 in
+            (a.0 ∷ z.0, z.1, λ n g. (t.at, ts, heads t.at w.Comma t.kind ts q.0, (a.1, a.2, z.2 n g)), z.3)
+        | inr q ↦ no_state s q.1
       ]
     ]
 back t (a_query ∷ k) vs s h ts out y =
@@ -690,42 +701,42 @@ back t (a_query ∷ k) vs s h ts out y =
     (r.tree, r.next, r.grouped, λ n g. at_word_first (AreTokens (query_spelling r.tree n)) t ts b.0 b.1 (r.spelled n g), r.after)
 back t (more_queries ∷ k) vs s h ts out y =
     elim (one_of (is_word w.BraceClose t.kind) (Some (k, vs)) (by_word (λ v. begin_query t.at v (act adds_query ∷ more_queries ∷ k) vs) t.kind) s h) [
-      inl q ↦ (no_query, ts, tt, λ n g. (t.at, ts, heads t.at w.BraceClose t.kind ts q.0, g), land k vs s ts out q.1 y)
-    | inr q ↦
-        let b = by_word_back t.kind (λ v. begin_query t.at v (act adds_query ∷ more_queries ∷ k) vs) s q.1 in
-        let r = query_back t.at b.0 (act adds_query ∷ more_queries ∷ k) vs s ts out b.2 y in
-        let z = r.after in
-        (query r.tree z.0, z.1, (r.grouped, z.2), λ n g. at_word_first (AreTokens (query_spelling r.tree (queries_spelling z.0 (mark.word w.BraceClose ∷ n)))) t ts b.0 b.1 (r.spelled (queries_spelling z.0 (mark.word w.BraceClose ∷ n)) (z.3 n g)), z.4)
+      | inl q ↦ (no_query, ts, tt, λ n g. (t.at, ts, heads t.at w.BraceClose t.kind ts q.0, g), land k vs s ts out q.1 y)
+      | inr q ↦
+          let b = by_word_back t.kind (λ v. begin_query t.at v (act adds_query ∷ more_queries ∷ k) vs) s q.1 in
+          let r = query_back t.at b.0 (act adds_query ∷ more_queries ∷ k) vs s ts out b.2 y in
+          let z = r.after in
+          (query r.tree z.0, z.1, (r.grouped, z.2), λ n g. at_word_first (AreTokens (query_spelling r.tree (queries_spelling z.0 (mark.word w.BraceClose ∷ n)))) t ts b.0 b.1 (r.spelled (queries_spelling z.0 (mark.word w.BraceClose ∷ n)) (z.3 n g)), z.4)
     ]
 back t (filter ∷ k) vs s h ts out y =
     elim (one_of (is_word w.Where t.kind) (Some (test (more_tests ∷ k), vs)) (feed t k vs) s h) [
-      inl q ↦
-        let a : Yields (test (more_tests ∷ k)) vs ts out = land (test (more_tests ∷ k)) vs s ts out q.1 y in
-        let b = a.3 in
-        let e = b.4 in
-        let z = e.2 in
-        (condition a.0 b.0 e.0.tree z.0, z.1, (e.1, e.0.grouped, z.2), λ n g. (t.at, ts, heads t.at w.Where t.kind ts q.0, (a.1, a.2, (b.1, b.2, b.3, e.0.spelled (and_spelling z.0 n) (z.3 n g)))), z.4)
-    | inr q ↦ (no_condition, t ∷ ts, tt, λ n g. g, back t k vs s q.1 ts out y)
+      | inl q ↦
+          let a : Yields (test (more_tests ∷ k)) vs ts out = land (test (more_tests ∷ k)) vs s ts out q.1 y in
+          let b = a.3 in
+          let e = b.4 in
+          let z = e.2 in
+          (condition a.0 b.0 e.0.tree z.0, z.1, (e.1, e.0.grouped, z.2), λ n g. (t.at, ts, heads t.at w.Where t.kind ts q.0, (a.1, a.2, (b.1, b.2, b.3, e.0.spelled (and_spelling z.0 n) (z.3 n g)))), z.4)
+      | inr q ↦ (no_condition, t ∷ ts, tt, λ n g. g, back t k vs s q.1 ts out y)
     ]
 back t (more_tests ∷ k) vs s h ts out y =
     elim (one_of (is_word w.And t.kind) (Some (test (more_tests ∷ k), vs)) (feed t k vs) s h) [
-      inl q ↦
-        let a : Yields (test (more_tests ∷ k)) vs ts out = land (test (more_tests ∷ k)) vs s ts out q.1 y in
-        let b = a.3 in
-        let e = b.4 in
-        let z = e.2 in
-        (condition a.0 b.0 e.0.tree z.0, z.1, (e.1, e.0.grouped, z.2), λ n g. (t.at, ts, heads t.at w.And t.kind ts q.0, (a.1, a.2, (b.1, b.2, b.3, e.0.spelled (and_spelling z.0 n) (z.3 n g)))), z.4)
-    | inr q ↦ (no_condition, t ∷ ts, tt, λ n g. g, back t k vs s q.1 ts out y)
+      | inl q ↦
+          let a : Yields (test (more_tests ∷ k)) vs ts out = land (test (more_tests ∷ k)) vs s ts out q.1 y in
+          let b = a.3 in
+          let e = b.4 in
+          let z = e.2 in
+          (condition a.0 b.0 e.0.tree z.0, z.1, (e.1, e.0.grouped, z.2), λ n g. (t.at, ts, heads t.at w.And t.kind ts q.0, (a.1, a.2, (b.1, b.2, b.3, e.0.spelled (and_spelling z.0 n) (z.3 n g)))), z.4)
+      | inr q ↦ (no_condition, t ∷ ts, tt, λ n g. g, back t k vs s q.1 ts out y)
     ]
 back t (more_sets ∷ k) vs s h ts out y =
     elim (one_of (is_word w.Comma t.kind) (Some (assigns (more_sets ∷ k), vs)) (feed t k vs) s h) [
-      inl q ↦
-        let a : Yields (assigns (more_sets ∷ k)) vs ts out = land (assigns (more_sets ∷ k)) vs s ts out q.1 y in
-        let b = a.3 in
-        let e = b.3 in
-        let z = e.2 in
-        (assignment a.0 e.0.tree z.0, z.1, (e.0.grouped, z.2), λ n g. (t.at, ts, heads t.at w.Comma t.kind ts q.0, (a.1, a.2, (b.0, b.1, b.2, e.0.spelled (more_sets_spelling z.0 n) (z.3 n g)))), z.4)
-    | inr q ↦ (no_assignment, t ∷ ts, tt, λ n g. g, back t k vs s q.1 ts out y)
+      | inl q ↦
+          let a : Yields (assigns (more_sets ∷ k)) vs ts out = land (assigns (more_sets ∷ k)) vs s ts out q.1 y in
+          let b = a.3 in
+          let e = b.3 in
+          let z = e.2 in
+          (assignment a.0 e.0.tree z.0, z.1, (e.0.grouped, z.2), λ n g. (t.at, ts, heads t.at w.Comma t.kind ts q.0, (a.1, a.2, (b.0, b.1, b.2, e.0.spelled (more_sets_spelling z.0 n) (z.3 n g)))), z.4)
+      | inr q ↦ (no_assignment, t ∷ ts, tt, λ n g. g, back t k vs s q.1 ts out y)
     ]
 back t (a_statement ∷ k) vs s h ts out y =
     let b = by_word_back t.kind (λ v. begin_statement t.at v k vs) s h in
@@ -733,20 +744,20 @@ back t (a_statement ∷ k) vs s h ts out y =
     (r.tree, r.next, r.grouped, λ n g. at_word_first (AreTokens (statement_spelling r.tree n)) t ts b.0 b.1 (r.spelled n g), r.after)
 back t (statements ∷ k) vs s h ts out y =
     elim (one_of (is_word w.BraceClose t.kind) (Some (k, vs)) (by_word (λ v. begin_statement t.at v (act adds_statement ∷ statements ∷ k) vs) t.kind) s h) [
-      inl q ↦ (no_statement, ts, tt, λ n g. (t.at, ts, heads t.at w.BraceClose t.kind ts q.0, g), land k vs s ts out q.1 y)
-    | inr q ↦
-        let b = by_word_back t.kind (λ v. begin_statement t.at v (act adds_statement ∷ statements ∷ k) vs) s q.1 in
-        let r = statement_back t.at b.0 (act adds_statement ∷ statements ∷ k) vs s ts out b.2 y in
-        let z = r.after in
-        (statement r.tree z.0, z.1, (r.grouped, z.2), λ n g. at_word_first (AreTokens (statement_spelling r.tree (statements_spelling z.0 (mark.word w.BraceClose ∷ n)))) t ts b.0 b.1 (r.spelled (statements_spelling z.0 (mark.word w.BraceClose ∷ n)) (z.3 n g)), z.4)
+      | inl q ↦ (no_statement, ts, tt, λ n g. (t.at, ts, heads t.at w.BraceClose t.kind ts q.0, g), land k vs s ts out q.1 y)
+      | inr q ↦
+          let b = by_word_back t.kind (λ v. begin_statement t.at v (act adds_statement ∷ statements ∷ k) vs) s q.1 in
+          let r = statement_back t.at b.0 (act adds_statement ∷ statements ∷ k) vs s ts out b.2 y in
+          let z = r.after in
+          (statement r.tree z.0, z.1, (r.grouped, z.2), λ n g. at_word_first (AreTokens (statement_spelling r.tree (statements_spelling z.0 (mark.word w.BraceClose ∷ n)))) t ts b.0 b.1 (r.spelled (statements_spelling z.0 (mark.word w.BraceClose ∷ n)) (z.3 n g)), z.4)
     ]
 back t (else_part ∷ k) vs s h ts out y =
     elim (one_of (is_word w.Else t.kind) (Some (block (act otherwise ∷ k), vs)) (feed t k (of_else no_else ∷ vs)) s h) [
-      inl q ↦
-        let a : Yields (block (act otherwise ∷ k)) vs ts out = land (block (act otherwise ∷ k)) vs s ts out q.1 y in
-        let z = a.3 in
-        (else_ z.0, z.1, z.2, λ n g. (t.at, ts, heads t.at w.Else t.kind ts q.0, (a.0, a.1, a.2, z.3 n g)), with_values k (apply otherwise (with_statements z.0 (of_statements [] ∷ vs))) (of_else (else_ z.0) ∷ vs) z.1 out (valued_else z.0 vs) z.4)
-    | inr q ↦ (no_else, t ∷ ts, tt, λ n g. g, back t k (of_else no_else ∷ vs) s q.1 ts out y)
+      | inl q ↦
+          let a : Yields (block (act otherwise ∷ k)) vs ts out = land (block (act otherwise ∷ k)) vs s ts out q.1 y in
+          let z = a.3 in
+          (else_ z.0, z.1, z.2, λ n g. (t.at, ts, heads t.at w.Else t.kind ts q.0, (a.0, a.1, a.2, z.3 n g)), with_values k (apply otherwise (with_statements z.0 (of_statements [] ∷ vs))) (of_else (else_ z.0) ∷ vs) z.1 out (valued_else z.0 vs) z.4)
+      | inr q ↦ (no_else, t ∷ ts, tt, λ n g. g, back t k (of_else no_else ∷ vs) s q.1 ts out y)
     ]
 back t (declarations ∷ k) vs s h ts out y =
     let b = by_word_back t.kind (λ v. begin_declaration t.at v (act adds_declaration ∷ declarations ∷ k) vs) s h in

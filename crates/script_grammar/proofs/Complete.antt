@@ -47,14 +47,17 @@ prefix_feeds at one.Negate left k vs = refl
 pub unary_part : (at : ℕ) (operator : UnaryOperator) (e : Expression) (m n : List Mark) → Part 1 e m n → Part 1 (unary at operator e) (at_word at (prefix_word operator) ∷ m) n
 unary_part at operator e m n p = record {
   goes = λ ts h.
-      let a = p.goes h.0 h.2 in
-      (a.0, a.1, λ d k vs.
-        let q : repeats 1 (unary at operator e) + d ≡ suc (repeats 1 e + d) = omega arith in
-        ap (λ x. run ts (prefixes x ∷ k) vs) q
-        ∙ ap (λ us. run us (prefixes (suc (repeats 1 e + d)) ∷ k) vs) h.1
-        ∙ step_on (token at (kind.fixed (prefix_word operator))) h.0 (prefixes (suc (repeats 1 e + d)) ∷ k) (prefixes (repeats 1 e + d) ∷ act (prefixed at operator) ∷ k) vs vs (prefix_feeds at operator (repeats 1 e + d) k vs)
-        ∙ a.2 d (act (prefixed at operator) ∷ k) vs
-        ∙ act_runs (prefixed at operator) a.0 k (of_expression e ∷ vs));
+      let a = p.goes h.0 h.2 in (
+        a.0,
+        a.1,
+        λ d k vs.
+            let q : repeats 1 (unary at operator e) + d ≡ suc (repeats 1 e + d) = omega arith in
+            ap (λ x. run ts (prefixes x ∷ k) vs) q
+            ∙ ap (λ us. run us (prefixes (suc (repeats 1 e + d)) ∷ k) vs) h.1
+            ∙ step_on (token at (kind.fixed (prefix_word operator))) h.0 (prefixes (suc (repeats 1 e + d)) ∷ k) (prefixes (repeats 1 e + d) ∷ act (prefixed at operator) ∷ k) vs vs (prefix_feeds at operator (repeats 1 e + d) k vs)
+            ∙ a.2 d (act (prefixed at operator) ∷ k) vs
+            ∙ act_runs (prefixed at operator) a.0 k (of_expression e ∷ vs),
+      );
 }
 
 pub itself : (n : ℕ) → nat_eq n n ≡ true
@@ -70,17 +73,20 @@ pub joint_part : (j : Joint) (v : Word) (l : ℕ) (x y : Expression) (m o n : Li
 joint_part j v l x y m o n body e q more closes after p r = record {
   goes = λ ts h.
       let a = p.goes ts h in
-      let b = r.goes a.1.1 a.1.3 in
-      (b.0, b.1, λ d k vs.
-        let s : repeats l (joined j x y) + d ≡ repeats l x + suc d = omega (arith, more) in
-        ap (λ x. run ts (opening l x k) vs) s
-        ∙ a.2 (suc d) k vs
-        ∙ ap (λ s. run a.0 s (of_expression x ∷ vs)) (closes (suc d) k)
-        ∙ ap (λ us. run us (tail l (suc d) ∷ k) (of_expression x ∷ vs)) a.1.2
-        ∙ step_on (token a.1.0 (kind.fixed v)) a.1.1 (tail l (suc d) ∷ k) (after_joint j l d k) (of_expression x ∷ vs) (of_expression x ∷ vs) (joint_feeds a.1.0 v j l d k (of_expression x ∷ vs) e q)
-        ∙ ap (λ s. run a.1.1 s (of_expression x ∷ vs)) (after d k)
-        ∙ b.2 (tail l d ∷ k) (of_expression x ∷ vs)
-        ∙ ap (λ s. run b.0 s (of_expression (joined j x y) ∷ vs)) (sym (closes d k)));
+      let b = r.goes a.1.1 a.1.3 in (
+        b.0,
+        b.1,
+        λ d k vs.
+            let s : repeats l (joined j x y) + d ≡ repeats l x + suc d = omega (arith, more) in
+            ap (λ x. run ts (opening l x k) vs) s
+            ∙ a.2 (suc d) k vs
+            ∙ ap (λ s. run a.0 s (of_expression x ∷ vs)) (closes (suc d) k)
+            ∙ ap (λ us. run us (tail l (suc d) ∷ k) (of_expression x ∷ vs)) a.1.2
+            ∙ step_on (token a.1.0 (kind.fixed v)) a.1.1 (tail l (suc d) ∷ k) (after_joint j l d k) (of_expression x ∷ vs) (of_expression x ∷ vs) (joint_feeds a.1.0 v j l d k (of_expression x ∷ vs) e q)
+            ∙ ap (λ s. run a.1.1 s (of_expression x ∷ vs)) (after d k)
+            ∙ b.2 (tail l d ∷ k) (of_expression x ∷ vs)
+            ∙ ap (λ s. run b.0 s (of_expression (joined j x y) ∷ vs)) (sym (closes d k)),
+      );
 }
 
 -- ---- what an expression begins with

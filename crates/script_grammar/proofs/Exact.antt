@@ -209,9 +209,12 @@ exact_of ts (stuck []) h =
     let s : StuckAt ts start none_yet [] = stuck_at ts start none_yet [] h in
     (begins_whole ts s.read s.split (begins_before s.read s.more s.out s.real s.yields), λ ds g. never_stuck [] (of_declarations ds ∷ []) (sym (tree_read ts ds g) ∙ h))
 exact_of ts (stuck (t ∷ r)) h =
-    let s : StuckAt ts start none_yet (t ∷ r) = stuck_at ts start none_yet (t ∷ r) h in
-    (s.read, s.split, begins_before s.read s.more s.out s.real s.yields,
-     λ b. never_done (t ∷ b.more) (of_declarations b.tree ∷ []) (sym (s.none t r b.more refl) ∙ tree_read (s.read ++ t ∷ b.more) b.tree (subst (λ z. IsTreeOf z b.tree) (append_assoc s.read (t ∷ []) b.more) b.whole)))
+    let s : StuckAt ts start none_yet (t ∷ r) = stuck_at ts start none_yet (t ∷ r) h in (
+      s.read,
+      s.split,
+      begins_before s.read s.more s.out s.real s.yields,
+      λ b. never_done (t ∷ b.more) (of_declarations b.tree ∷ []) (sym (s.none t r b.more refl) ∙ tree_read (s.read ++ t ∷ b.more) b.tree (subst (λ z. IsTreeOf z b.tree) (append_assoc s.read (t ∷ []) b.more) b.whole)),
+    )
 
 pub exact : (ts : List Token) → Answers ts (run_file ts)
 exact ts = exact_of ts (run_file ts) refl

@@ -118,11 +118,11 @@ last r l h = last_case (nat_eq r (suc l)) refl
 pub climb : (l r : ℕ) (e : Expression) (m n : List Mark) → r ≤ l → level e ≤ r → (r ≡ 0 → First IsNoPrefix m) → First (From l) n → ((s : ℕ) → repeats s e ≤ most_repeats s) → Part r e m n → Part l e m n
 climb zero r e m n h b f g few p = let q : r ≡ 0 = omega (arith, h) in subst (λ x. Part x e m n) q p
 climb (suc l) r e m n h b f g few p = elim (last r l h) [
-    inl c ↦
+  | inl c ↦
       let a : Part l e m n = climb l r e m n c b f (from_lower (suc l) l n (omega arith) g) few p in
       up l e m n (omega (arith, b, c)) (λ z. f (omega (arith, c, z))) (whole_of l e m n g (few l) a)
   | inr c ↦ subst (λ x. Part x e m n) c p
-  ]
+]
 
 -- an operand of a level is the symbols that open it
 pub operand_of : (l : ℕ) (e : Expression) (m n : List Mark) → Whole (suc l) e m n → Reads (λ k. operand (suc l) ∷ k) (λ vs. of_expression e ∷ vs) m n

@@ -12,7 +12,12 @@ use script_tree::syntax::name::Names;
 use std::alloc::Global;
 
 /// A declaration that begins with this word.
-fn declaration(alloc: Global, tokens: &mut Tokens<'_>, at: usize, word: Word) -> Result<Declaration, Stop>
+fn declaration(
+    alloc: Global,
+    tokens: &mut Tokens<'_>,
+    at: usize,
+    word: Word,
+) -> Result<Declaration, Stop>
     ensures gives { Begins declaration_value (word_token at word) (begin_declaration at word) result tokens.old tokens.new }
     ensures shorter { OnOk result (length tokens.new.tokens ≤ length tokens.old.tokens) }
 {

@@ -23,7 +23,12 @@ pub const EXPRESSION: u32 = 6;
 /// The level of the values of a `where`.
 pub const SUM: u32 = 3;
 
-fn joined(alloc: Global, joint: Joint, left: Expression, right: Expression) -> Result<Expression, AllocError>
+fn joined(
+    alloc: Global,
+    joint: Joint,
+    left: Expression,
+    right: Expression,
+) -> Result<Expression, AllocError>
     ensures { IfOk result (λ e. e ≡ joined joint left right) }
 {
     let at = left.at;
@@ -237,7 +242,12 @@ pub fn more_arguments(
 
 /// An atom that begins with this word.
 #[cycle(expression)]
-fn word_atom(alloc: Global, tokens: &mut Tokens<'_>, at: usize, word: Word) -> Result<Expression, Stop>
+fn word_atom(
+    alloc: Global,
+    tokens: &mut Tokens<'_>,
+    at: usize,
+    word: Word,
+) -> Result<Expression, Stop>
     ensures gives { Begins expression_value (word_token at word) (begin_word at word) result tokens.old tokens.new }
     ensures shorter { OnOk result (length tokens.new.tokens ≤ length tokens.old.tokens) }
 {

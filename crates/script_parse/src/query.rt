@@ -10,8 +10,8 @@ use script_tokens::shape::Shape;
 use script_tokens::word::Word;
 use script_tree::comparison::Comparison;
 use script_tree::syntax::expression::{
-    Assignment, Assignments, Condition, Conditions, Expression, ExpressionNode, Expressions, Queries,
-    Query, QueryNode,
+    Assignment, Assignments, Condition, Conditions, Expression, ExpressionNode, Expressions,
+    Queries, Query, QueryNode,
 };
 use script_tree::syntax::name::Names;
 use std::alloc::Global;

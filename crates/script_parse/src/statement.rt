@@ -62,7 +62,12 @@ fn statement(alloc: Global, tokens: &mut Tokens<'_>) -> Result<Statement, Stop>
 
 /// A statement that begins with this word.
 #[cycle(statement)]
-fn statement_of(alloc: Global, tokens: &mut Tokens<'_>, at: usize, word: Word) -> Result<Statement, Stop>
+fn statement_of(
+    alloc: Global,
+    tokens: &mut Tokens<'_>,
+    at: usize,
+    word: Word,
+) -> Result<Statement, Stop>
     ensures gives { Begins statement_value (word_token at word) (begin_statement at word) result tokens.old tokens.new }
     ensures shorter { OnOk result (length tokens.new.tokens ≤ length tokens.old.tokens) }
 {

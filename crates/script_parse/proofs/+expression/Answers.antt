@@ -29,27 +29,33 @@ expression::arguments-returns-clause-gives t c =
     let pushed : c.push.new.self ≡ c.in_ok-operand.field-0 ∷ [] = c.in_ok-push.ensures.ok ∙ ap (λ l. l ++ c.in_ok-operand.field-0 ∷ []) c.new-items.ensures in
     follows expressions_value (arguments c.args.close ∷ []) (of_expressions [] ∷ []) c.args.tokens.now (more_arguments c.args.close ∷ []) (of_expressions c.push.new.self ∷ []) c.operand.new.tokens c.more_arguments.new.tokens c.more_arguments.result
     (λ k vs.
-      arguments_runs c.args.close c.args.tokens.now (sym c.stands.ensures ∙ c.if-stands.false) k (of_expressions [] ∷ vs)
-      ∙ c.in_ok-operand.ensures.gives (act adds_expression ∷ more_arguments c.args.close ∷ k) (of_expressions [] ∷ vs)
-      ∙ act_runs adds_expression c.operand.new.tokens (more_arguments c.args.close ∷ k) (of_expression c.in_ok-operand.field-0 ∷ of_expressions [] ∷ vs)
-      ∙ ap (λ es. reading c.operand.new.tokens (more_arguments c.args.close ∷ k) (of_expressions es ∷ vs)) (sym pushed)) c.more_arguments.ensures.gives
+    arguments_runs c.args.close c.args.tokens.now (sym c.stands.ensures ∙ c.if-stands.false) k (of_expressions [] ∷ vs)
+    ∙ c.in_ok-operand.ensures.gives (act adds_expression ∷ more_arguments c.args.close ∷ k) (of_expressions [] ∷ vs)
+    ∙ act_runs adds_expression c.operand.new.tokens (more_arguments c.args.close ∷ k) (of_expression c.in_ok-operand.field-0 ∷ of_expressions [] ∷ vs)
+    ∙ ap (λ es. reading c.operand.new.tokens (more_arguments c.args.close ∷ k) (of_expressions es ∷ vs)) (sym pushed)) c.more_arguments.ensures.gives
 
 pub expression::more_arguments-returns-in_err-take-clause-gives : goal.expression::more_arguments-returns-in_err-take-clause-gives
 expression::more_arguments-returns-in_err-take-clause-gives t c =
     let p = err_from_is_err_and c.from_residual.result c.from_residual.ensures.1 in
     rw (p.1, p.2) (fails (more_arguments c.args.close ∷ []) (of_expressions c.args.items ∷ []) c.args.tokens.now (word w.Comma ∷ []) [] c.loop-alloc.tokens _
-    (λ k vs. (operand 6 ∷ act adds_expression ∷ more_arguments c.args.close ∷ k, of_expressions c.loop-alloc.items ∷ vs,
-        c.loop-alloc.invariant.told k vs
-        ∙ more_arguments_run c.args.close c.loop-alloc.tokens (sym c.stands.ensures ∙ c.loop-alloc-test.true) k (of_expressions c.loop-alloc.items ∷ vs))) c.in_err-take.ensures.gives)
+    (λ k vs. (
+      operand 6 ∷ act adds_expression ∷ more_arguments c.args.close ∷ k,
+      of_expressions c.loop-alloc.items ∷ vs,
+      c.loop-alloc.invariant.told k vs
+          ∙ more_arguments_run c.args.close c.loop-alloc.tokens (sym c.stands.ensures ∙ c.loop-alloc-test.true) k (of_expressions c.loop-alloc.items ∷ vs),
+    )) c.in_err-take.ensures.gives)
 
 pub expression::more_arguments-returns-in_err-operand-clause-gives : goal.expression::more_arguments-returns-in_err-operand-clause-gives
 expression::more_arguments-returns-in_err-operand-clause-gives t c =
     let p = err_from_is_err_and c.from_residual-in_err-operand.result c.from_residual-in_err-operand.ensures.1 in
     rw (p.1, p.2) (fails (more_arguments c.args.close ∷ []) (of_expressions c.args.items ∷ []) c.args.tokens.now (operand 6 ∷ []) [] c.take.new.tokens _
-    (λ k vs. (act adds_expression ∷ more_arguments c.args.close ∷ k, of_expressions c.loop-alloc.items ∷ vs,
-        c.loop-alloc.invariant.told k vs
-        ∙ more_arguments_run c.args.close c.loop-alloc.tokens (sym c.stands.ensures ∙ c.loop-alloc-test.true) k (of_expressions c.loop-alloc.items ∷ vs)
-        ∙ c.in_ok-take.ensures.gives (operand 6 ∷ act adds_expression ∷ more_arguments c.args.close ∷ k) (of_expressions c.loop-alloc.items ∷ vs))) c.in_err-operand.ensures.gives)
+    (λ k vs. (
+      act adds_expression ∷ more_arguments c.args.close ∷ k,
+      of_expressions c.loop-alloc.items ∷ vs,
+      c.loop-alloc.invariant.told k vs
+          ∙ more_arguments_run c.args.close c.loop-alloc.tokens (sym c.stands.ensures ∙ c.loop-alloc-test.true) k (of_expressions c.loop-alloc.items ∷ vs)
+          ∙ c.in_ok-take.ensures.gives (operand 6 ∷ act adds_expression ∷ more_arguments c.args.close ∷ k) (of_expressions c.loop-alloc.items ∷ vs),
+    )) c.in_err-operand.ensures.gives)
 
 pub expression::more_arguments-loop-alloc-preserved : goal.expression::more_arguments-loop-alloc-preserved
 expression::more_arguments-loop-alloc-preserved t c = record {
@@ -126,19 +132,22 @@ expression::operand-loop-joint-init t c = record {
 pub expression::operand-returns-then-left-eq0-clause-gives : goal.expression::operand-returns-then-left-eq0-clause-gives
 expression::operand-returns-then-left-eq0-clause-gives t c =
     rw c.unexpected.ensures (λ k vs.
-      ap fault_in (c.loop-joint.invariant.told k vs)
-      ∙ ap (λ n. fault_in (reading c.loop-joint.tokens (tail c.args.level n ∷ k) (of_expression c.loop-joint.value ∷ vs))) c.if-left-eq0.true
-      ∙ joint_stuck c.args.level c.loop-joint.tokens c.in-Some.joint (sym c.joint_at.ensures ∙ c.in-Some.is) k (of_expression c.loop-joint.value ∷ vs))
+    ap fault_in (c.loop-joint.invariant.told k vs)
+    ∙ ap (λ n. fault_in (reading c.loop-joint.tokens (tail c.args.level n ∷ k) (of_expression c.loop-joint.value ∷ vs))) c.if-left-eq0.true
+    ∙ joint_stuck c.args.level c.loop-joint.tokens c.in-Some.joint (sym c.joint_at.ensures ∙ c.in-Some.is) k (of_expression c.loop-joint.value ∷ vs))
 
 pub expression::operand-returns-in_err-right-clause-gives : goal.expression::operand-returns-in_err-right-clause-gives
 expression::operand-returns-in_err-right-clause-gives t c =
     let p = err_from_is_err_and c.from_residual-in_err-right.result c.from_residual-in_err-right.ensures.1 in
     let s : c.skip.new.self ≡ rest_of c.loop-joint.tokens = c.skip.ensures in
     rw (p.1, p.2) (fails (operand c.args.level ∷ []) [] c.args.tokens.now (operand (c.args.level - 1) ∷ []) [] c.skip.new.self _
-    (λ k vs. (act (joined_by c.in-Some.joint) ∷ tail c.args.level (c.loop-joint.left - 1) ∷ k, of_expression c.loop-joint.value ∷ vs,
+    (λ k vs. (
+      act (joined_by c.in-Some.joint) ∷ tail c.args.level (c.loop-joint.left - 1) ∷ k,
+      of_expression c.loop-joint.value ∷ vs,
       c.loop-joint.invariant.told k vs
-      ∙ joint_runs c.args.level c.loop-joint.left c.loop-joint.tokens c.in-Some.joint (sym c.joint_at.ensures ∙ c.in-Some.is) c.loop-joint.invariant.big (omega arith) k (of_expression c.loop-joint.value ∷ vs)
-      ∙ ap (λ ts. reading ts (operand (c.args.level - 1) ∷ act (joined_by c.in-Some.joint) ∷ tail c.args.level (c.loop-joint.left - 1) ∷ k) (of_expression c.loop-joint.value ∷ vs)) (sym s))) c.in_err-right.ensures.gives)
+          ∙ joint_runs c.args.level c.loop-joint.left c.loop-joint.tokens c.in-Some.joint (sym c.joint_at.ensures ∙ c.in-Some.is) c.loop-joint.invariant.big (omega arith) k (of_expression c.loop-joint.value ∷ vs)
+          ∙ ap (λ ts. reading ts (operand (c.args.level - 1) ∷ act (joined_by c.in-Some.joint) ∷ tail c.args.level (c.loop-joint.left - 1) ∷ k) (of_expression c.loop-joint.value ∷ vs)) (sym s),
+    )) c.in_err-right.ensures.gives)
 
 pub expression::operand-loop-joint-preserved : goal.expression::operand-loop-joint-preserved
 expression::operand-loop-joint-preserved t c =
@@ -165,9 +174,12 @@ expression::prefixed-returns-in_err-value-clause-gives t c =
     let p = err_from_is_err_and c.from_residual.result c.from_residual.ensures.1 in
     let s : c.skip.new.self ≡ rest_of c.args.tokens.now = c.skip.ensures in
     rw (p.1, p.2) (fails (prefixes c.args.left ∷ []) [] c.args.tokens.now (prefixes (c.args.left - 1) ∷ []) [] c.skip.new.self _
-    (λ k vs. (act (prefixed c.in-Some.at c.in-Some.operator) ∷ k, vs,
+    (λ k vs. (
+      act (prefixed c.in-Some.at c.in-Some.operator) ∷ k,
+      vs,
       prefix_runs c.args.left c.args.tokens.now (c.in-Some.at, c.in-Some.operator) (sym c.prefix_at.ensures ∙ c.in-Some.is) (omega arith) k vs
-      ∙ ap (λ ts. reading ts (prefixes (c.args.left - 1) ∷ act (prefixed c.in-Some.at c.in-Some.operator) ∷ k) vs) (sym s))) c.in_err-value.ensures.gives)
+          ∙ ap (λ ts. reading ts (prefixes (c.args.left - 1) ∷ act (prefixed c.in-Some.at c.in-Some.operator) ∷ k) vs) (sym s),
+    )) c.in_err-value.ensures.gives)
 
 pub expression::prefixed-returns-clause-gives : goal.expression::prefixed-returns-clause-gives
 expression::prefixed-returns-clause-gives t c = λ k vs.
@@ -254,11 +266,13 @@ query::insert-returns-in_err-operand-clause-gives t c =
     let p = err_from_is_err_and c.from_residual-in_err-operand.result c.from_residual-in_err-operand.ensures.1 in
     rw (p.1, p.2) (fails (a_name ∷ word w.Open ∷ act (puts (of_expressions [])) ∷ operand 6 ∷ act adds_expression ∷ more_arguments w.Close ∷ word w.Semicolon ∷ act (inserted c.args.at) ∷ []) [] c.args.tokens.now (operand 6 ∷ []) [] c.take.new.tokens _
     (λ k vs.
-      let l : List Symbol = act adds_expression ∷ more_arguments w.Close ∷ word w.Semicolon ∷ act (inserted c.args.at) ∷ k in
-      (l, of_expressions [] ∷ of_name c.in_ok-table.table ∷ vs,
-        c.in_ok-table.ensures.gives (word w.Open ∷ act (puts (of_expressions [])) ∷ operand 6 ∷ l) vs
-        ∙ c.in_ok-take.ensures.gives (act (puts (of_expressions [])) ∷ operand 6 ∷ l) (of_name c.in_ok-table.table ∷ vs)
-        ∙ act_runs (puts (of_expressions [])) c.take.new.tokens (operand 6 ∷ l) (of_name c.in_ok-table.table ∷ vs))) c.in_err-operand.ensures.gives)
+    let l : List Symbol = act adds_expression ∷ more_arguments w.Close ∷ word w.Semicolon ∷ act (inserted c.args.at) ∷ k in (
+      l,
+      of_expressions [] ∷ of_name c.in_ok-table.table ∷ vs,
+      c.in_ok-table.ensures.gives (word w.Open ∷ act (puts (of_expressions [])) ∷ operand 6 ∷ l) vs
+          ∙ c.in_ok-take.ensures.gives (act (puts (of_expressions [])) ∷ operand 6 ∷ l) (of_name c.in_ok-table.table ∷ vs)
+          ∙ act_runs (puts (of_expressions [])) c.take.new.tokens (operand 6 ∷ l) (of_name c.in_ok-table.table ∷ vs),
+    )) c.in_err-operand.ensures.gives)
 
 pub query::insert-returns-in_err-row-clause-gives : goal.query::insert-returns-in_err-row-clause-gives
 query::insert-returns-in_err-row-clause-gives t c =
@@ -266,15 +280,17 @@ query::insert-returns-in_err-row-clause-gives t c =
     let pushed : c.push.new.self ≡ c.in_ok-operand.field-0 ∷ [] = c.in_ok-push.ensures.ok ∙ ap (λ l. l ++ c.in_ok-operand.field-0 ∷ []) c.new-row.ensures in
     rw (p.1, p.2) (fails (a_name ∷ word w.Open ∷ act (puts (of_expressions [])) ∷ operand 6 ∷ act adds_expression ∷ more_arguments w.Close ∷ word w.Semicolon ∷ act (inserted c.args.at) ∷ []) [] c.args.tokens.now (more_arguments w.Close ∷ []) (of_expressions c.push.new.self ∷ []) c.operand.new.tokens _
     (λ k vs.
-      let l : List Symbol = word w.Semicolon ∷ act (inserted c.args.at) ∷ k in
-      let us : List Val = of_name c.in_ok-table.table ∷ vs in
-      (l, us,
-        c.in_ok-table.ensures.gives (word w.Open ∷ act (puts (of_expressions [])) ∷ operand 6 ∷ act adds_expression ∷ more_arguments w.Close ∷ l) vs
-        ∙ c.in_ok-take.ensures.gives (act (puts (of_expressions [])) ∷ operand 6 ∷ act adds_expression ∷ more_arguments w.Close ∷ l) us
-        ∙ act_runs (puts (of_expressions [])) c.take.new.tokens (operand 6 ∷ act adds_expression ∷ more_arguments w.Close ∷ l) us
-        ∙ c.in_ok-operand.ensures.gives (act adds_expression ∷ more_arguments w.Close ∷ l) (of_expressions [] ∷ us)
-        ∙ act_runs adds_expression c.operand.new.tokens (more_arguments w.Close ∷ l) (of_expression c.in_ok-operand.field-0 ∷ of_expressions [] ∷ us)
-        ∙ ap (λ es. reading c.operand.new.tokens (more_arguments w.Close ∷ l) (of_expressions es ∷ us)) (sym pushed))) c.in_err-row.ensures.gives)
+    let l : List Symbol = word w.Semicolon ∷ act (inserted c.args.at) ∷ k in
+    let us : List Val = of_name c.in_ok-table.table ∷ vs in (
+      l,
+      us,
+      c.in_ok-table.ensures.gives (word w.Open ∷ act (puts (of_expressions [])) ∷ operand 6 ∷ act adds_expression ∷ more_arguments w.Close ∷ l) vs
+          ∙ c.in_ok-take.ensures.gives (act (puts (of_expressions [])) ∷ operand 6 ∷ act adds_expression ∷ more_arguments w.Close ∷ l) us
+          ∙ act_runs (puts (of_expressions [])) c.take.new.tokens (operand 6 ∷ act adds_expression ∷ more_arguments w.Close ∷ l) us
+          ∙ c.in_ok-operand.ensures.gives (act adds_expression ∷ more_arguments w.Close ∷ l) (of_expressions [] ∷ us)
+          ∙ act_runs adds_expression c.operand.new.tokens (more_arguments w.Close ∷ l) (of_expression c.in_ok-operand.field-0 ∷ of_expressions [] ∷ us)
+          ∙ ap (λ es. reading c.operand.new.tokens (more_arguments w.Close ∷ l) (of_expressions es ∷ us)) (sym pushed),
+    )) c.in_err-row.ensures.gives)
 
 pub query::insert-returns-in_err-take-2-clause-gives : goal.query::insert-returns-in_err-take-2-clause-gives
 query::insert-returns-in_err-take-2-clause-gives t c =
@@ -282,16 +298,18 @@ query::insert-returns-in_err-take-2-clause-gives t c =
     let pushed : c.push.new.self ≡ c.in_ok-operand.field-0 ∷ [] = c.in_ok-push.ensures.ok ∙ ap (λ l. l ++ c.in_ok-operand.field-0 ∷ []) c.new-row.ensures in
     rw (p.1, p.2) (fails (a_name ∷ word w.Open ∷ act (puts (of_expressions [])) ∷ operand 6 ∷ act adds_expression ∷ more_arguments w.Close ∷ word w.Semicolon ∷ act (inserted c.args.at) ∷ []) [] c.args.tokens.now (word w.Semicolon ∷ []) [] c.more_arguments.new.tokens _
     (λ k vs.
-      let l : List Symbol = word w.Semicolon ∷ act (inserted c.args.at) ∷ k in
-      let us : List Val = of_name c.in_ok-table.table ∷ vs in
-      (act (inserted c.args.at) ∷ k, of_expressions c.in_ok-row.row ∷ us,
-        c.in_ok-table.ensures.gives (word w.Open ∷ act (puts (of_expressions [])) ∷ operand 6 ∷ act adds_expression ∷ more_arguments w.Close ∷ l) vs
-        ∙ c.in_ok-take.ensures.gives (act (puts (of_expressions [])) ∷ operand 6 ∷ act adds_expression ∷ more_arguments w.Close ∷ l) us
-        ∙ act_runs (puts (of_expressions [])) c.take.new.tokens (operand 6 ∷ act adds_expression ∷ more_arguments w.Close ∷ l) us
-        ∙ c.in_ok-operand.ensures.gives (act adds_expression ∷ more_arguments w.Close ∷ l) (of_expressions [] ∷ us)
-        ∙ act_runs adds_expression c.operand.new.tokens (more_arguments w.Close ∷ l) (of_expression c.in_ok-operand.field-0 ∷ of_expressions [] ∷ us)
-        ∙ ap (λ es. reading c.operand.new.tokens (more_arguments w.Close ∷ l) (of_expressions es ∷ us)) (sym pushed)
-        ∙ c.in_ok-row.ensures.gives l us)) c.in_err-take-2.ensures.gives)
+    let l : List Symbol = word w.Semicolon ∷ act (inserted c.args.at) ∷ k in
+    let us : List Val = of_name c.in_ok-table.table ∷ vs in (
+      act (inserted c.args.at) ∷ k,
+      of_expressions c.in_ok-row.row ∷ us,
+      c.in_ok-table.ensures.gives (word w.Open ∷ act (puts (of_expressions [])) ∷ operand 6 ∷ act adds_expression ∷ more_arguments w.Close ∷ l) vs
+          ∙ c.in_ok-take.ensures.gives (act (puts (of_expressions [])) ∷ operand 6 ∷ act adds_expression ∷ more_arguments w.Close ∷ l) us
+          ∙ act_runs (puts (of_expressions [])) c.take.new.tokens (operand 6 ∷ act adds_expression ∷ more_arguments w.Close ∷ l) us
+          ∙ c.in_ok-operand.ensures.gives (act adds_expression ∷ more_arguments w.Close ∷ l) (of_expressions [] ∷ us)
+          ∙ act_runs adds_expression c.operand.new.tokens (more_arguments w.Close ∷ l) (of_expression c.in_ok-operand.field-0 ∷ of_expressions [] ∷ us)
+          ∙ ap (λ es. reading c.operand.new.tokens (more_arguments w.Close ∷ l) (of_expressions es ∷ us)) (sym pushed)
+          ∙ c.in_ok-row.ensures.gives l us,
+    )) c.in_err-take-2.ensures.gives)
 
 pub query::insert-returns-clause-gives : goal.query::insert-returns-clause-gives
 query::insert-returns-clause-gives t c = λ k vs.
@@ -314,11 +332,13 @@ query::select-returns-in_err-columns-clause-gives t c =
     let pushed : c.push.new.self ≡ c.in_ok-name.field-0 ∷ [] = c.in_ok-push.ensures.ok ∙ ap (λ l. l ++ c.in_ok-name.field-0 ∷ []) c.new-columns.ensures in
     rw (p.1, p.2) (fails (a_name ∷ act adds_name ∷ more_names w.From ∷ a_name ∷ filtered (act (selected c.args.at) ∷ [])) (of_names [] ∷ []) c.args.tokens.now (more_names w.From ∷ []) (of_names c.push.new.self ∷ []) c.name.new.tokens _
     (λ k vs.
-      let l : List Symbol = a_name ∷ filtered (act (selected c.args.at) ∷ k) in
-      (l, vs,
-        c.in_ok-name.ensures.gives (act adds_name ∷ more_names w.From ∷ l) (of_names [] ∷ vs)
-        ∙ act_runs adds_name c.name.new.tokens (more_names w.From ∷ l) (of_name c.in_ok-name.field-0 ∷ of_names [] ∷ vs)
-        ∙ ap (λ xs. reading c.name.new.tokens (more_names w.From ∷ l) (of_names xs ∷ vs)) (sym pushed))) c.in_err-columns.ensures.gives)
+    let l : List Symbol = a_name ∷ filtered (act (selected c.args.at) ∷ k) in (
+      l,
+      vs,
+      c.in_ok-name.ensures.gives (act adds_name ∷ more_names w.From ∷ l) (of_names [] ∷ vs)
+          ∙ act_runs adds_name c.name.new.tokens (more_names w.From ∷ l) (of_name c.in_ok-name.field-0 ∷ of_names [] ∷ vs)
+          ∙ ap (λ xs. reading c.name.new.tokens (more_names w.From ∷ l) (of_names xs ∷ vs)) (sym pushed),
+    )) c.in_err-columns.ensures.gives)
 
 pub query::select-returns-in_err-table-clause-gives : goal.query::select-returns-in_err-table-clause-gives
 query::select-returns-in_err-table-clause-gives t c =
@@ -326,12 +346,14 @@ query::select-returns-in_err-table-clause-gives t c =
     let pushed : c.push.new.self ≡ c.in_ok-name.field-0 ∷ [] = c.in_ok-push.ensures.ok ∙ ap (λ l. l ++ c.in_ok-name.field-0 ∷ []) c.new-columns.ensures in
     rw (p.1, p.2) (fails (a_name ∷ act adds_name ∷ more_names w.From ∷ a_name ∷ filtered (act (selected c.args.at) ∷ [])) (of_names [] ∷ []) c.args.tokens.now (a_name ∷ []) [] c.more_names.new.tokens _
     (λ k vs.
-      let l : List Symbol = a_name ∷ filtered (act (selected c.args.at) ∷ k) in
-      (filtered (act (selected c.args.at) ∷ k), of_names c.in_ok-columns.columns ∷ vs,
-        c.in_ok-name.ensures.gives (act adds_name ∷ more_names w.From ∷ l) (of_names [] ∷ vs)
-        ∙ act_runs adds_name c.name.new.tokens (more_names w.From ∷ l) (of_name c.in_ok-name.field-0 ∷ of_names [] ∷ vs)
-        ∙ ap (λ xs. reading c.name.new.tokens (more_names w.From ∷ l) (of_names xs ∷ vs)) (sym pushed)
-        ∙ c.in_ok-columns.ensures.gives l vs)) c.in_err-table.ensures.gives)
+    let l : List Symbol = a_name ∷ filtered (act (selected c.args.at) ∷ k) in (
+      filtered (act (selected c.args.at) ∷ k),
+      of_names c.in_ok-columns.columns ∷ vs,
+      c.in_ok-name.ensures.gives (act adds_name ∷ more_names w.From ∷ l) (of_names [] ∷ vs)
+          ∙ act_runs adds_name c.name.new.tokens (more_names w.From ∷ l) (of_name c.in_ok-name.field-0 ∷ of_names [] ∷ vs)
+          ∙ ap (λ xs. reading c.name.new.tokens (more_names w.From ∷ l) (of_names xs ∷ vs)) (sym pushed)
+          ∙ c.in_ok-columns.ensures.gives l vs,
+    )) c.in_err-table.ensures.gives)
 
 pub query::select-returns-in_err-tests-clause-gives : goal.query::select-returns-in_err-tests-clause-gives
 query::select-returns-in_err-tests-clause-gives t c =
@@ -339,13 +361,15 @@ query::select-returns-in_err-tests-clause-gives t c =
     let pushed : c.push.new.self ≡ c.in_ok-name.field-0 ∷ [] = c.in_ok-push.ensures.ok ∙ ap (λ l. l ++ c.in_ok-name.field-0 ∷ []) c.new-columns.ensures in
     rw (p.1, p.2) (fails (a_name ∷ act adds_name ∷ more_names w.From ∷ a_name ∷ filtered (act (selected c.args.at) ∷ [])) (of_names [] ∷ []) c.args.tokens.now (filtered []) [] c.name-2.new.tokens _
     (λ k vs.
-      let l : List Symbol = a_name ∷ filtered (act (selected c.args.at) ∷ k) in
-      (act (selected c.args.at) ∷ k, of_name c.in_ok-table.table ∷ of_names c.in_ok-columns.columns ∷ vs,
-        c.in_ok-name.ensures.gives (act adds_name ∷ more_names w.From ∷ l) (of_names [] ∷ vs)
-        ∙ act_runs adds_name c.name.new.tokens (more_names w.From ∷ l) (of_name c.in_ok-name.field-0 ∷ of_names [] ∷ vs)
-        ∙ ap (λ xs. reading c.name.new.tokens (more_names w.From ∷ l) (of_names xs ∷ vs)) (sym pushed)
-        ∙ c.in_ok-columns.ensures.gives l vs
-        ∙ c.in_ok-table.ensures.gives (filtered (act (selected c.args.at) ∷ k)) (of_names c.in_ok-columns.columns ∷ vs))) c.in_err-tests.ensures.gives)
+    let l : List Symbol = a_name ∷ filtered (act (selected c.args.at) ∷ k) in (
+      act (selected c.args.at) ∷ k,
+      of_name c.in_ok-table.table ∷ of_names c.in_ok-columns.columns ∷ vs,
+      c.in_ok-name.ensures.gives (act adds_name ∷ more_names w.From ∷ l) (of_names [] ∷ vs)
+          ∙ act_runs adds_name c.name.new.tokens (more_names w.From ∷ l) (of_name c.in_ok-name.field-0 ∷ of_names [] ∷ vs)
+          ∙ ap (λ xs. reading c.name.new.tokens (more_names w.From ∷ l) (of_names xs ∷ vs)) (sym pushed)
+          ∙ c.in_ok-columns.ensures.gives l vs
+          ∙ c.in_ok-table.ensures.gives (filtered (act (selected c.args.at) ∷ k)) (of_names c.in_ok-columns.columns ∷ vs),
+    )) c.in_err-tests.ensures.gives)
 
 pub query::select-returns-clause-gives : goal.query::select-returns-clause-gives
 query::select-returns-clause-gives t c = λ k vs.
@@ -387,9 +411,11 @@ query::transact-returns-in_err-query-2-clause-gives t c =
     let p = err_from_is_err_and c.from_residual-in_err-query-2.result c.from_residual-in_err-query-2.ensures.1 in
     rw (p.1, p.2) (fails (word w.BraceOpen ∷ a_query ∷ act adds_query ∷ more_queries ∷ act (transacted c.args.at) ∷ []) (of_queries [] ∷ []) c.args.tokens.now (a_query ∷ []) [] c.loop-alloc.tokens _
     (λ k vs.
-      let l : List Symbol = act (transacted c.args.at) ∷ k in
-      (act adds_query ∷ more_queries ∷ l, of_queries c.loop-alloc.queries ∷ vs,
-        c.loop-alloc.invariant.told l vs ∙ more_queries_run c.loop-alloc.tokens (sym c.stands.ensures ∙ c.loop-alloc-test.true) l (of_queries c.loop-alloc.queries ∷ vs))) c.in_err-query-2.ensures.gives)
+    let l : List Symbol = act (transacted c.args.at) ∷ k in (
+      act adds_query ∷ more_queries ∷ l,
+      of_queries c.loop-alloc.queries ∷ vs,
+      c.loop-alloc.invariant.told l vs ∙ more_queries_run c.loop-alloc.tokens (sym c.stands.ensures ∙ c.loop-alloc-test.true) l (of_queries c.loop-alloc.queries ∷ vs),
+    )) c.in_err-query-2.ensures.gives)
 
 pub query::transact-loop-alloc-preserved : goal.query::transact-loop-alloc-preserved
 query::transact-loop-alloc-preserved t c = record {
@@ -418,12 +444,12 @@ query::tests-returns-clause-gives t c =
     let s : c.skip.new.self ≡ rest_of c.args.tokens.now = c.skip.ensures in
     follows tests_value (act (puts (of_tests [])) ∷ filter ∷ []) [] c.args.tokens.now (more_tests ∷ []) (tests_value c.push.new.self) c.test.new.tokens c.more_tests.new.tokens c.more_tests.result
     (λ k vs.
-      act_runs (puts (of_tests [])) c.args.tokens.now (filter ∷ k) vs
-      ∙ filter_runs c.args.tokens.now (sym c.stands.ensures ∙ c.if-not-stands.false) k (of_tests [] ∷ vs)
-      ∙ ap (λ ts. reading ts (test (more_tests ∷ k)) (of_tests [] ∷ vs)) (sym s)
-      ∙ c.in_ok-test.ensures.gives (act adds_test ∷ more_tests ∷ k) (of_tests [] ∷ vs)
-      ∙ act_runs adds_test c.test.new.tokens (more_tests ∷ k) (of_expression x.value ∷ of_comparison x.comparison ∷ of_name x.column ∷ of_tests [] ∷ vs)
-      ∙ ap (λ l. reading c.test.new.tokens (more_tests ∷ k) (of_tests (map condition_of l) ∷ vs)) (sym pushed)) c.more_tests.ensures.gives
+    act_runs (puts (of_tests [])) c.args.tokens.now (filter ∷ k) vs
+    ∙ filter_runs c.args.tokens.now (sym c.stands.ensures ∙ c.if-not-stands.false) k (of_tests [] ∷ vs)
+    ∙ ap (λ ts. reading ts (test (more_tests ∷ k)) (of_tests [] ∷ vs)) (sym s)
+    ∙ c.in_ok-test.ensures.gives (act adds_test ∷ more_tests ∷ k) (of_tests [] ∷ vs)
+    ∙ act_runs adds_test c.test.new.tokens (more_tests ∷ k) (of_expression x.value ∷ of_comparison x.comparison ∷ of_name x.column ∷ of_tests [] ∷ vs)
+    ∙ ap (λ l. reading c.test.new.tokens (more_tests ∷ k) (of_tests (map condition_of l) ∷ vs)) (sym pushed)) c.more_tests.ensures.gives
 
 pub query::query_of-returns-in-Insert-clause-gives : goal.query::query_of-returns-in-Insert-clause-gives
 query::query_of-returns-in-Insert-clause-gives t c =

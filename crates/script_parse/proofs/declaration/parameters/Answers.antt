@@ -17,7 +17,7 @@ returns-clause-gives c =
     let pushed : c.push.new.self ≡ c.in_ok-name.field-0 ∷ [] = c.in_ok-push.ensures.ok ∙ ap (λ l. l ++ c.in_ok-name.field-0 ∷ []) c.new-names.ensures in
     follows names_value (parameters ∷ []) (of_names [] ∷ []) c.args.tokens.now (more_names w.Close ∷ []) (of_names c.push.new.self ∷ []) c.name.new.tokens c.more_names.new.tokens c.more_names.result
     (λ k vs.
-      parameters_run c.args.tokens.now (sym c.stands.ensures ∙ c.if-stands.false) k (of_names [] ∷ vs)
-      ∙ c.in_ok-name.ensures.gives (act adds_name ∷ more_names w.Close ∷ k) (of_names [] ∷ vs)
-      ∙ act_runs adds_name c.name.new.tokens (more_names w.Close ∷ k) (of_name c.in_ok-name.field-0 ∷ of_names [] ∷ vs)
-      ∙ ap (λ xs. reading c.name.new.tokens (more_names w.Close ∷ k) (of_names xs ∷ vs)) (sym pushed)) c.more_names.ensures.gives
+    parameters_run c.args.tokens.now (sym c.stands.ensures ∙ c.if-stands.false) k (of_names [] ∷ vs)
+    ∙ c.in_ok-name.ensures.gives (act adds_name ∷ more_names w.Close ∷ k) (of_names [] ∷ vs)
+    ∙ act_runs adds_name c.name.new.tokens (more_names w.Close ∷ k) (of_name c.in_ok-name.field-0 ∷ of_names [] ∷ vs)
+    ∙ ap (λ xs. reading c.name.new.tokens (more_names w.Close ∷ k) (of_names xs ∷ vs)) (sym pushed)) c.more_names.ensures.gives

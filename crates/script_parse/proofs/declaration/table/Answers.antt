@@ -11,12 +11,14 @@ returns-in_err-name-clause-gives c =
     let p = err_from_is_err_and c.from_residual-in_err-name.result c.from_residual-in_err-name.ensures.1 in
     rw (p.1, p.2) (fails (a_name ∷ word w.Open ∷ act (puts (of_names [])) ∷ a_name ∷ act adds_name ∷ more_names w.Close ∷ word w.Semicolon ∷ act (tabled c.args.at) ∷ []) [] c.args.tokens.now (a_name ∷ []) [] c.take.new.tokens _
     (λ k vs.
-      let l : List Symbol = word w.Semicolon ∷ act (tabled c.args.at) ∷ k in
-      let us : List Val = of_name c.in_ok-table.table ∷ vs in
-      (act adds_name ∷ more_names w.Close ∷ l, of_names [] ∷ us,
-        c.in_ok-table.ensures.gives (word w.Open ∷ act (puts (of_names [])) ∷ a_name ∷ act adds_name ∷ more_names w.Close ∷ l) vs
-        ∙ c.in_ok-take.ensures.gives (act (puts (of_names [])) ∷ a_name ∷ act adds_name ∷ more_names w.Close ∷ l) us
-        ∙ act_runs (puts (of_names [])) c.take.new.tokens (a_name ∷ act adds_name ∷ more_names w.Close ∷ l) us)) c.in_err-name.ensures.gives)
+    let l : List Symbol = word w.Semicolon ∷ act (tabled c.args.at) ∷ k in
+    let us : List Val = of_name c.in_ok-table.table ∷ vs in (
+      act adds_name ∷ more_names w.Close ∷ l,
+      of_names [] ∷ us,
+      c.in_ok-table.ensures.gives (word w.Open ∷ act (puts (of_names [])) ∷ a_name ∷ act adds_name ∷ more_names w.Close ∷ l) vs
+          ∙ c.in_ok-take.ensures.gives (act (puts (of_names [])) ∷ a_name ∷ act adds_name ∷ more_names w.Close ∷ l) us
+          ∙ act_runs (puts (of_names [])) c.take.new.tokens (a_name ∷ act adds_name ∷ more_names w.Close ∷ l) us,
+    )) c.in_err-name.ensures.gives)
 
 pub returns-in_err-columns-clause-gives : goal.returns-in_err-columns-clause-gives
 returns-in_err-columns-clause-gives c =
@@ -24,15 +26,17 @@ returns-in_err-columns-clause-gives c =
     let pushed : c.push.new.self ≡ c.in_ok-name.field-0 ∷ [] = c.in_ok-push.ensures.ok ∙ ap (λ l. l ++ c.in_ok-name.field-0 ∷ []) c.new-columns.ensures in
     rw (p.1, p.2) (fails (a_name ∷ word w.Open ∷ act (puts (of_names [])) ∷ a_name ∷ act adds_name ∷ more_names w.Close ∷ word w.Semicolon ∷ act (tabled c.args.at) ∷ []) [] c.args.tokens.now (more_names w.Close ∷ []) (of_names c.push.new.self ∷ []) c.name-2.new.tokens _
     (λ k vs.
-      let l : List Symbol = word w.Semicolon ∷ act (tabled c.args.at) ∷ k in
-      let us : List Val = of_name c.in_ok-table.table ∷ vs in
-      (l, us,
-        c.in_ok-table.ensures.gives (word w.Open ∷ act (puts (of_names [])) ∷ a_name ∷ act adds_name ∷ more_names w.Close ∷ l) vs
-        ∙ c.in_ok-take.ensures.gives (act (puts (of_names [])) ∷ a_name ∷ act adds_name ∷ more_names w.Close ∷ l) us
-        ∙ act_runs (puts (of_names [])) c.take.new.tokens (a_name ∷ act adds_name ∷ more_names w.Close ∷ l) us
-        ∙ c.in_ok-name.ensures.gives (act adds_name ∷ more_names w.Close ∷ l) (of_names [] ∷ us)
-        ∙ act_runs adds_name c.name-2.new.tokens (more_names w.Close ∷ l) (of_name c.in_ok-name.field-0 ∷ of_names [] ∷ us)
-        ∙ ap (λ xs. reading c.name-2.new.tokens (more_names w.Close ∷ l) (of_names xs ∷ us)) (sym pushed))) c.in_err-columns.ensures.gives)
+    let l : List Symbol = word w.Semicolon ∷ act (tabled c.args.at) ∷ k in
+    let us : List Val = of_name c.in_ok-table.table ∷ vs in (
+      l,
+      us,
+      c.in_ok-table.ensures.gives (word w.Open ∷ act (puts (of_names [])) ∷ a_name ∷ act adds_name ∷ more_names w.Close ∷ l) vs
+          ∙ c.in_ok-take.ensures.gives (act (puts (of_names [])) ∷ a_name ∷ act adds_name ∷ more_names w.Close ∷ l) us
+          ∙ act_runs (puts (of_names [])) c.take.new.tokens (a_name ∷ act adds_name ∷ more_names w.Close ∷ l) us
+          ∙ c.in_ok-name.ensures.gives (act adds_name ∷ more_names w.Close ∷ l) (of_names [] ∷ us)
+          ∙ act_runs adds_name c.name-2.new.tokens (more_names w.Close ∷ l) (of_name c.in_ok-name.field-0 ∷ of_names [] ∷ us)
+          ∙ ap (λ xs. reading c.name-2.new.tokens (more_names w.Close ∷ l) (of_names xs ∷ us)) (sym pushed),
+    )) c.in_err-columns.ensures.gives)
 
 pub returns-in_err-take-2-clause-gives : goal.returns-in_err-take-2-clause-gives
 returns-in_err-take-2-clause-gives c =
@@ -40,16 +44,18 @@ returns-in_err-take-2-clause-gives c =
     let pushed : c.push.new.self ≡ c.in_ok-name.field-0 ∷ [] = c.in_ok-push.ensures.ok ∙ ap (λ l. l ++ c.in_ok-name.field-0 ∷ []) c.new-columns.ensures in
     rw (p.1, p.2) (fails (a_name ∷ word w.Open ∷ act (puts (of_names [])) ∷ a_name ∷ act adds_name ∷ more_names w.Close ∷ word w.Semicolon ∷ act (tabled c.args.at) ∷ []) [] c.args.tokens.now (word w.Semicolon ∷ []) [] c.more_names.new.tokens _
     (λ k vs.
-      let l : List Symbol = word w.Semicolon ∷ act (tabled c.args.at) ∷ k in
-      let us : List Val = of_name c.in_ok-table.table ∷ vs in
-      (act (tabled c.args.at) ∷ k, of_names c.in_ok-columns.columns ∷ us,
-        c.in_ok-table.ensures.gives (word w.Open ∷ act (puts (of_names [])) ∷ a_name ∷ act adds_name ∷ more_names w.Close ∷ l) vs
-        ∙ c.in_ok-take.ensures.gives (act (puts (of_names [])) ∷ a_name ∷ act adds_name ∷ more_names w.Close ∷ l) us
-        ∙ act_runs (puts (of_names [])) c.take.new.tokens (a_name ∷ act adds_name ∷ more_names w.Close ∷ l) us
-        ∙ c.in_ok-name.ensures.gives (act adds_name ∷ more_names w.Close ∷ l) (of_names [] ∷ us)
-        ∙ act_runs adds_name c.name-2.new.tokens (more_names w.Close ∷ l) (of_name c.in_ok-name.field-0 ∷ of_names [] ∷ us)
-        ∙ ap (λ xs. reading c.name-2.new.tokens (more_names w.Close ∷ l) (of_names xs ∷ us)) (sym pushed)
-        ∙ c.in_ok-columns.ensures.gives l us)) c.in_err-take-2.ensures.gives)
+    let l : List Symbol = word w.Semicolon ∷ act (tabled c.args.at) ∷ k in
+    let us : List Val = of_name c.in_ok-table.table ∷ vs in (
+      act (tabled c.args.at) ∷ k,
+      of_names c.in_ok-columns.columns ∷ us,
+      c.in_ok-table.ensures.gives (word w.Open ∷ act (puts (of_names [])) ∷ a_name ∷ act adds_name ∷ more_names w.Close ∷ l) vs
+          ∙ c.in_ok-take.ensures.gives (act (puts (of_names [])) ∷ a_name ∷ act adds_name ∷ more_names w.Close ∷ l) us
+          ∙ act_runs (puts (of_names [])) c.take.new.tokens (a_name ∷ act adds_name ∷ more_names w.Close ∷ l) us
+          ∙ c.in_ok-name.ensures.gives (act adds_name ∷ more_names w.Close ∷ l) (of_names [] ∷ us)
+          ∙ act_runs adds_name c.name-2.new.tokens (more_names w.Close ∷ l) (of_name c.in_ok-name.field-0 ∷ of_names [] ∷ us)
+          ∙ ap (λ xs. reading c.name-2.new.tokens (more_names w.Close ∷ l) (of_names xs ∷ us)) (sym pushed)
+          ∙ c.in_ok-columns.ensures.gives l us,
+    )) c.in_err-take-2.ensures.gives)
 
 pub returns-clause-gives : goal.returns-clause-gives
 returns-clause-gives c = λ k vs.
@@ -57,11 +63,11 @@ returns-clause-gives c = λ k vs.
     let l : List Symbol = word w.Semicolon ∷ act (tabled c.args.at) ∷ k in
     let us : List Val = of_name c.in_ok-table.table ∷ vs in
     c.in_ok-table.ensures.gives (word w.Open ∷ act (puts (of_names [])) ∷ a_name ∷ act adds_name ∷ more_names w.Close ∷ l) vs
-        ∙ c.in_ok-take.ensures.gives (act (puts (of_names [])) ∷ a_name ∷ act adds_name ∷ more_names w.Close ∷ l) us
-        ∙ act_runs (puts (of_names [])) c.take.new.tokens (a_name ∷ act adds_name ∷ more_names w.Close ∷ l) us
-        ∙ c.in_ok-name.ensures.gives (act adds_name ∷ more_names w.Close ∷ l) (of_names [] ∷ us)
-        ∙ act_runs adds_name c.name-2.new.tokens (more_names w.Close ∷ l) (of_name c.in_ok-name.field-0 ∷ of_names [] ∷ us)
-        ∙ ap (λ xs. reading c.name-2.new.tokens (more_names w.Close ∷ l) (of_names xs ∷ us)) (sym pushed)
-        ∙ c.in_ok-columns.ensures.gives l us
-        ∙ c.in_ok-take-2.ensures.gives (act (tabled c.args.at) ∷ k) (of_names c.in_ok-columns.columns ∷ us)
-        ∙ act_runs (tabled c.args.at) c.take-2.new.tokens k (of_names c.in_ok-columns.columns ∷ us)
+    ∙ c.in_ok-take.ensures.gives (act (puts (of_names [])) ∷ a_name ∷ act adds_name ∷ more_names w.Close ∷ l) us
+    ∙ act_runs (puts (of_names [])) c.take.new.tokens (a_name ∷ act adds_name ∷ more_names w.Close ∷ l) us
+    ∙ c.in_ok-name.ensures.gives (act adds_name ∷ more_names w.Close ∷ l) (of_names [] ∷ us)
+    ∙ act_runs adds_name c.name-2.new.tokens (more_names w.Close ∷ l) (of_name c.in_ok-name.field-0 ∷ of_names [] ∷ us)
+    ∙ ap (λ xs. reading c.name-2.new.tokens (more_names w.Close ∷ l) (of_names xs ∷ us)) (sym pushed)
+    ∙ c.in_ok-columns.ensures.gives l us
+    ∙ c.in_ok-take-2.ensures.gives (act (tabled c.args.at) ∷ k) (of_names c.in_ok-columns.columns ∷ us)
+    ∙ act_runs (tabled c.args.at) c.take-2.new.tokens k (of_names c.in_ok-columns.columns ∷ us)

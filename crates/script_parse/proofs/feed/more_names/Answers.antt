@@ -15,10 +15,13 @@ pub returns-in_err-name-clause-gives : goal.returns-in_err-name-clause-gives
 returns-in_err-name-clause-gives c =
     let p = err_from_is_err_and c.from_residual-in_err-name.result c.from_residual-in_err-name.ensures.1 in
     rw (p.1, p.2) (fails (more_names c.args.close ∷ []) (of_names c.args.names ∷ []) c.args.tokens.now (a_name ∷ []) [] c.take.new.tokens _
-    (λ k vs. (act adds_name ∷ more_names c.args.close ∷ k, of_names c.loop-alloc.names ∷ vs,
-        c.loop-alloc.invariant.told k vs
-        ∙ more_names_run c.args.close c.loop-alloc.tokens (sym c.stands.ensures ∙ c.loop-alloc-test.true) k (of_names c.loop-alloc.names ∷ vs)
-        ∙ c.in_ok-take.ensures.gives (a_name ∷ act adds_name ∷ more_names c.args.close ∷ k) (of_names c.loop-alloc.names ∷ vs))) c.in_err-name.ensures.gives)
+    (λ k vs. (
+      act adds_name ∷ more_names c.args.close ∷ k,
+      of_names c.loop-alloc.names ∷ vs,
+      c.loop-alloc.invariant.told k vs
+          ∙ more_names_run c.args.close c.loop-alloc.tokens (sym c.stands.ensures ∙ c.loop-alloc-test.true) k (of_names c.loop-alloc.names ∷ vs)
+          ∙ c.in_ok-take.ensures.gives (a_name ∷ act adds_name ∷ more_names c.args.close ∷ k) (of_names c.loop-alloc.names ∷ vs),
+    )) c.in_err-name.ensures.gives)
 
 pub loop-alloc-preserved : goal.loop-alloc-preserved
 loop-alloc-preserved c = record {

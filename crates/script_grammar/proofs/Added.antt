@@ -1,5 +1,5 @@
 -- Lists that are read member by member.
-use Rattle.std.proofs.Common.{◌≡◌, ℕ, List, [], ◌∷◌, ◌++◌, refl, sym, ap, ◌∙◌, append_assoc, append-nil}
+use Rattle.std.proofs.Common.{◌≡◌, List, [], ◌∷◌, ◌++◌, refl, sym, ap, ◌∙◌, append_assoc, append-nil}
 use Rattle.script_tree.specs.Syntax.{Expression, Expressions, no_expression, expression, Query, Queries, no_query, query, Condition, Conditions, no_condition, condition, Assignment, Assignments, no_assignment, assignment, Statement, Statements, no_statement, statement}
 use Rattle.script_tree.specs.SyntaxLists.{expressions_of, queries_of, conditions_of, assignments_of, statements_of}
 use Rattle.script_tree.specs.declared.syntax.name.Name.{Name}

@@ -1,9 +1,8 @@
 -- One token back: what the machine's stack may read after a token, the stack before it may read with that token.
-use Rattle.std.proofs.Common.{◌≡◌, ◌≢◌, ℕ, zero, suc, ◌+◌, ◌-◌, ◌<◌, ◌≤◌, ◌==◌, nat_eq, List, [], ◌∷◌, ◌++◌, ◌⊎◌, inl, inr, Option, Some, None, Bool, true, false, if◌then◌else◌, refl, sym, ap, ◌∙◌, subst, arith}
+use Rattle.std.proofs.Common.{◌≡◌, ◌≢◌, ℕ, zero, suc, ◌+◌, ◌-◌, ◌<◌, ◌≤◌, nat_eq, List, [], ◌∷◌, ◌⊎◌, inl, inr, Option, Some, None, Bool, true, false, if◌then◌else◌, refl, sym, ap, ◌∙◌, subst, arith}
 use Rattle.std.proofs.lemmas.Bool.Decides.{nat_tests}
 use Rattle.std.proofs.lemmas.Slice.Eq.{bytes_eq-Decides}
-use Rattle.script_tree.specs.Syntax.{Expression, number, text, truth, null, bracket, variable, call, list, transact, unary, binary, and_, or_, index, Expressions, no_expression, expression, Query, insert, select, update, delete, expect, Queries, no_query, query, Conditions, no_condition, condition, Assignments, no_assignment, assignment, Statement, let_, set_, if_, while_, for_, echo, status, return, do_, Else, no_else, else_, Statements, no_statement, statement}
-use Rattle.script_tree.specs.SyntaxPlaces.{place_of}
+use Rattle.script_tree.specs.Syntax.{Expression, number, text, truth, null, bracket, variable, call, list, transact, unary, Expressions, no_expression, expression, Query, insert, select, update, delete, expect, Queries, no_query, query, no_condition, condition, Assignments, no_assignment, assignment, Statement, let_, set_, if_, while_, for_, echo, status, return, do_, no_else, else_, Statements, no_statement, statement}
 use Rattle.script_tree.specs.declared.comparison.Comparison.{Comparison}
 use Rattle.script_tree.specs.declared.comparison.Comparison.TheVariants as compared
 use Rattle.script_tree.specs.declared.syntax.operator.UnaryOperator.{UnaryOperator}
@@ -11,7 +10,6 @@ use Rattle.script_tree.specs.declared.syntax.operator.UnaryOperator.TheVariants 
 use Rattle.script_tree.specs.declared.syntax.operator.BinaryOperator.{BinaryOperator}
 use Rattle.script_tree.specs.declared.syntax.operator.BinaryOperator.TheVariants as two
 use Rattle.script_tree.specs.declared.syntax.name.Name.{Name}
-use Rattle.script_tree.specs.declared.syntax.declaration.Declaration.{Declaration}
 use Rattle.script_tree.specs.declared.syntax.declaration.Declaration.TheVariants as declared
 use Rattle.script_tokens.specs.Kinds as kind
 use Rattle.script_tokens.specs.Kinds.{Kind, Token, token}
@@ -21,12 +19,12 @@ use Rattle.script_tokens.specs.declared.word.Word.TheVariants as w
 use Rattle.script_tokens.proofs.WordTests.{spelled_once}
 use Rattle.script_grammar.specs.Spelling as mark
 use Rattle.script_grammar.specs.Spelling.{Mark, placed, anywhere, at_word, named, comparison_word, infix_word, prefix_word, names_before, names, spelling, list_spelling, more_spelling, query_spelling, queries_spelling, where_spelling, and_spelling, sets_spelling, more_sets_spelling, statement_spelling, else_spelling, statements_spelling, block_spelling, declaration_spelling, program_spelling, AreTokens}
-use Rattle.script_grammar.specs.Grouping.{operator_level, level, if_same, row, repeats, most_repeats, IsJoined, IsPrefixed, IsIndexed, IsGrouped, AreGrouped, IsGroupedQuery, AreGroupedQueries, AreGroupedTests, AreGroupedSets, IsGroupedStatement, IsGroupedElse, AreGroupedStatements, IsGroupedBlock, IsGroupedDeclaration, AreGroupedDeclarations}
-use Rattle.script_grammar.specs.Machine.{joint_level, joined, word_joint, joint_of, word_prefix, prefix_of, word_comparison, comparison_of, Val, of_name, of_names, of_expression, of_expressions, of_comparison, of_tests, of_sets, of_query, of_queries, of_statement, of_statements, of_else, of_declaration, of_declarations, Act, puts, adds_name, adds_expression, adds_test, adds_set, adds_query, adds_statement, adds_declaration, joined_by, prefixed, bracketed, called, listed, transacted, inserted, selected, updated, deleted, expected, bound, said, branched, otherwise, repeated, turned, stored, tabled, defined, paged, apply, Symbol, act, word, a_name, a_path, a_comparison, operand, prefixes, atom, tail, name_tail, arguments, more_arguments, parameters, more_names, a_query, more_queries, filter, more_tests, more_sets, a_statement, statements, else_part, declarations, State, chain, test, assignment as assigns, filtered, block, begin_word, begin_atom, begin_prefix, begin_prefixed, begin_operand, after_joint, go_on, joined_on, begin_query, begin_statement, begin_declaration, by_word, take_name, take_path, take_comparison, feed}
+use Rattle.script_grammar.specs.Grouping.{operator_level, level, if_same, row, repeats, most_repeats, IsGrouped, IsGroupedQuery, IsGroupedStatement, AreGroupedStatements, IsGroupedBlock}
+use Rattle.script_grammar.specs.Machine.{joint_level, joined, joint_of, prefix_of, comparison_of, Val, of_name, of_names, of_expression, of_expressions, of_comparison, of_tests, of_sets, of_query, of_queries, of_statement, of_statements, of_else, of_declaration, puts, adds_name, adds_expression, adds_query, adds_statement, adds_declaration, joined_by, prefixed, bracketed, called, listed, transacted, inserted, selected, updated, deleted, expected, bound, said, branched, otherwise, repeated, turned, stored, tabled, defined, paged, apply, Symbol, act, word, a_name, a_path, a_comparison, operand, prefixes, atom, tail, name_tail, arguments, more_arguments, parameters, more_names, a_query, more_queries, filter, more_tests, more_sets, a_statement, statements, else_part, declarations, State, chain, test, assignment as assigns, filtered, block, begin_word, begin_atom, begin_prefix, begin_prefixed, begin_operand, after_joint, go_on, joined_on, begin_query, begin_statement, begin_declaration, by_word, take_name, take_path, take_comparison, feed}
 use Rattle.script_grammar.specs.declared.joint.Joint.{Joint}
 use Rattle.script_grammar.specs.declared.joint.Joint.TheVariants.{Indexing, And, Or, Operator}
 use Rattle.script_tokens.specs.Feed.{is_word}
-use Rattle.script_grammar.proofs.Added.{statements_in, statements_again, with_names, with_expressions, with_queries, with_conditions, with_assignments, with_statements, with_declarations, all_names, all_statements}
+use Rattle.script_grammar.proofs.Added.{statements_in, with_names, with_expressions, with_queries, with_conditions, with_assignments, with_statements, with_declarations, all_names, all_statements}
 use Rattle.script_grammar.proofs.Complete.{itself, valued_call, valued_list, valued_transact, valued_insert, valued_select, valued_update, valued_delete, valued_expect, valued_if, valued_while, valued_for, valued_else, valued_table}
 use Rattle.script_grammar.proofs.Yields.{Spelled, joint_word, joint_spelling, IsRight, Turn, Turns, Read, most_level, declarations_before, Yields}
 

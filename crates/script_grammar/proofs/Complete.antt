@@ -1,9 +1,8 @@
 -- What a tree is written as is read as that tree.
-use Rattle.std.proofs.Common.{◌≡◌, ◌≢◌, ℕ, zero, suc, ◌+◌, ◌-◌, ◌<◌, ◌≤◌, nat_eq, if◌then◌else◌, List, [], ◌∷◌, ◌++◌, Option, Some, None, Bool, true, false, refl, sym, ap, ◌∙◌, subst, arith}
+use Rattle.std.proofs.Common.{◌≡◌, ◌≢◌, ℕ, suc, ◌+◌, ◌-◌, ◌≤◌, nat_eq, if◌then◌else◌, List, [], ◌∷◌, Some, true, false, refl, sym, ap, ◌∙◌, subst, arith}
 use Rattle.std.proofs.lemmas.Bool.Decides.{nat_tests}
 use Rattle.script_tree.specs.Syntax.{Expression, number, text, truth, null, bracket, variable, call, list, transact, unary, binary, and_, or_, index, Expressions, no_expression, expression, Query, insert, select, update, delete, expect, Queries, no_query, query, Conditions, no_condition, condition, Assignments, no_assignment, assignment, Statement, let_, set_, if_, while_, for_, echo, status, return, do_, Else, no_else, else_, Statements, no_statement, statement}
-use Rattle.script_tree.specs.SyntaxLists.{expressions_of, queries_of, conditions_of, assignments_of, statements_of}
-use Rattle.script_tree.specs.SyntaxPlaces.{place_of}
+use Rattle.script_tree.specs.SyntaxLists.{conditions_of}
 use Rattle.script_tree.specs.declared.comparison.Comparison.{Comparison}
 use Rattle.script_tree.specs.declared.comparison.Comparison.TheVariants as compared
 use Rattle.script_tree.specs.declared.syntax.operator.UnaryOperator.{UnaryOperator}
@@ -19,14 +18,14 @@ use Rattle.script_tokens.specs.declared.word.Word.{Word}
 use Rattle.script_tokens.specs.declared.word.Word.TheVariants as w
 use Rattle.script_grammar.specs.Spelling as mark
 use Rattle.script_grammar.specs.Spelling.{Mark, placed, anywhere, at_word, named, comparison_word, infix_word, prefix_word, truth_word, names_before, names, spelling, list_spelling, more_spelling, query_spelling, queries_spelling, where_spelling, and_spelling, sets_spelling, more_sets_spelling, statement_spelling, else_spelling, statements_spelling, block_spelling, declaration_spelling, program_spelling, AreTokens}
-use Rattle.script_grammar.specs.Grouping.{operator_level, level, row, repeats, most_repeats, IsJoined, IsPrefixed, IsIndexed, IsGrouped, AreGrouped, IsGroupedQuery, AreGroupedQueries, AreGroupedTests, AreGroupedSets, IsGroupedStatement, IsGroupedElse, AreGroupedStatements, IsGroupedBlock, IsGroupedDeclaration, AreGroupedDeclarations}
-use Rattle.script_grammar.specs.Machine.{joint_level, joined, word_joint, joint_of, word_prefix, prefix_of, word_comparison, comparison_of, Val, of_name, of_names, of_expression, of_expressions, of_comparison, of_tests, of_sets, of_query, of_queries, of_statement, of_statements, of_else, of_declaration, of_declarations, Act, puts, adds_name, adds_expression, adds_test, adds_set, adds_query, adds_statement, adds_declaration, joined_by, prefixed, bracketed, called, listed, transacted, inserted, selected, updated, deleted, expected, bound, said, branched, otherwise, repeated, turned, stored, tabled, defined, paged, apply, Symbol, act, word, a_name, a_path, a_comparison, operand, prefixes, atom, tail, name_tail, arguments, more_arguments, parameters, more_names, a_query, more_queries, filter, more_tests, more_sets, a_statement, statements, else_part, declarations, State, chain, after_joint, go_on, joined_on, feed, Outcome, done, stuck, run, run_file}
+use Rattle.script_grammar.specs.Grouping.{operator_level, level, row, repeats, IsGrouped, AreGrouped, IsGroupedQuery, AreGroupedQueries, AreGroupedTests, AreGroupedSets, IsGroupedStatement, IsGroupedElse, AreGroupedStatements, IsGroupedBlock, AreGroupedDeclarations}
+use Rattle.script_grammar.specs.Machine.{joint_level, joined, word_joint, Val, of_name, of_names, of_expression, of_expressions, of_comparison, of_tests, of_sets, of_query, of_queries, of_statement, of_statements, of_else, of_declaration, of_declarations, puts, adds_name, adds_expression, adds_test, adds_set, adds_query, adds_statement, adds_declaration, joined_by, prefixed, bracketed, called, listed, transacted, inserted, selected, updated, deleted, expected, bound, said, branched, otherwise, repeated, turned, stored, tabled, defined, paged, apply, Symbol, act, word, a_name, a_comparison, operand, prefixes, atom, tail, name_tail, arguments, more_arguments, parameters, more_names, a_query, more_queries, filter, more_tests, more_sets, a_statement, statements, else_part, declarations, after_joint, feed, done, run, run_file}
 use Rattle.script_grammar.specs.declared.joint.Joint.{Joint}
 use Rattle.script_grammar.specs.declared.joint.Joint.TheVariants.{Indexing, And, Or, Operator}
 use Rattle.script_tokens.specs.Feed.{is_word}
-use Rattle.script_grammar.proofs.Added.{expressions_in, queries_in, conditions_in, assignments_in, statements_in, expressions_again, queries_again, conditions_again, assignments_again, statements_again, with_names, with_expressions, with_queries, with_conditions, with_assignments, with_statements, with_block, with_declarations, all_names, all_expressions, all_queries, all_conditions, all_assignments, all_statements, all_of_block, all_declarations}
+use Rattle.script_grammar.proofs.Added.{conditions_in, assignments_in, expressions_again, queries_again, conditions_again, assignments_again, statements_again, with_names, with_expressions, with_queries, with_conditions, with_assignments, with_statements, with_block, with_declarations, all_names, all_expressions, all_queries, all_conditions, all_assignments, all_statements, all_of_block, all_declarations}
 use Rattle.script_grammar.proofs.Levels.{From, from_lower, free, opening, closing, Part, Whole, whole_of, IsNoPrefix, climb, operand_of, few}
-use Rattle.script_grammar.proofs.Steps.{is_same, step_on, same_step, act_runs, Reads, ◌then◌, instead, valued, begun, begun_anywhere, nothing, reads_word, reads_name, reads_path, acts, kind_of, First, first_is, IsNot}
+use Rattle.script_grammar.proofs.Steps.{is_same, step_on, same_step, act_runs, Reads, ◌then◌, instead, valued, begun, begun_anywhere, nothing, reads_word, reads_name, reads_path, acts, First, first_is, IsNot}
 
 -- ---- parts of expressions
 

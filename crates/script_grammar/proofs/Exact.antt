@@ -1,5 +1,5 @@
 -- The machine reads exactly the trees of the grammar, and is stuck exactly at the first fault.
-use Rattle.std.proofs.Common.{◌≡◌, ℕ, zero, suc, ◌+◌, ◌≤◌, pos, List, [], ◌∷◌, ◌++◌, Option, Some, None, refl, sym, ap, ◌∙◌, subst, arith, append_assoc, append-nil, codes}
+use Rattle.std.proofs.Common.{◌≡◌, ◌≤◌, pos, List, [], ◌∷◌, ◌++◌, Option, Some, None, refl, sym, ap, ◌∙◌, subst, arith, append_assoc, append-nil, codes}
 use Rattle.script_tree.specs.Syntax.{Expression, number, Expressions, no_expression, Query, delete, no_query, no_condition, no_assignment, Statement, do_, no_else, no_statement}
 use Rattle.script_tree.specs.Syntax as tree
 use Rattle.script_tree.specs.declared.comparison.Comparison.TheVariants as compared
@@ -7,14 +7,13 @@ use Rattle.script_tree.specs.declared.syntax.name.Name.{Name}
 use Rattle.script_tree.specs.declared.syntax.declaration.Declaration.{Declaration}
 use Rattle.script_tokens.specs.Kinds as kind
 use Rattle.script_tokens.specs.Kinds.{Kind, Token, token}
-use Rattle.script_tokens.specs.declared.word.Word.{Word}
 use Rattle.script_tokens.specs.declared.word.Word.TheVariants as w
 use Rattle.script_grammar.specs.Grammar.{IsTreeOf, AreSpelled, Begins, IsFaultAt}
-use Rattle.script_grammar.specs.Spelling.{Mark, comparison_word, declaration_spelling, program_spelling, AreTokens}
+use Rattle.script_grammar.specs.Spelling.{declaration_spelling, program_spelling, AreTokens}
 use Rattle.script_grammar.specs.Grouping.{level}
 use Rattle.script_grammar.specs.Machine.{Val, of_name, of_expression, of_comparison, of_query, of_statement, of_else, of_declarations, apply, Symbol, act, word, a_name, a_path, a_comparison, operand, prefixes, atom, tail, name_tail, arguments, more_arguments, parameters, more_names, a_query, more_queries, filter, more_tests, more_sets, a_statement, statements, else_part, declarations, State, feed, Outcome, done, stuck, settle, fed, run, run_file}
-use Rattle.script_grammar.proofs.Added.{with_declarations, all_declarations}
-use Rattle.script_grammar.proofs.Back.{no_state, back}
+use Rattle.script_grammar.proofs.Added.{all_declarations}
+use Rattle.script_grammar.proofs.Back.{back}
 use Rattle.script_grammar.proofs.Complete.{whole_read}
 use Rattle.script_grammar.proofs.Real.{word_spelled, zero_spelled, name_spelled, text_spelled}
 use Rattle.script_grammar.proofs.Yields.{Read, declarations_before, Yields}

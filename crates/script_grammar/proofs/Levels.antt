@@ -1,17 +1,16 @@
 -- Reading an expression level by level.
-use Rattle.std.proofs.Common.{◌≡◌, ℕ, zero, suc, ◌+◌, ◌-◌, ◌<◌, ◌≤◌, ◌==◌, nat_eq, List, [], ◌∷◌, ◌⊎◌, inl, inr, Option, Some, None, Bool, true, false, if◌then◌else◌, refl, sym, ap, ◌∙◌, subst, arith}
+use Rattle.std.proofs.Common.{◌≡◌, ℕ, zero, suc, ◌+◌, ◌-◌, ◌<◌, ◌≤◌, nat_eq, List, [], ◌∷◌, ◌⊎◌, inl, inr, Option, Some, None, Bool, true, false, if◌then◌else◌, refl, sym, ap, ◌∙◌, subst, arith}
 use Rattle.std.proofs.lemmas.Bool.Decides.{nat_tests}
 use Rattle.script_tree.specs.Syntax.{Expression, number, text, truth, null, bracket, variable, call, list, transact, unary, binary, and_, or_, index}
-use Rattle.script_tree.specs.declared.syntax.operator.UnaryOperator.{UnaryOperator}
 use Rattle.script_tokens.specs.Kinds as kind
 use Rattle.script_tokens.specs.Kinds.{Kind, Token, token}
 use Rattle.script_tokens.specs.declared.word.Word.{Word}
 use Rattle.script_tokens.specs.declared.word.Word.TheVariants as w
-use Rattle.script_grammar.specs.Spelling.{Mark, placed, anywhere, AreTokens}
-use Rattle.script_grammar.specs.Machine.{joint_level, joint_of, word_joint, prefix_of, Val, of_expression, Symbol, operand, prefixes, atom, tail, chain, State, begin_prefix, joined_on, feed, run}
+use Rattle.script_grammar.specs.Spelling.{Mark, AreTokens}
+use Rattle.script_grammar.specs.Machine.{joint_level, joint_of, word_joint, prefix_of, Val, of_expression, Symbol, operand, prefixes, atom, tail, chain, State, joined_on, feed, run}
 use Rattle.script_grammar.specs.declared.joint.Joint.{Joint}
 use Rattle.script_tokens.specs.Feed.{is_word}
-use Rattle.script_grammar.specs.Grouping.{operator_level, level, if_same, row, repeats, most_repeats, IsJoined, IsPrefixed, IsIndexed, IsGrouped}
+use Rattle.script_grammar.specs.Grouping.{operator_level, level, if_same, row, repeats, most_repeats, IsGrouped}
 use Rattle.script_grammar.proofs.Steps.{same_step, operand_runs, Reads, instead, First, first_is, IsNot}
 
 -- ---- what follows

@@ -1,5 +1,5 @@
 -- Tokens that bytes spell, by which a program's front is completed.
-use Rattle.std.proofs.Common.{◌≡◌, ℕ, pos, List, [], ◌∷◌, refl, codes}
+use Rattle.std.proofs.Common.{pos, [], ◌∷◌, refl, codes}
 use Rattle.script_tokens.specs.Kinds as kind
 use Rattle.script_tokens.specs.Tokens.{IsSpelled}
 use Rattle.script_tokens.specs.Words as table

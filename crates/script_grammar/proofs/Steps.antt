@@ -1,17 +1,14 @@
 -- Steps of the machine, and how they follow one another.
-use Rattle.std.proofs.Common.{◌≡◌, ℕ, zero, suc, ◌+◌, ◌<◌, ◌≤◌, ◌==◌, List, [], ◌∷◌, ◌++◌, Option, Some, None, Bool, true, false, if◌then◌else◌, refl, sym, ap, ◌∙◌, subst, arith}
-use Rattle.std.proofs.lemmas.Bool.Decides.{nat_tests}
+use Rattle.std.proofs.Common.{◌≡◌, ℕ, List, [], ◌∷◌, Some, true, false, refl, sym, ap, ◌∙◌, subst}
 use Rattle.std.proofs.lemmas.Slice.Eq.{bytes_eq-Decides}
 use Rattle.script_tree.specs.declared.syntax.name.Name.{Name}
 use Rattle.script_tokens.specs.Kinds as kind
 use Rattle.script_tokens.specs.Kinds.{Kind, Token, token}
 use Rattle.script_tokens.specs.Words.{spelling_of}
 use Rattle.script_tokens.specs.declared.word.Word.{Word}
-use Rattle.script_tokens.specs.declared.word.Word.TheVariants as w
 use Rattle.script_grammar.specs.Spelling as mark
 use Rattle.script_grammar.specs.Spelling.{Mark, placed, anywhere, at_word, named, AreTokens}
-use Rattle.script_grammar.specs.Machine.{joint_level, joint_of, Val, of_name, of_comparison, Act, apply, Symbol, act, word, a_name, a_path, operand, prefixes, tail, chain, State, joined_on, feed, Outcome, done, stuck, fed, settle, run}
-use Rattle.script_grammar.specs.declared.joint.Joint.{Joint}
+use Rattle.script_grammar.specs.Machine.{Val, of_name, Act, apply, Symbol, act, word, a_name, a_path, operand, prefixes, chain, feed, fed, run}
 use Rattle.script_tokens.specs.Feed.{is_word}
 use Rattle.script_grammar.specs.Grouping.{most_repeats}
 

@@ -1,8 +1,7 @@
 -- What a stack of symbols may still read: these tokens lead from these values to those.
-use Rattle.std.proofs.Common.{◌≡◌, ℕ, zero, suc, ◌+◌, ◌<◌, ◌≤◌, List, [], ◌∷◌, refl}
+use Rattle.std.proofs.Common.{◌≡◌, ℕ, zero, suc, ◌<◌, ◌≤◌, List, [], ◌∷◌}
 use Rattle.script_tree.specs.Syntax.{Expression, Expressions, Query, Queries, Conditions, Assignments, Statement, Else, Statements}
 use Rattle.script_tree.specs.declared.comparison.Comparison.{Comparison}
-use Rattle.script_tree.specs.declared.syntax.operator.BinaryOperator.{BinaryOperator}
 use Rattle.script_tree.specs.declared.syntax.name.Name.{Name}
 use Rattle.script_tree.specs.declared.syntax.declaration.Declaration.{Declaration}
 use Rattle.script_tokens.specs.Kinds as kind
@@ -12,7 +11,7 @@ use Rattle.script_tokens.specs.declared.word.Word.TheVariants as w
 use Rattle.script_grammar.specs.Spelling as mark
 use Rattle.script_grammar.specs.Spelling.{Mark, comparison_word, infix_word, names_before, names, spelling, list_spelling, more_spelling, query_spelling, queries_spelling, where_spelling, and_spelling, more_sets_spelling, statement_spelling, else_spelling, statements_spelling, declaration_spelling, AreTokens}
 use Rattle.script_grammar.specs.Grouping.{level, row, repeats, most_repeats, IsGrouped, AreGrouped, IsGroupedQuery, AreGroupedQueries, AreGroupedTests, AreGroupedSets, IsGroupedStatement, IsGroupedElse, AreGroupedStatements, AreGroupedDeclarations}
-use Rattle.script_grammar.specs.Machine.{joint_level, Val, of_name, of_expression, of_comparison, of_query, of_statement, of_else, Act, joined_by, apply, Symbol, act, word, a_name, a_path, a_comparison, operand, prefixes, atom, tail, name_tail, arguments, more_arguments, parameters, more_names, a_query, more_queries, filter, more_tests, more_sets, a_statement, statements, else_part, declarations}
+use Rattle.script_grammar.specs.Machine.{joint_level, Val, of_name, of_expression, of_comparison, of_query, of_statement, of_else, joined_by, apply, Symbol, act, word, a_name, a_path, a_comparison, operand, prefixes, atom, tail, name_tail, arguments, more_arguments, parameters, more_names, a_query, more_queries, filter, more_tests, more_sets, a_statement, statements, else_part, declarations}
 use Rattle.script_grammar.specs.declared.joint.Joint.{Joint}
 use Rattle.script_grammar.specs.declared.joint.Joint.TheVariants.{Indexing, And, Or, Operator}
 use Rattle.script_grammar.proofs.Added.{with_names, with_expressions, with_queries, with_conditions, with_assignments, with_statements, with_declarations}

@@ -1,5 +1,5 @@
 -- Which tokens spell which tree, and which token is the first fault.
-use Rattle.std.specs.Prelude.{◌≡◌, List, [], ◌∷◌, ◌++◌, Result}
+use Rattle.std.specs.Prelude.{◌≡◌, List, [], ◌∷◌, ◌++◌}
 use Rattle.script_tree.specs.declared.syntax.declaration.Declaration.{Declaration}
 use Rattle.script_tokens.specs.Kinds.{Token}
 use Rattle.script_tokens.specs.Tokens.{IsSpelled}

@@ -1,5 +1,5 @@
 -- The grammar as a machine, from which the grammar is proved to be decided: what may come next is a stack of symbols, what was read a stack of values.
-use Rattle.std.specs.Prelude.{◌≡◌, ℕ, zero, suc, ◌-◌, ◌==◌, List, [], ◌∷◌, ◌++◌, Option, Some, None, Bool, true, false, if◌then◌else◌}
+use Rattle.std.specs.Prelude.{ℕ, zero, suc, ◌-◌, ◌==◌, List, [], ◌∷◌, ◌++◌, Option, Some, None, true, false, if◌then◌else◌}
 use Rattle.script_tree.specs.Syntax as tree
 use Rattle.script_tree.specs.Syntax.{Expression, Condition, Assignment, Query, Statement, Else}
 use Rattle.script_tree.specs.SyntaxLists.{expressions_of, queries_of, conditions_of, assignments_of, statements_of}
@@ -8,7 +8,6 @@ use Rattle.script_tree.specs.declared.comparison.Comparison.{Comparison}
 use Rattle.script_tree.specs.declared.comparison.Comparison.TheVariants as compared
 use Rattle.script_tree.specs.declared.syntax.operator.UnaryOperator.{UnaryOperator}
 use Rattle.script_tree.specs.declared.syntax.operator.UnaryOperator.TheVariants as one
-use Rattle.script_tree.specs.declared.syntax.operator.BinaryOperator.{BinaryOperator}
 use Rattle.script_tree.specs.declared.syntax.operator.BinaryOperator.TheVariants as two
 use Rattle.script_tree.specs.declared.syntax.name.Name.{Name}
 use Rattle.script_tree.specs.declared.syntax.declaration.Declaration.{Declaration}

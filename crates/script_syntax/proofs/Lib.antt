@@ -1,9 +1,2 @@
-pub mod Apart
-pub mod Blocks
-pub mod Bytes
-pub mod Exact
-pub mod ProgramsRead
-pub mod Rows
-pub mod Scans
-pub mod Straight
-pub mod WordTests
+pub mod Descend
+pub mod Parses

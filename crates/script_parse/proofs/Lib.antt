@@ -1,2 +1,0 @@
-pub mod Descend
-pub mod Parses

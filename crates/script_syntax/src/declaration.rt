@@ -1,0 +1,110 @@
+ghost use Rattle.std.specs.Prelude.{◌≡◌, ◌<◌, ◌≤◌, ◌∷◌, [], length, OnOk};
+ghost use Rattle.script_tokens.specs.declared.word.Word.TheVariants as w;
+ghost use Rattle.script_grammar.specs.Machine.{act, word, puts, a_name, a_path, puts, adds_name, more_names, parameters, block, declarations, begin_declaration, stored, tabled, defined, paged, of_names, of_declarations};
+ghost use Rattle.script_syntax.specs.Gives.{Gives, Begins, word_token, names_value, declaration_value, IsFileRead};
+
+use crate::feed::{Stop, any_word, more_names, name, path, take, unexpected, ungrammatical};
+use crate::statement::block;
+use script_tokens::scan::Tokens;
+use script_tokens::word::Word;
+use script_tree::syntax::declaration::{Declaration, Tree};
+use script_tree::syntax::name::Names;
+use std::alloc::Global;
+
+/// A declaration that begins with this word.
+fn declaration(
+    alloc: Global,
+    tokens: &mut Tokens<'_>,
+    at: usize,
+    word: Word,
+) -> Result<Declaration, Stop>
+    ensures gives { Begins declaration_value (word_token at word) (begin_declaration at word) result tokens.old tokens.new }
+    ensures shorter { OnOk result (length tokens.new.tokens ≤ length tokens.old.tokens) }
+{
+    match word {
+        Word::Store => store(alloc, tokens, at),
+        Word::Table => table(alloc, tokens, at),
+        Word::Function => function(alloc, tokens, at),
+        Word::Page => page(alloc, tokens, at),
+        _ => Err(ungrammatical(at)),
+    }
+}
+
+fn store(alloc: Global, tokens: &mut Tokens<'_>, at: usize) -> Result<Declaration, Stop>
+    ensures gives { Gives declaration_value (a_name ∷ word w.Semicolon ∷ act (stored at) ∷ []) [] result tokens.old tokens.new }
+    ensures shorter { OnOk result (length tokens.new.tokens < length tokens.old.tokens) }
+{
+    let name = name(alloc, tokens)?;
+    take(tokens, Word::Semicolon)?;
+    Ok(Declaration::Store { at, name })
+}
+
+fn table(alloc: Global, tokens: &mut Tokens<'_>, at: usize) -> Result<Declaration, Stop>
+    ensures gives { Gives declaration_value (a_name ∷ word w.Open ∷ act (puts (of_names [])) ∷ a_name ∷ act adds_name ∷ more_names w.Close ∷ word w.Semicolon ∷ act (tabled at) ∷ []) [] result tokens.old tokens.new }
+    ensures shorter { OnOk result (length tokens.new.tokens < length tokens.old.tokens) }
+{
+    let table = name(alloc, tokens)?;
+    take(tokens, Word::Open)?;
+    let mut columns = Names::new(alloc);
+    columns.push(name(alloc, tokens)?)?;
+    let columns = more_names(alloc, tokens, columns, Word::Close)?;
+    take(tokens, Word::Semicolon)?;
+    Ok(Declaration::Table {
+        at,
+        name: table,
+        columns,
+    })
+}
+
+/// Names up to the closing bracket, or none.
+fn parameters(alloc: Global, tokens: &mut Tokens<'_>) -> Result<Names, Stop>
+    ensures gives { Gives names_value (parameters ∷ []) (of_names [] ∷ []) result tokens.old tokens.new }
+    ensures shorter { OnOk result (length tokens.new.tokens < length tokens.old.tokens) }
+{
+    let mut names = Names::new(alloc);
+    if tokens.stands(Word::Close) {
+        tokens.skip();
+        return Ok(names);
+    }
+    names.push(name(alloc, tokens)?)?;
+    more_names(alloc, tokens, names, Word::Close)
+}
+
+fn function(alloc: Global, tokens: &mut Tokens<'_>, at: usize) -> Result<Declaration, Stop>
+    ensures gives { Gives declaration_value (a_name ∷ word w.Open ∷ act (puts (of_names [])) ∷ parameters ∷ block (act (defined at) ∷ [])) [] result tokens.old tokens.new }
+    ensures shorter { OnOk result (length tokens.new.tokens < length tokens.old.tokens) }
+{
+    let name = name(alloc, tokens)?;
+    take(tokens, Word::Open)?;
+    let parameters = parameters(alloc, tokens)?;
+    let body = block(alloc, tokens)?;
+    Ok(Declaration::Function {
+        at,
+        name,
+        parameters,
+        body,
+    })
+}
+
+fn page(alloc: Global, tokens: &mut Tokens<'_>, at: usize) -> Result<Declaration, Stop>
+    ensures gives { Gives declaration_value (a_path ∷ block (act (paged at) ∷ [])) [] result tokens.old tokens.new }
+    ensures shorter { OnOk result (length tokens.new.tokens < length tokens.old.tokens) }
+{
+    let path = path(alloc, tokens)?;
+    let body = block(alloc, tokens)?;
+    Ok(Declaration::Page { at, path, body })
+}
+
+/// All declarations, up to the end of the tokens.
+pub fn declarations(alloc: Global, tokens: &mut Tokens<'_>) -> Result<Tree, Stop>
+    ensures { IsFileRead result tokens.old tokens.new }
+{
+    let mut declarations = Tree::new(alloc);
+    while let Some((at, word)) = any_word(tokens) {
+        declarations.push(declaration(alloc, tokens, at, word)?)?;
+    }
+    match tokens.peek() {
+        None => Ok(declarations),
+        Some(_) => Err(unexpected(tokens)),
+    }
+}

@@ -1,0 +1,285 @@
+ghost use Rattle.std.specs.Prelude.{◌≡◌, ◌<◌, ◌≤◌, ◌∷◌, [], length, OnOk, IfOk};
+ghost use Rattle.script_tokens.specs.declared.word.Word.TheVariants as w;
+ghost use Rattle.script_grammar.specs.Grouping.{most_repeats};
+ghost use Rattle.script_grammar.specs.Machine.{joined, word_joint, word_prefix, act, word, operand, prefixes, atom, tail, name_tail, arguments, more_arguments, a_query, more_queries, begin_word, bracketed, listed, transacted, adds_query, of_expressions, of_queries};
+ghost use Rattle.script_syntax.specs.Gives.{Gives, Begins, word_token, of_level, joint_at, prefix_at, expression_value, expressions_value};
+
+use crate::feed::{Stop, any_word, take, unexpected, ungrammatical};
+use crate::query::transact;
+use script_grammar::joint::Joint;
+use script_tokens::scan::Tokens;
+use script_tokens::shape::Shape;
+use script_tokens::word::Word;
+use script_tree::limits::MOST_REPEATS;
+use script_tree::syntax::expression::{Expression, ExpressionNode, Expressions};
+use script_tree::syntax::name::Name;
+use script_tree::syntax::operator::UnaryOperator;
+use std::alloc::{AllocError, Global};
+use std::sync::Arc;
+
+/// The level of a whole expression.
+pub const EXPRESSION: u32 = 6;
+
+/// The level of the values of a `where`.
+pub const SUM: u32 = 3;
+
+fn joined(
+    alloc: Global,
+    joint: Joint,
+    left: Expression,
+    right: Expression,
+) -> Result<Expression, AllocError>
+    ensures { IfOk result (λ e. e ≡ joined joint left right) }
+{
+    let at = left.at;
+    let left = Box::new(alloc, left)?;
+    let right = Box::new(alloc, right)?;
+    let node = match joint {
+        Joint::Indexing => ExpressionNode::Index(left, right),
+        Joint::And => ExpressionNode::And(left, right),
+        Joint::Or => ExpressionNode::Or(left, right),
+        Joint::Operator(operator) => ExpressionNode::Binary(operator, left, right),
+    };
+    Ok(Expression { at, node })
+}
+
+fn of_level(level: u32, word: Word) -> Option<Joint>
+    ensures { result ≡ of_level level (word_joint word) }
+{
+    match Joint::of_word(word) {
+        Some(joint) => {
+            if joint.level() == level {
+                Some(joint)
+            } else {
+                None
+            }
+        }
+        None => None,
+    }
+}
+
+/// The joint of this level that stands first.
+fn joint_at(tokens: &Tokens<'_>, level: u32) -> Option<Joint>
+    ensures { result ≡ joint_at level tokens.now.tokens }
+{
+    match tokens.peek() {
+        Some(Shape::Word(word)) => of_level(level, word),
+        _ => None,
+    }
+}
+
+fn prefix_of(word: Word) -> Option<UnaryOperator>
+    ensures { result ≡ word_prefix word }
+{
+    match word {
+        Word::Not => Some(UnaryOperator::Not),
+        Word::Minus => Some(UnaryOperator::Negate),
+        _ => None,
+    }
+}
+
+/// The prefix that stands first, with its place.
+fn prefix_at(tokens: &Tokens<'_>) -> Option<(usize, UnaryOperator)>
+    ensures { result ≡ prefix_at tokens.now.tokens }
+{
+    let at = tokens.place()?;
+    match tokens.peek() {
+        Some(Shape::Word(word)) => {
+            let operator = prefix_of(word)?;
+            Some((at, operator))
+        }
+        _ => None,
+    }
+}
+
+fn most_repeats(level: u32) -> usize
+    ensures { result ≡ most_repeats level }
+{
+    if level == 4 { 1 } else { MOST_REPEATS }
+}
+
+/// An expression of this level or a tighter one.
+#[cycle(expression)]
+pub fn operand(alloc: Global, tokens: &mut Tokens<'_>, level: u32) -> Result<Expression, Stop>
+    requires { 0 < level }
+    ensures gives { Gives expression_value (operand level ∷ []) [] result tokens.old tokens.new }
+    ensures shorter { OnOk result (length tokens.new.tokens < length tokens.old.tokens) }
+{
+    if level == 1 {
+        return prefixed(alloc, tokens, MOST_REPEATS);
+    }
+    let mut value = operand(alloc, tokens, level - 1)?;
+    let mut left = most_repeats(level);
+    while let Some(joint) = joint_at(tokens, level) {
+        if left == 0 {
+            return Err(unexpected(tokens));
+        }
+        tokens.skip();
+        let right = operand(alloc, tokens, level - 1)?;
+        value = joined(alloc, joint, value, right)?;
+        left -= 1;
+    }
+    Ok(value)
+}
+
+/// An operand behind so many prefixes at most.
+#[cycle(expression)]
+fn prefixed(alloc: Global, tokens: &mut Tokens<'_>, left: usize) -> Result<Expression, Stop>
+    ensures gives { Gives expression_value (prefixes left ∷ []) [] result tokens.old tokens.new }
+    ensures shorter { OnOk result (length tokens.new.tokens < length tokens.old.tokens) }
+{
+    let Some((at, operator)) = prefix_at(tokens) else {
+        return indexed(alloc, tokens);
+    };
+    if left == 0 {
+        return Err(unexpected(tokens));
+    }
+    tokens.skip();
+    let value = prefixed(alloc, tokens, left - 1)?;
+    let value = Box::new(alloc, value)?;
+    Ok(Expression {
+        at,
+        node: ExpressionNode::Unary(operator, value),
+    })
+}
+
+/// An atom and the places in it.
+#[cycle(expression)]
+fn indexed(alloc: Global, tokens: &mut Tokens<'_>) -> Result<Expression, Stop>
+    ensures gives { Gives expression_value (atom ∷ tail 0 (most_repeats 0) ∷ []) [] result tokens.old tokens.new }
+    ensures shorter { OnOk result (length tokens.new.tokens < length tokens.old.tokens) }
+{
+    let mut value = atom(alloc, tokens)?;
+    let mut left = MOST_REPEATS;
+    while tokens.stands(Word::SquareOpen) {
+        if left == 0 {
+            return Err(unexpected(tokens));
+        }
+        tokens.skip();
+        let place = operand(alloc, tokens, EXPRESSION)?;
+        take(tokens, Word::SquareClose)?;
+        value = joined(alloc, Joint::Indexing, value, place)?;
+        left -= 1;
+    }
+    Ok(value)
+}
+
+#[cycle(expression)]
+fn atom(alloc: Global, tokens: &mut Tokens<'_>) -> Result<Expression, Stop>
+    ensures gives { Gives expression_value (atom ∷ []) [] result tokens.old tokens.new }
+    ensures shorter { OnOk result (length tokens.new.tokens < length tokens.old.tokens) }
+{
+    if let Some(name) = tokens.name(alloc)? {
+        return named(alloc, tokens, name);
+    }
+    if let Some((at, number)) = tokens.number() {
+        let node = ExpressionNode::Number(number);
+        return Ok(Expression { at, node });
+    }
+    if let Some(text) = tokens.text(alloc)? {
+        let Name { at, text } = text;
+        let node = ExpressionNode::Text(Arc::new(alloc, text)?);
+        return Ok(Expression { at, node });
+    }
+    match any_word(tokens) {
+        Some((at, word)) => word_atom(alloc, tokens, at, word),
+        None => Err(unexpected(tokens)),
+    }
+}
+
+/// A variable, or a call.
+#[cycle(expression)]
+fn named(alloc: Global, tokens: &mut Tokens<'_>, name: Name) -> Result<Expression, Stop>
+    ensures gives { Gives expression_value (name_tail name.at name.text ∷ []) [] result tokens.old tokens.new }
+    ensures shorter { OnOk result (length tokens.new.tokens ≤ length tokens.old.tokens) }
+{
+    let Name { at, text } = name;
+    if tokens.stands(Word::Open) {
+        tokens.skip();
+        let items = arguments(alloc, tokens, Word::Close)?;
+        let node = ExpressionNode::Call(text, items);
+        Ok(Expression { at, node })
+    } else {
+        let node = ExpressionNode::Variable(text);
+        Ok(Expression { at, node })
+    }
+}
+
+/// Expressions up to the closing bracket.
+#[cycle(expression)]
+fn arguments(alloc: Global, tokens: &mut Tokens<'_>, close: Word) -> Result<Expressions, Stop>
+    ensures gives { Gives expressions_value (arguments close ∷ []) (of_expressions [] ∷ []) result tokens.old tokens.new }
+    ensures shorter { OnOk result (length tokens.new.tokens ≤ length tokens.old.tokens) }
+{
+    let mut items = Expressions::new(alloc);
+    if tokens.stands(close) {
+        tokens.skip();
+        return Ok(items);
+    }
+    items.push(operand(alloc, tokens, EXPRESSION)?)?;
+    more_arguments(alloc, tokens, items, close)
+}
+
+/// The further expressions up to the closing bracket.
+#[cycle(expression)]
+pub fn more_arguments(
+    alloc: Global,
+    tokens: &mut Tokens<'_>,
+    items: Expressions,
+    close: Word,
+) -> Result<Expressions, Stop>
+    ensures gives { Gives expressions_value (more_arguments close ∷ []) (of_expressions items ∷ []) result tokens.old tokens.new }
+    ensures shorter { OnOk result (length tokens.new.tokens ≤ length tokens.old.tokens) }
+{
+    let mut items = items;
+    while !tokens.stands(close) {
+        take(tokens, Word::Comma)?;
+        items.push(operand(alloc, tokens, EXPRESSION)?)?;
+    }
+    tokens.skip();
+    Ok(items)
+}
+
+/// An atom that begins with this word.
+#[cycle(expression)]
+fn word_atom(
+    alloc: Global,
+    tokens: &mut Tokens<'_>,
+    at: usize,
+    word: Word,
+) -> Result<Expression, Stop>
+    ensures gives { Begins expression_value (word_token at word) (begin_word at word) result tokens.old tokens.new }
+    ensures shorter { OnOk result (length tokens.new.tokens ≤ length tokens.old.tokens) }
+{
+    let node = match word {
+        Word::True => ExpressionNode::Bool(true),
+        Word::False => ExpressionNode::Bool(false),
+        Word::Null => ExpressionNode::Null,
+        Word::Open => return bracket(alloc, tokens, at),
+        Word::SquareOpen => return list(alloc, tokens, at),
+        Word::Transact => return transact(alloc, tokens, at),
+        _ => return Err(ungrammatical(at)),
+    };
+    Ok(Expression { at, node })
+}
+
+#[cycle(expression)]
+fn bracket(alloc: Global, tokens: &mut Tokens<'_>, at: usize) -> Result<Expression, Stop>
+    ensures gives { Gives expression_value (operand 6 ∷ word w.Close ∷ act (bracketed at) ∷ []) [] result tokens.old tokens.new }
+    ensures shorter { OnOk result (length tokens.new.tokens < length tokens.old.tokens) }
+{
+    let inner = operand(alloc, tokens, EXPRESSION)?;
+    take(tokens, Word::Close)?;
+    let node = ExpressionNode::Bracket(Box::new(alloc, inner)?);
+    Ok(Expression { at, node })
+}
+
+#[cycle(expression)]
+fn list(alloc: Global, tokens: &mut Tokens<'_>, at: usize) -> Result<Expression, Stop>
+    ensures gives { Gives expression_value (arguments w.SquareClose ∷ act (listed at) ∷ []) (of_expressions [] ∷ []) result tokens.old tokens.new }
+    ensures shorter { OnOk result (length tokens.new.tokens ≤ length tokens.old.tokens) }
+{
+    let items = arguments(alloc, tokens, Word::SquareClose)?;
+    let node = ExpressionNode::List(items);
+    Ok(Expression { at, node })
+}

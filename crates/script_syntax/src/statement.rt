@@ -1,0 +1,189 @@
+ghost use Rattle.std.specs.Prelude.{◌≡◌, ◌<◌, ◌≤◌, ◌∷◌, [], length, OnOk};
+ghost use Rattle.script_tree.specs.Syntax as tree;
+ghost use Rattle.script_tokens.specs.declared.word.Word.TheVariants as w;
+ghost use Rattle.script_grammar.specs.Machine.{act, word, a_name, operand, a_statement, statements, else_part, block, begin_statement, bound, said, branched, repeated, turned};
+ghost use Rattle.script_syntax.specs.Gives.{Gives, Begins, word_token, expression_value, binding_value, statement_value, statements_value, else_value};
+
+use crate::expression::{EXPRESSION, operand};
+use crate::feed::{Stop, any_word, name, take, unexpected, ungrammatical};
+use script_tokens::scan::Tokens;
+use script_tokens::word::Word;
+use script_tree::syntax::expression::Expression;
+use script_tree::syntax::name::Name;
+use script_tree::syntax::statement::{Block, Else, Statement, StatementNode};
+use std::alloc::Global;
+
+/// An expression and the semicolon behind it.
+fn ended(alloc: Global, tokens: &mut Tokens<'_>) -> Result<Expression, Stop>
+    ensures gives { Gives expression_value (operand 6 ∷ word w.Semicolon ∷ []) [] result tokens.old tokens.new }
+    ensures shorter { OnOk result (length tokens.new.tokens < length tokens.old.tokens) }
+{
+    let value = operand(alloc, tokens, EXPRESSION)?;
+    take(tokens, Word::Semicolon)?;
+    Ok(value)
+}
+
+/// A name and the value that is bound to it.
+fn binding(alloc: Global, tokens: &mut Tokens<'_>) -> Result<(Name, Expression), Stop>
+    ensures gives { Gives binding_value (a_name ∷ word w.Becomes ∷ operand 6 ∷ word w.Semicolon ∷ []) [] result tokens.old tokens.new }
+    ensures shorter { OnOk result (length tokens.new.tokens < length tokens.old.tokens) }
+{
+    let name = name(alloc, tokens)?;
+    take(tokens, Word::Becomes)?;
+    let value = ended(alloc, tokens)?;
+    Ok((name, value))
+}
+
+/// The statements between two braces.
+#[cycle(statement)]
+pub fn block(alloc: Global, tokens: &mut Tokens<'_>) -> Result<Block, Stop>
+    ensures gives { Gives statements_value (block []) [] result tokens.old tokens.new }
+    ensures shorter { OnOk result (length tokens.new.tokens < length tokens.old.tokens) }
+{
+    take(tokens, Word::BraceOpen)?;
+    let mut statements = Block::new(alloc);
+    while !tokens.stands(Word::BraceClose) {
+        statements.push(statement(alloc, tokens)?)?;
+    }
+    tokens.skip();
+    Ok(statements)
+}
+
+#[cycle(statement)]
+fn statement(alloc: Global, tokens: &mut Tokens<'_>) -> Result<Statement, Stop>
+    ensures gives { Gives statement_value (a_statement ∷ []) [] result tokens.old tokens.new }
+    ensures shorter { OnOk result (length tokens.new.tokens < length tokens.old.tokens) }
+{
+    match any_word(tokens) {
+        Some((at, word)) => statement_of(alloc, tokens, at, word),
+        None => Err(unexpected(tokens)),
+    }
+}
+
+/// A statement that begins with this word.
+#[cycle(statement)]
+fn statement_of(
+    alloc: Global,
+    tokens: &mut Tokens<'_>,
+    at: usize,
+    word: Word,
+) -> Result<Statement, Stop>
+    ensures gives { Begins statement_value (word_token at word) (begin_statement at word) result tokens.old tokens.new }
+    ensures shorter { OnOk result (length tokens.new.tokens ≤ length tokens.old.tokens) }
+{
+    match word {
+        Word::Let => let_statement(alloc, tokens, at),
+        Word::Set => set_statement(alloc, tokens, at),
+        Word::If => if_statement(alloc, tokens, at),
+        Word::While => while_statement(alloc, tokens, at),
+        Word::For => for_statement(alloc, tokens, at),
+        Word::Echo => echo_statement(alloc, tokens, at),
+        Word::Status => status_statement(alloc, tokens, at),
+        Word::Return => return_statement(alloc, tokens, at),
+        Word::Do => do_statement(alloc, tokens, at),
+        _ => Err(ungrammatical(at)),
+    }
+}
+
+fn let_statement(alloc: Global, tokens: &mut Tokens<'_>, at: usize) -> Result<Statement, Stop>
+    ensures gives { Gives statement_value (a_name ∷ word w.Becomes ∷ operand 6 ∷ word w.Semicolon ∷ act (bound (tree.let_ at)) ∷ []) [] result tokens.old tokens.new }
+    ensures shorter { OnOk result (length tokens.new.tokens < length tokens.old.tokens) }
+{
+    let (name, value) = binding(alloc, tokens)?;
+    let node = StatementNode::Let(name, value);
+    Ok(Statement { at, node })
+}
+
+fn set_statement(alloc: Global, tokens: &mut Tokens<'_>, at: usize) -> Result<Statement, Stop>
+    ensures gives { Gives statement_value (a_name ∷ word w.Becomes ∷ operand 6 ∷ word w.Semicolon ∷ act (bound (tree.set_ at)) ∷ []) [] result tokens.old tokens.new }
+    ensures shorter { OnOk result (length tokens.new.tokens < length tokens.old.tokens) }
+{
+    let (name, value) = binding(alloc, tokens)?;
+    let node = StatementNode::Set(name, value);
+    Ok(Statement { at, node })
+}
+
+#[cycle(statement)]
+fn if_statement(alloc: Global, tokens: &mut Tokens<'_>, at: usize) -> Result<Statement, Stop>
+    ensures gives { Gives statement_value (operand 6 ∷ block (else_part ∷ act (branched at) ∷ [])) [] result tokens.old tokens.new }
+    ensures shorter { OnOk result (length tokens.new.tokens < length tokens.old.tokens) }
+{
+    let condition = operand(alloc, tokens, EXPRESSION)?;
+    let body = block(alloc, tokens)?;
+    let other = otherwise(alloc, tokens)?;
+    let node = StatementNode::If(condition, body, other);
+    Ok(Statement { at, node })
+}
+
+#[cycle(statement)]
+fn otherwise(alloc: Global, tokens: &mut Tokens<'_>) -> Result<Else, Stop>
+    ensures gives { Gives else_value (else_part ∷ []) [] result tokens.old tokens.new }
+    ensures shorter { OnOk result (length tokens.new.tokens ≤ length tokens.old.tokens) }
+{
+    if !tokens.stands(Word::Else) {
+        return Ok(Else::None);
+    }
+    tokens.skip();
+    let body = block(alloc, tokens)?;
+    Ok(Else::Block(body))
+}
+
+#[cycle(statement)]
+fn while_statement(alloc: Global, tokens: &mut Tokens<'_>, at: usize) -> Result<Statement, Stop>
+    ensures gives { Gives statement_value (operand 6 ∷ block (act (repeated at) ∷ [])) [] result tokens.old tokens.new }
+    ensures shorter { OnOk result (length tokens.new.tokens < length tokens.old.tokens) }
+{
+    let condition = operand(alloc, tokens, EXPRESSION)?;
+    let body = block(alloc, tokens)?;
+    let node = StatementNode::While(condition, body);
+    Ok(Statement { at, node })
+}
+
+#[cycle(statement)]
+fn for_statement(alloc: Global, tokens: &mut Tokens<'_>, at: usize) -> Result<Statement, Stop>
+    ensures gives { Gives statement_value (a_name ∷ word w.In ∷ operand 6 ∷ block (act (turned at) ∷ [])) [] result tokens.old tokens.new }
+    ensures shorter { OnOk result (length tokens.new.tokens < length tokens.old.tokens) }
+{
+    let name = name(alloc, tokens)?;
+    take(tokens, Word::In)?;
+    let members = operand(alloc, tokens, EXPRESSION)?;
+    let body = block(alloc, tokens)?;
+    let node = StatementNode::For(name, members, body);
+    Ok(Statement { at, node })
+}
+
+fn echo_statement(alloc: Global, tokens: &mut Tokens<'_>, at: usize) -> Result<Statement, Stop>
+    ensures gives { Gives statement_value (operand 6 ∷ word w.Semicolon ∷ act (said (tree.echo at)) ∷ []) [] result tokens.old tokens.new }
+    ensures shorter { OnOk result (length tokens.new.tokens < length tokens.old.tokens) }
+{
+    let value = ended(alloc, tokens)?;
+    let node = StatementNode::Echo(value);
+    Ok(Statement { at, node })
+}
+
+fn status_statement(alloc: Global, tokens: &mut Tokens<'_>, at: usize) -> Result<Statement, Stop>
+    ensures gives { Gives statement_value (operand 6 ∷ word w.Semicolon ∷ act (said (tree.status at)) ∷ []) [] result tokens.old tokens.new }
+    ensures shorter { OnOk result (length tokens.new.tokens < length tokens.old.tokens) }
+{
+    let value = ended(alloc, tokens)?;
+    let node = StatementNode::Status(value);
+    Ok(Statement { at, node })
+}
+
+fn return_statement(alloc: Global, tokens: &mut Tokens<'_>, at: usize) -> Result<Statement, Stop>
+    ensures gives { Gives statement_value (operand 6 ∷ word w.Semicolon ∷ act (said (tree.return at)) ∷ []) [] result tokens.old tokens.new }
+    ensures shorter { OnOk result (length tokens.new.tokens < length tokens.old.tokens) }
+{
+    let value = ended(alloc, tokens)?;
+    let node = StatementNode::Return(value);
+    Ok(Statement { at, node })
+}
+
+fn do_statement(alloc: Global, tokens: &mut Tokens<'_>, at: usize) -> Result<Statement, Stop>
+    ensures gives { Gives statement_value (operand 6 ∷ word w.Semicolon ∷ act (said (tree.do_ at)) ∷ []) [] result tokens.old tokens.new }
+    ensures shorter { OnOk result (length tokens.new.tokens < length tokens.old.tokens) }
+{
+    let value = ended(alloc, tokens)?;
+    let node = StatementNode::Do(value);
+    Ok(Statement { at, node })
+}

@@ -1,9 +1,8 @@
 -- Steps of the parser.
-use Rattle.std.proofs.Common.{◌≡◌, ℕ, zero, suc, ◌+◌, ◌-◌, ◌<◌, ◌≤◌, ◌==◌, nat_eq, length, map, List, [], ◌∷◌, ◌++◌, Option, Some, None, Bool, true, false, if◌then◌else◌, Result, Ok, Err, refl, sym, ap, ◌∙◌, subst, arith}
+use Rattle.std.proofs.Common.{◌≡◌, ℕ, zero, suc, ◌-◌, ◌<◌, ◌≤◌, nat_eq, length, map, List, [], ◌∷◌, ◌++◌, Option, Some, None, Bool, true, false, if◌then◌else◌, Result, Ok, Err, refl, sym, ap, ◌∙◌, subst, arith}
 use Rattle.std.proofs.lemmas.Bool.Decides.{nat_tests}
 use Rattle.basis.specs.declared.or_memory.OrMemory.{OrMemory}
 use Rattle.basis.specs.declared.or_memory.OrMemory.TheVariants.{Memory, Other}
-use Rattle.script_tree.specs.Syntax.{Expression}
 use Rattle.script_tree.specs.declared.syntax.operator.UnaryOperator.{UnaryOperator}
 use Rattle.script_tokens.specs.Feed.{is_word, stands, behind_first, rest_of, fault_at}
 use Rattle.script_tokens.specs.Scans.{Scan, before}
@@ -16,9 +15,9 @@ use Rattle.script_tokens.proofs.Feeds.{word_is}
 use Rattle.script_grammar.specs.Grouping.{most_repeats}
 use Rattle.script_grammar.specs.declared.joint.Joint.{Joint}
 use Rattle.script_grammar.specs.declared.joint.Joint.TheVariants.{Indexing, And, Or, Operator}
-use Rattle.script_grammar.specs.Machine.{joint_level, joint_of, prefix_of, Val, of_expressions, Act, joined_by, prefixed, called, adds_name, adds_expression, adds_query, adds_statement, adds_declaration, otherwise, apply, Symbol, act, word, a_name, operand, prefixes, atom, tail, name_tail, arguments, more_arguments, more_names, parameters, a_query, more_queries, filter, more_tests, more_sets, a_statement, statements, else_part, declarations, block, begin_declaration, test, assignment, State, chain, begin_prefix, begin_prefixed, after_joint, go_on, joined_on, by_word, feed, Outcome, done, stuck, fed, run}
+use Rattle.script_grammar.specs.Machine.{joint_level, joint_of, prefix_of, Val, of_expressions, Act, joined_by, prefixed, called, adds_name, adds_expression, adds_query, adds_statement, adds_declaration, otherwise, apply, Symbol, act, word, a_name, operand, prefixes, atom, tail, name_tail, arguments, more_arguments, more_names, parameters, a_query, more_queries, filter, more_tests, more_sets, a_statement, statements, else_part, declarations, block, begin_declaration, test, assignment, State, after_joint, feed, stuck, fed, run}
 use Rattle.script_grammar.proofs.Steps.{step_on, same_step, act_runs as acts_on}
-use Rattle.script_syntax.specs.Gives.{reading, stuck_fault, fault_in, Stops, BeginStops, Gives, after, Begins, word_token, of_level, joint_at, placed_prefix, prefix_at, IsNoWord, BeginsNoWord}
+use Rattle.script_syntax.specs.Gives.{reading, stuck_fault, fault_in, Stops, Gives, after, Begins, word_token, of_level, joint_at, placed_prefix, prefix_at}
 
 -- ---- a failure below is a failure above
 

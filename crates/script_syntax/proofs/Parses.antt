@@ -1,5 +1,5 @@
 -- What the machine makes of a file's tokens is what the bytes spell.
-use Rattle.std.proofs.Common.{◌≡◌, ℕ, List, [], ◌∷◌, ◌++◌, ◌⊎◌, inl, inr, Option, Some, None, Result, Ok, Err, refl, sym, ap, ◌∙◌, subst, append-nil}
+use Rattle.std.proofs.Common.{◌≡◌, ℕ, List, [], ◌∷◌, ◌⊎◌, inl, inr, Some, None, Result, Ok, Err, refl, sym, ap, ◌∙◌, subst, append-nil}
 use Rattle.basis.specs.declared.or_memory.OrMemory.{OrMemory}
 use Rattle.basis.specs.declared.or_memory.OrMemory.TheVariants.{Memory, Other}
 use Rattle.script_tree.specs.declared.syntax.declaration.Declaration.{Declaration}
@@ -9,9 +9,9 @@ use Rattle.script_tokens.specs.Scans.{Scan, scan_of}
 use Rattle.script_tokens.specs.declared.fault.End.{End}
 use Rattle.script_tokens.specs.declared.fault.End.TheVariants.{File, Fault}
 use Rattle.script_tokens.specs.declared.fault.SyntaxFault.{SyntaxFault}
-use Rattle.script_grammar.specs.Files.{IsWhole, Spells, ungrammatical, IsAtToken, IsAtEnd, IsSyntaxFault, SpellsOnly, SpellsNone, IsParsed}
+use Rattle.script_grammar.specs.Files.{IsWhole, IsAtToken, IsAtEnd, SpellsOnly, SpellsNone, IsParsed}
 use Rattle.script_grammar.specs.Grammar.{IsTreeOf, Begins, IsFaultAt}
-use Rattle.script_grammar.specs.Machine.{Val, of_declarations, declarations, Outcome, done, stuck, run, run_file}
+use Rattle.script_grammar.specs.Machine.{Val, of_declarations, declarations, Outcome, done, stuck, run_file}
 use Rattle.script_grammar.proofs.Exact.{Answers, exact, one_tree, tree_read}
 use Rattle.script_syntax.specs.Gives.{reading, stuck_fault, fault_in, IsFileRead, IsWholeTree}
 

@@ -1,19 +1,18 @@
-use Rattle.std.proofs.Common.{◌∙◌, ap, sym, refl, arith, ◌∷◌, [], ◌++◌, List, ◌≡◌, ◌-◌, ℕ, length, map}
+use Rattle.std.proofs.Common.{◌∙◌, ap, sym, refl, arith, ◌∷◌, [], ◌++◌, List, ◌≡◌, ◌-◌, length, map}
 use Rattle.std.proofs.lemmas.Result.{err_from_is_err_and}
 use Rattle.script_tree.specs.Syntax as tree
 use Rattle.script_tree.specs.SyntaxLists.{conditions_of}
 use Rattle.script_tree.specs.ExpressionView.{condition_of, assignment_of}
 use Rattle.script_tree.specs.declared.syntax.expression.Assignment.{Assignment}
 use Rattle.script_tree.specs.declared.syntax.expression.Condition.{Condition}
-use Rattle.script_tokens.specs.Kinds.{Token}
 use Rattle.script_tokens.specs.Scans.{Scan}
 use Rattle.script_tokens.specs.Feed.{rest_of}
 use Rattle.script_tokens.specs.declared.word.Word.TheVariants as w
 use Rattle.script_grammar.specs.Grouping.{most_repeats}
 use Rattle.script_grammar.specs.declared.joint.Joint.TheVariants.{Indexing}
-use Rattle.script_grammar.specs.Machine.{Symbol, Val, of_name, of_names, of_expression, of_expressions, of_comparison, of_tests, of_sets, of_query, of_queries, puts, adds_name, adds_expression, adds_test, adds_set, adds_query, joined_by, prefixed, bracketed, called, listed, transacted, inserted, selected, updated, deleted, expected, act, word, a_name, a_comparison, operand, prefixes, atom, tail, name_tail, arguments, more_arguments, more_names, a_query, more_queries, filter, more_tests, more_sets, test, assignment, filtered, begin_query}
+use Rattle.script_grammar.specs.Machine.{Symbol, Val, of_name, of_names, of_expression, of_expressions, of_comparison, of_tests, of_sets, of_query, of_queries, puts, adds_name, adds_expression, adds_test, adds_set, adds_query, joined_by, prefixed, bracketed, called, listed, transacted, inserted, selected, updated, deleted, expected, act, word, a_name, operand, prefixes, atom, tail, arguments, more_arguments, more_names, a_query, more_queries, filter, more_tests, more_sets, test, assignment, filtered, begin_query}
 use Rattle.script_syntax.specs.Gives.{reading, fault_in, word_token, expression_value, expressions_value, tests_value, query_value}
-use Rattle.script_syntax.proofs.Descend.{act_runs, fails, follows, begin_follows, behind_shorter, operand_more, operand_one, joint_runs, joint_stuck, index_runs, no_prefix_runs, prefix_runs, map_push, arguments_runs, more_arguments_run, call_runs, more_queries_run, queries_end, filter_runs, no_filter_runs, more_tests_run, more_sets_run}
+use Rattle.script_syntax.proofs.Descend.{act_runs, fails, follows, begin_follows, behind_shorter, operand_more, operand_one, joint_runs, joint_stuck, index_runs, no_prefix_runs, prefix_runs, map_push, arguments_runs, more_arguments_run, call_runs, more_queries_run, queries_end, filter_runs, more_tests_run, more_sets_run}
 use Rattle.script_syntax.proofs.+expression.Goals as goal
 
 -- ---- lists

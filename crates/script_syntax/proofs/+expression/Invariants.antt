@@ -1,4 +1,4 @@
-use Rattle.std.proofs.Common.{◌≡◌, ◌<◌, ◌≤◌, ◌∷◌, [], length, List, ℕ, ◌+◌, ◌*◌, map}
+use Rattle.std.proofs.Common.{◌≡◌, ◌<◌, ◌≤◌, ◌∷◌, [], length, List, ◌+◌, ◌*◌, map}
 use Rattle.script_tokens.specs.declared.word.Word.TheVariants as w
 use Rattle.script_grammar.specs.Grouping.{most_repeats}
 use Rattle.script_grammar.specs.Machine.{Symbol, Val, act, word, puts, operand, atom, tail, a_query, more_arguments, more_queries, more_tests, more_sets, assignment, adds_query, of_expression, of_expressions, of_queries, of_sets, of_tests}

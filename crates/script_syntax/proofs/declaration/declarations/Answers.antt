@@ -1,6 +1,5 @@
-use Rattle.std.proofs.Common.{◌∙◌, ap, sym, refl, ◌∷◌, []}
+use Rattle.std.proofs.Common.{◌∙◌, refl, ◌∷◌, []}
 use Rattle.script_grammar.specs.Machine.{of_declaration, of_declarations, act, adds_declaration, declarations}
-use Rattle.script_syntax.specs.Gives.{reading}
 use Rattle.script_syntax.proofs.Descend.{act_runs, first_word}
 use Rattle.script_syntax.proofs.declaration.declarations.Goals as goal
 

@@ -1,9 +1,6 @@
-use Rattle.std.proofs.Common.{◌∙◌, ap, sym, refl, arith, ◌∷◌, [], ◌++◌, List, ◌≡◌, length}
-use Rattle.std.proofs.lemmas.Result.{err_from_is_err_and}
-use Rattle.script_tokens.specs.declared.word.Word.TheVariants as w
-use Rattle.script_grammar.specs.Machine.{Symbol, Val, of_name, of_names, of_statements, of_declaration, of_declarations, puts, adds_name, adds_declaration, stored, tabled, defined, paged, act, word, a_name, a_path, more_names, parameters, declarations, block, begin_declaration}
-use Rattle.script_syntax.specs.Gives.{word_token, names_value, declaration_value}
-use Rattle.script_syntax.proofs.Descend.{act_runs, fails, follows, begin_follows, parameters_run}
+use Rattle.std.proofs.Common.{◌∙◌, ◌∷◌}
+use Rattle.script_grammar.specs.Machine.{of_name, of_statements, paged, act, block}
+use Rattle.script_syntax.proofs.Descend.{act_runs}
 use Rattle.script_syntax.proofs.declaration.page.Goals as goal
 
 pub returns-clause-gives : goal.returns-clause-gives

@@ -1,9 +1,9 @@
-use Rattle.std.proofs.Common.{◌∙◌, ap, sym, refl, arith, ◌∷◌, [], ◌++◌, List, ◌≡◌, length}
+use Rattle.std.proofs.Common.{◌∙◌, ap, sym, ◌∷◌, [], ◌++◌, List, ◌≡◌}
 use Rattle.std.proofs.lemmas.Result.{err_from_is_err_and}
 use Rattle.script_tokens.specs.declared.word.Word.TheVariants as w
-use Rattle.script_grammar.specs.Machine.{Symbol, Val, of_name, of_names, of_statements, of_declaration, of_declarations, puts, adds_name, adds_declaration, stored, tabled, defined, paged, act, word, a_name, a_path, more_names, parameters, declarations, block, begin_declaration}
-use Rattle.script_syntax.specs.Gives.{reading, word_token, names_value, declaration_value}
-use Rattle.script_syntax.proofs.Descend.{act_runs, fails, follows, begin_follows, parameters_run}
+use Rattle.script_grammar.specs.Machine.{Symbol, Val, of_name, of_names, puts, adds_name, tabled, act, word, a_name, more_names}
+use Rattle.script_syntax.specs.Gives.{reading}
+use Rattle.script_syntax.proofs.Descend.{act_runs, fails}
 use Rattle.script_syntax.proofs.declaration.table.Goals as goal
 
 pub returns-in_err-name-clause-gives : goal.returns-in_err-name-clause-gives

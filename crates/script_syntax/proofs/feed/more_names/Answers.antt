@@ -1,4 +1,4 @@
-use Rattle.std.proofs.Common.{◌∙◌, ap, sym, refl, arith, ◌∷◌, []}
+use Rattle.std.proofs.Common.{◌∙◌, sym, refl, arith, ◌∷◌, []}
 use Rattle.std.proofs.lemmas.Result.{err_from_is_err_and}
 use Rattle.script_tokens.specs.declared.word.Word.TheVariants as w
 use Rattle.script_grammar.specs.Machine.{word, a_name, act, adds_name, more_names, of_name, of_names}

@@ -1,11 +1,10 @@
-use Rattle.std.proofs.Common.{◌∙◌, ap, sym, refl, arith, ◌∷◌, [], List, ◌≡◌, length}
+use Rattle.std.proofs.Common.{◌∙◌, ap, sym, refl, arith, ◌∷◌, [], ◌≡◌}
 use Rattle.std.proofs.lemmas.Result.{err_from_is_err_and}
 use Rattle.script_tree.specs.Syntax as tree
 use Rattle.script_tree.specs.StatementView.{else_of}
-use Rattle.script_tokens.specs.Scans.{Scan}
 use Rattle.script_tokens.specs.Feed.{rest_of}
 use Rattle.script_tokens.specs.declared.word.Word.TheVariants as w
-use Rattle.script_grammar.specs.Machine.{Symbol, Val, of_name, of_expression, of_statement, of_statements, of_else, puts, adds_statement, bound, said, branched, otherwise, repeated, turned, act, word, a_name, operand, a_statement, statements, else_part, block, begin_statement}
+use Rattle.script_grammar.specs.Machine.{of_name, of_expression, of_statement, of_statements, of_else, puts, adds_statement, bound, said, branched, otherwise, repeated, turned, act, word, a_name, operand, a_statement, statements, else_part, block, begin_statement}
 use Rattle.script_syntax.specs.Gives.{reading, word_token, statement_value}
 use Rattle.script_syntax.proofs.Descend.{act_runs, fails, begin_follows, statements_run, else_runs}
 use Rattle.script_syntax.proofs.statement.+statement.Goals as goal

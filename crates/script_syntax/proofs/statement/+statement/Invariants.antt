@@ -1,5 +1,4 @@
-use Rattle.std.proofs.Common.{◌≡◌, ◌<◌, ◌∷◌, [], length, List, ℕ, ◌+◌, ◌*◌}
-use Rattle.script_tokens.specs.declared.word.Word.TheVariants as w
+use Rattle.std.proofs.Common.{◌≡◌, ◌<◌, ◌∷◌, length, List, ◌+◌, ◌*◌}
 use Rattle.script_grammar.specs.Machine.{Symbol, Val, block, statements, of_statements}
 use Rattle.script_syntax.specs.Gives.{reading}
 use Rattle.script_syntax.proofs.statement.+statement.Given as goal

@@ -90,7 +90,9 @@ fn is_straight_statement(statement: &Statement) -> bool
 fn are_straight(statements: &[Statement]) -> bool
     ensures { result ≡ list_all is_straight_statement statements.now }
 {
-    statements.iter().all(|statement| is_straight_statement(statement))
+    statements
+        .iter()
+        .all(|statement| is_straight_statement(statement))
 }
 
 fn is_straight_page(declaration: &Declaration) -> bool
@@ -106,7 +108,9 @@ fn is_straight_page(declaration: &Declaration) -> bool
 fn is_straight_line(declarations: &[Declaration]) -> bool
     ensures { result ≡ list_all is_straight_page declarations.now }
 {
-    declarations.iter().all(|declaration| is_straight_page(declaration))
+    declarations
+        .iter()
+        .all(|declaration| is_straight_page(declaration))
 }
 
 /// The program, where it can be replayed today.

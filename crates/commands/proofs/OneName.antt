@@ -1,5 +1,5 @@
 -- More than two words are never one name.
-use Rattle.std.proofs.Common.{◌≡◌, ℕ, List, [], ◌∷◌, Option, Some, None, option_map, Bool, true, false, if◌then◌else◌, codes, refl}
+use Rattle.std.proofs.Common.{◌≡◌, ℕ, List, [], ◌∷◌, Option, Some, None, option_map, Bool, true, false, if◌then◌else◌, codes, refl, sym, map, length, ◌≤◌, arith}
 use Rattle.std.specs.Str.{bytes_eq}
 use Rattle.commands.specs.Words.{is_option, names_in, one_name, in_one}
 
@@ -19,3 +19,9 @@ first false false a b c l = second (bytes_eq b (codes "--")) (is_option b) a b c
 
 pub too_many : (a b c : List ℕ) (l : List (List ℕ)) → in_one (names_in (a ∷ b ∷ c ∷ l)) ≡ None
 too_many a b c l = first (bytes_eq a (codes "--")) (is_option a) a b c l
+
+pub many_words : {A : Type 0} (f : A → List ℕ) (ws : List A) → 3 ≤ length ws → None ≡ in_one (names_in (map f ws))
+many_words f [] h = absurd (omega (arith, h))
+many_words f (a ∷ []) h = absurd (omega (arith, h))
+many_words f (a ∷ b ∷ []) h = absurd (omega (arith, h))
+many_words f (a ∷ b ∷ c ∷ ws) h = sym (too_many (f a) (f b) (f c) (map f ws))

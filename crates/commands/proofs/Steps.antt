@@ -26,5 +26,5 @@ pub ends : {A X : Type 0} (view : X → A) (input : Input A) (file : Option (Lis
     (next : A → Answer → Type 0) (e : InputError) (r : Result Answer InputError)
     → IsRead view input file (Err e) → IsErrAnd r (λ passed. passed ≡ e)
     → IfAnswered (WithInput input file next) r
-ends view input file next e (Ok found) read found = absurd found
+ends view input file next e (Ok answer) read found = absurd found
 ends view input file next e (Err passed) read same = rw same (ends_by view input file next e read)

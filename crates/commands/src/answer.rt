@@ -77,7 +77,9 @@ fn counts_line(alloc: Global, counts: Counts) -> Result<String, AllocError>
         stores,
         tables,
     } = counts;
-    format!(in alloc; "ok: pages {pages}, functions {functions}, stores {stores}, tables {tables}\n")
+    format!(in alloc;
+        "ok: pages {pages}, functions {functions}, stores {stores}, tables {tables}\n"
+    )
 }
 
 fn difference_line(alloc: Global, reason: ReplayReason) -> Result<String, AllocError>

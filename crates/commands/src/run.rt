@@ -65,16 +65,19 @@ fn answer_of<F: Shelf>(alloc: Global, words: &Words, shelf: &mut F) -> Result<An
     ensures used { UsesShelf (F.told shelf.old) (F.told shelf.new) (result ≡ Err Failed)
         (IsOkAnd result IsAbsent) }
 {
-    let answered = if let Some(names) = words.replay_names(alloc)? {
-        replay_files(alloc, shelf, names)
-    } else if let Some(name) = words.check_name() {
-        check_file(alloc, shelf, name)
-    } else {
-        return Ok(Answer::Usage);
-    };
-    match answered {
-        Ok(answer) => Ok(answer),
-        Err(InputError::Fault(fault)) => Ok(Answer::Input(fault)),
-        Err(InputError::Halt(halt)) => Err(halt),
+    if let Some(names) = words.replay_names(alloc)? {
+        return match replay_files(alloc, shelf, names) {
+            Ok(answer) => Ok(answer),
+            Err(InputError::Fault(fault)) => Ok(Answer::Input(fault)),
+            Err(InputError::Halt(halt)) => Err(halt),
+        };
     }
+    if let Some(name) = words.check_name() {
+        return match check_file(alloc, shelf, name) {
+            Ok(answer) => Ok(answer),
+            Err(InputError::Fault(fault)) => Ok(Answer::Input(fault)),
+            Err(InputError::Halt(halt)) => Err(halt),
+        };
+    }
+    Ok(Answer::Usage)
 }

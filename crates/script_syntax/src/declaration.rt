@@ -1,7 +1,7 @@
 ghost use Rattle.std.specs.Prelude.{◌≡◌, ◌<◌, ◌≤◌, ◌∷◌, [], length, OnOk};
-ghost use Rattle.script_tokens.specs.declared.word.Word.TheVariants as w;
-ghost use Rattle.script_grammar.specs.Machine.{act, word, puts, a_name, a_path, puts, adds_name, more_names, parameters, block, declarations, begin_declaration, stored, tabled, defined, paged, of_names, of_declarations};
+ghost use Rattle.script_grammar.specs.Machine.{parameters, begin_declaration};
 ghost use Rattle.script_syntax.specs.Gives.{Gives, Begins, word_token, names_value, declaration_value, IsFileRead};
+ghost use Rattle.script_syntax.specs.Behind.{behind_function, behind_page, behind_store, behind_table};
 
 use crate::feed::{Stop, any_word, more_names, name, path, take, unexpected, ungrammatical};
 use crate::statement::block;
@@ -18,7 +18,8 @@ fn declaration(
     at: usize,
     word: Word,
 ) -> Result<Declaration, Stop>
-    ensures gives { Begins declaration_value (word_token at word) (begin_declaration at word) result tokens.old tokens.new }
+    ensures gives { let token = word_token at word in
+        Begins declaration_value token (begin_declaration at word) result tokens.old tokens.new }
     ensures shorter { OnOk result (length tokens.new.tokens ≤ length tokens.old.tokens) }
 {
     match word {
@@ -31,7 +32,7 @@ fn declaration(
 }
 
 fn store(alloc: Global, tokens: &mut Tokens<'_>, at: usize) -> Result<Declaration, Stop>
-    ensures gives { Gives declaration_value (a_name ∷ word w.Semicolon ∷ act (stored at) ∷ []) [] result tokens.old tokens.new }
+    ensures gives { Gives declaration_value (behind_store at) [] result tokens.old tokens.new }
     ensures shorter { OnOk result (length tokens.new.tokens < length tokens.old.tokens) }
 {
     let name = name(alloc, tokens)?;
@@ -40,7 +41,7 @@ fn store(alloc: Global, tokens: &mut Tokens<'_>, at: usize) -> Result<Declaratio
 }
 
 fn table(alloc: Global, tokens: &mut Tokens<'_>, at: usize) -> Result<Declaration, Stop>
-    ensures gives { Gives declaration_value (a_name ∷ word w.Open ∷ act (puts (of_names [])) ∷ a_name ∷ act adds_name ∷ more_names w.Close ∷ word w.Semicolon ∷ act (tabled at) ∷ []) [] result tokens.old tokens.new }
+    ensures gives { Gives declaration_value (behind_table at) [] result tokens.old tokens.new }
     ensures shorter { OnOk result (length tokens.new.tokens < length tokens.old.tokens) }
 {
     let table = name(alloc, tokens)?;
@@ -58,7 +59,8 @@ fn table(alloc: Global, tokens: &mut Tokens<'_>, at: usize) -> Result<Declaratio
 
 /// Names up to the closing bracket, or none.
 fn parameters(alloc: Global, tokens: &mut Tokens<'_>) -> Result<Names, Stop>
-    ensures gives { Gives names_value (parameters ∷ []) (of_names [] ∷ []) result tokens.old tokens.new }
+    ensures gives { let symbols = parameters ∷ [] in
+        Gives names_value symbols (names_value []) result tokens.old tokens.new }
     ensures shorter { OnOk result (length tokens.new.tokens < length tokens.old.tokens) }
 {
     let mut names = Names::new(alloc);
@@ -71,7 +73,7 @@ fn parameters(alloc: Global, tokens: &mut Tokens<'_>) -> Result<Names, Stop>
 }
 
 fn function(alloc: Global, tokens: &mut Tokens<'_>, at: usize) -> Result<Declaration, Stop>
-    ensures gives { Gives declaration_value (a_name ∷ word w.Open ∷ act (puts (of_names [])) ∷ parameters ∷ block (act (defined at) ∷ [])) [] result tokens.old tokens.new }
+    ensures gives { Gives declaration_value (behind_function at) [] result tokens.old tokens.new }
     ensures shorter { OnOk result (length tokens.new.tokens < length tokens.old.tokens) }
 {
     let name = name(alloc, tokens)?;
@@ -87,7 +89,7 @@ fn function(alloc: Global, tokens: &mut Tokens<'_>, at: usize) -> Result<Declara
 }
 
 fn page(alloc: Global, tokens: &mut Tokens<'_>, at: usize) -> Result<Declaration, Stop>
-    ensures gives { Gives declaration_value (a_path ∷ block (act (paged at) ∷ [])) [] result tokens.old tokens.new }
+    ensures gives { Gives declaration_value (behind_page at) [] result tokens.old tokens.new }
     ensures shorter { OnOk result (length tokens.new.tokens < length tokens.old.tokens) }
 {
     let path = path(alloc, tokens)?;

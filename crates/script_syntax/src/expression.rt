@@ -1,8 +1,8 @@
 ghost use Rattle.std.specs.Prelude.{◌≡◌, ◌<◌, ◌≤◌, ◌∷◌, [], length, OnOk, IfOk};
-ghost use Rattle.script_tokens.specs.declared.word.Word.TheVariants as w;
 ghost use Rattle.script_grammar.specs.Grouping.{most_repeats};
-ghost use Rattle.script_grammar.specs.Machine.{joined, word_joint, word_prefix, act, word, operand, prefixes, atom, tail, name_tail, arguments, more_arguments, a_query, more_queries, begin_word, bracketed, listed, transacted, adds_query, of_expressions, of_queries};
+ghost use Rattle.script_grammar.specs.Machine.{joined, word_joint, word_prefix, operand, prefixes, atom, name_tail, arguments, more_arguments, begin_word};
 ghost use Rattle.script_syntax.specs.Gives.{Gives, Begins, word_token, of_level, joint_at, prefix_at, expression_value, expressions_value};
+ghost use Rattle.script_syntax.specs.Behind.{behind_bracket, behind_list, indexed};
 
 use crate::feed::{Stop, any_word, take, unexpected, ungrammatical};
 use crate::query::transact;
@@ -146,7 +146,7 @@ fn prefixed(alloc: Global, tokens: &mut Tokens<'_>, left: usize) -> Result<Expre
 /// An atom and the places in it.
 #[cycle(expression)]
 fn indexed(alloc: Global, tokens: &mut Tokens<'_>) -> Result<Expression, Stop>
-    ensures gives { Gives expression_value (atom ∷ tail 0 (most_repeats 0) ∷ []) [] result tokens.old tokens.new }
+    ensures gives { Gives expression_value indexed [] result tokens.old tokens.new }
     ensures shorter { OnOk result (length tokens.new.tokens < length tokens.old.tokens) }
 {
     let mut value = atom(alloc, tokens)?;
@@ -190,7 +190,8 @@ fn atom(alloc: Global, tokens: &mut Tokens<'_>) -> Result<Expression, Stop>
 /// A variable, or a call.
 #[cycle(expression)]
 fn named(alloc: Global, tokens: &mut Tokens<'_>, name: Name) -> Result<Expression, Stop>
-    ensures gives { Gives expression_value (name_tail name.at name.text ∷ []) [] result tokens.old tokens.new }
+    ensures gives { let symbols = name_tail name.at name.text ∷ [] in
+        Gives expression_value symbols [] result tokens.old tokens.new }
     ensures shorter { OnOk result (length tokens.new.tokens ≤ length tokens.old.tokens) }
 {
     let Name { at, text } = name;
@@ -208,7 +209,8 @@ fn named(alloc: Global, tokens: &mut Tokens<'_>, name: Name) -> Result<Expressio
 /// Expressions up to the closing bracket.
 #[cycle(expression)]
 fn arguments(alloc: Global, tokens: &mut Tokens<'_>, close: Word) -> Result<Expressions, Stop>
-    ensures gives { Gives expressions_value (arguments close ∷ []) (of_expressions [] ∷ []) result tokens.old tokens.new }
+    ensures gives { let symbols = arguments close ∷ [] in
+        Gives expressions_value symbols (expressions_value []) result tokens.old tokens.new }
     ensures shorter { OnOk result (length tokens.new.tokens ≤ length tokens.old.tokens) }
 {
     let mut items = Expressions::new(alloc);
@@ -228,7 +230,8 @@ pub fn more_arguments(
     items: Expressions,
     close: Word,
 ) -> Result<Expressions, Stop>
-    ensures gives { Gives expressions_value (more_arguments close ∷ []) (of_expressions items ∷ []) result tokens.old tokens.new }
+    ensures gives { let symbols = more_arguments close ∷ [] in
+        Gives expressions_value symbols (expressions_value items) result tokens.old tokens.new }
     ensures shorter { OnOk result (length tokens.new.tokens ≤ length tokens.old.tokens) }
 {
     let mut items = items;
@@ -248,7 +251,8 @@ fn word_atom(
     at: usize,
     word: Word,
 ) -> Result<Expression, Stop>
-    ensures gives { Begins expression_value (word_token at word) (begin_word at word) result tokens.old tokens.new }
+    ensures gives { let token = word_token at word in
+        Begins expression_value token (begin_word at word) result tokens.old tokens.new }
     ensures shorter { OnOk result (length tokens.new.tokens ≤ length tokens.old.tokens) }
 {
     let node = match word {
@@ -265,7 +269,7 @@ fn word_atom(
 
 #[cycle(expression)]
 fn bracket(alloc: Global, tokens: &mut Tokens<'_>, at: usize) -> Result<Expression, Stop>
-    ensures gives { Gives expression_value (operand 6 ∷ word w.Close ∷ act (bracketed at) ∷ []) [] result tokens.old tokens.new }
+    ensures gives { Gives expression_value (behind_bracket at) [] result tokens.old tokens.new }
     ensures shorter { OnOk result (length tokens.new.tokens < length tokens.old.tokens) }
 {
     let inner = operand(alloc, tokens, EXPRESSION)?;
@@ -276,7 +280,8 @@ fn bracket(alloc: Global, tokens: &mut Tokens<'_>, at: usize) -> Result<Expressi
 
 #[cycle(expression)]
 fn list(alloc: Global, tokens: &mut Tokens<'_>, at: usize) -> Result<Expression, Stop>
-    ensures gives { Gives expression_value (arguments w.SquareClose ∷ act (listed at) ∷ []) (of_expressions [] ∷ []) result tokens.old tokens.new }
+    ensures gives { let symbols = behind_list at in
+        Gives expression_value symbols (expressions_value []) result tokens.old tokens.new }
     ensures shorter { OnOk result (length tokens.new.tokens ≤ length tokens.old.tokens) }
 {
     let items = arguments(alloc, tokens, Word::SquareClose)?;

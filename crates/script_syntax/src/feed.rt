@@ -2,7 +2,7 @@ ghost use Rattle.std.specs.Prelude.{◌≡◌, ◌<◌, ◌≤◌, ◌∷◌, []
 ghost use Rattle.script_tokens.specs.Feed.{fault_at};
 ghost use Rattle.script_tokens.specs.Scans.{before};
 ghost use Rattle.script_grammar.specs.Files.{ungrammatical};
-ghost use Rattle.script_grammar.specs.Machine.{word, a_name, a_path, more_names, of_names};
+ghost use Rattle.script_grammar.specs.Machine.{word, a_name, a_path, more_names};
 ghost use Rattle.script_syntax.specs.Gives.{Gives, no_value, a_name_value, names_value, word_token, BeginsNoWord};
 ghost use Rattle.basis.specs.declared.or_memory.OrMemory.TheVariants.{Other};
 
@@ -88,7 +88,8 @@ pub fn more_names(
     names: Names,
     close: Word,
 ) -> Result<Names, Stop>
-    ensures gives { Gives names_value (more_names close ∷ []) (of_names names ∷ []) result tokens.old tokens.new }
+    ensures gives { let symbols = more_names close ∷ [] in
+        Gives names_value symbols (names_value names) result tokens.old tokens.new }
     ensures shorter { OnOk result (length tokens.new.tokens ≤ length tokens.old.tokens) }
 {
     let mut names = names;

@@ -7,3 +7,5 @@ mod feed;
 pub mod parse;
 mod query;
 mod statement;
+#[cfg(test)]
+mod tests;

@@ -1,7 +1,7 @@
 ghost use Rattle.std.specs.Prelude.{◌≡◌, ◌<◌, ◌≤◌, ◌∷◌, [], length, OnOk};
-ghost use Rattle.script_tokens.specs.declared.word.Word.TheVariants as w;
-ghost use Rattle.script_grammar.specs.Machine.{word_comparison, more_tests, act, word, puts, a_name, a_comparison, operand, more_arguments, more_names, a_query, more_queries, filter, more_sets, assignment, filtered, begin_query, adds_name, adds_expression, adds_query, transacted, inserted, selected, updated, deleted, expected, of_names, of_expressions, of_tests, of_sets, of_queries};
-ghost use Rattle.script_syntax.specs.Gives.{Gives, Begins, word_token, comparison_at, expression_value, comparison_value, tests_value, sets_value, condition_value, assignment_value, query_value};
+ghost use Rattle.script_grammar.specs.Machine.{word_comparison, more_tests, a_comparison, a_query, filtered, begin_query};
+ghost use Rattle.script_syntax.specs.Gives.{Gives, Begins, word_token, comparison_at, expression_value, comparison_value, tests_value, sets_value, condition_value, assignment_value, query_value, names_value, queries_value};
+ghost use Rattle.script_syntax.specs.Behind.{all_sets, all_tests, behind_delete, behind_expect, behind_insert, behind_select, behind_transact, behind_update, one_set, one_test};
 
 use crate::expression::{EXPRESSION, SUM, more_arguments, operand};
 use crate::feed::{Stop, any_word, more_names, name, take, unexpected, ungrammatical};
@@ -19,7 +19,8 @@ use std::alloc::Global;
 /// The statements of a transaction.
 #[cycle(expression)]
 pub fn transact(alloc: Global, tokens: &mut Tokens<'_>, at: usize) -> Result<Expression, Stop>
-    ensures gives { Gives expression_value (word w.BraceOpen ∷ a_query ∷ act adds_query ∷ more_queries ∷ act (transacted at) ∷ []) (of_queries [] ∷ []) result tokens.old tokens.new }
+    ensures gives { let symbols = behind_transact at in
+        Gives expression_value symbols (queries_value []) result tokens.old tokens.new }
     ensures shorter { OnOk result (length tokens.new.tokens < length tokens.old.tokens) }
 {
     take(tokens, Word::BraceOpen)?;
@@ -47,7 +48,8 @@ fn query(alloc: Global, tokens: &mut Tokens<'_>) -> Result<Query, Stop>
 /// A statement that begins with this word.
 #[cycle(expression)]
 fn query_of(alloc: Global, tokens: &mut Tokens<'_>, at: usize, word: Word) -> Result<Query, Stop>
-    ensures gives { Begins query_value (word_token at word) (begin_query at word) result tokens.old tokens.new }
+    ensures gives { let token = word_token at word in
+        Begins query_value token (begin_query at word) result tokens.old tokens.new }
     ensures shorter { OnOk result (length tokens.new.tokens ≤ length tokens.old.tokens) }
 {
     match word {
@@ -62,7 +64,7 @@ fn query_of(alloc: Global, tokens: &mut Tokens<'_>, at: usize, word: Word) -> Re
 
 #[cycle(expression)]
 fn insert(alloc: Global, tokens: &mut Tokens<'_>, at: usize) -> Result<Query, Stop>
-    ensures gives { Gives query_value (a_name ∷ word w.Open ∷ act (puts (of_expressions [])) ∷ operand 6 ∷ act adds_expression ∷ more_arguments w.Close ∷ word w.Semicolon ∷ act (inserted at) ∷ []) [] result tokens.old tokens.new }
+    ensures gives { Gives query_value (behind_insert at) [] result tokens.old tokens.new }
     ensures shorter { OnOk result (length tokens.new.tokens < length tokens.old.tokens) }
 {
     let table = name(alloc, tokens)?;
@@ -77,7 +79,8 @@ fn insert(alloc: Global, tokens: &mut Tokens<'_>, at: usize) -> Result<Query, St
 
 #[cycle(expression)]
 fn select(alloc: Global, tokens: &mut Tokens<'_>, at: usize) -> Result<Query, Stop>
-    ensures gives { Gives query_value (a_name ∷ act adds_name ∷ more_names w.From ∷ a_name ∷ filtered (act (selected at) ∷ [])) (of_names [] ∷ []) result tokens.old tokens.new }
+    ensures gives { let symbols = behind_select at in
+        Gives query_value symbols (names_value []) result tokens.old tokens.new }
     ensures shorter { OnOk result (length tokens.new.tokens < length tokens.old.tokens) }
 {
     let mut columns = Names::new(alloc);
@@ -91,7 +94,7 @@ fn select(alloc: Global, tokens: &mut Tokens<'_>, at: usize) -> Result<Query, St
 
 #[cycle(expression)]
 fn update(alloc: Global, tokens: &mut Tokens<'_>, at: usize) -> Result<Query, Stop>
-    ensures gives { Gives query_value (a_name ∷ word w.Set ∷ act (puts (of_sets [])) ∷ assignment (more_sets ∷ filtered (act (updated at) ∷ []))) [] result tokens.old tokens.new }
+    ensures gives { Gives query_value (behind_update at) [] result tokens.old tokens.new }
     ensures shorter { OnOk result (length tokens.new.tokens < length tokens.old.tokens) }
 {
     let table = name(alloc, tokens)?;
@@ -104,7 +107,7 @@ fn update(alloc: Global, tokens: &mut Tokens<'_>, at: usize) -> Result<Query, St
 
 #[cycle(expression)]
 fn delete(alloc: Global, tokens: &mut Tokens<'_>, at: usize) -> Result<Query, Stop>
-    ensures gives { Gives query_value (a_name ∷ filtered (act (deleted at) ∷ [])) [] result tokens.old tokens.new }
+    ensures gives { Gives query_value (behind_delete at) [] result tokens.old tokens.new }
     ensures shorter { OnOk result (length tokens.new.tokens < length tokens.old.tokens) }
 {
     let table = name(alloc, tokens)?;
@@ -115,7 +118,7 @@ fn delete(alloc: Global, tokens: &mut Tokens<'_>, at: usize) -> Result<Query, St
 
 #[cycle(expression)]
 fn expect(alloc: Global, tokens: &mut Tokens<'_>, at: usize) -> Result<Query, Stop>
-    ensures gives { Gives query_value (operand 6 ∷ word w.From ∷ a_name ∷ filtered (act (expected at) ∷ [])) [] result tokens.old tokens.new }
+    ensures gives { Gives query_value (behind_expect at) [] result tokens.old tokens.new }
     ensures shorter { OnOk result (length tokens.new.tokens < length tokens.old.tokens) }
 {
     let count = operand(alloc, tokens, EXPRESSION)?;
@@ -139,7 +142,7 @@ fn filter(alloc: Global, tokens: &mut Tokens<'_>) -> Result<Conditions, Stop>
 
 #[cycle(expression)]
 fn tests(alloc: Global, tokens: &mut Tokens<'_>) -> Result<Conditions, Stop>
-    ensures gives { Gives tests_value (act (puts (of_tests [])) ∷ filter ∷ []) [] result tokens.old tokens.new }
+    ensures gives { Gives tests_value all_tests [] result tokens.old tokens.new }
     ensures shorter { OnOk result (length tokens.new.tokens ≤ length tokens.old.tokens) }
 {
     let mut tests = Conditions::new(alloc);
@@ -153,7 +156,8 @@ fn tests(alloc: Global, tokens: &mut Tokens<'_>) -> Result<Conditions, Stop>
 
 #[cycle(expression)]
 fn more_tests(alloc: Global, tokens: &mut Tokens<'_>, tests: Conditions) -> Result<Conditions, Stop>
-    ensures gives { Gives tests_value (more_tests ∷ []) (tests_value tests) result tokens.old tokens.new }
+    ensures gives { let symbols = more_tests ∷ [] in
+        Gives tests_value symbols (tests_value tests) result tokens.old tokens.new }
     ensures shorter { OnOk result (length tokens.new.tokens ≤ length tokens.old.tokens) }
 {
     let mut tests = tests;
@@ -166,7 +170,7 @@ fn more_tests(alloc: Global, tokens: &mut Tokens<'_>, tests: Conditions) -> Resu
 
 #[cycle(expression)]
 fn test(alloc: Global, tokens: &mut Tokens<'_>) -> Result<Condition, Stop>
-    ensures gives { Gives condition_value (a_name ∷ a_comparison ∷ operand 3 ∷ []) [] result tokens.old tokens.new }
+    ensures gives { Gives condition_value one_test [] result tokens.old tokens.new }
     ensures shorter { OnOk result (length tokens.new.tokens < length tokens.old.tokens) }
 {
     let column = name(alloc, tokens)?;
@@ -182,7 +186,7 @@ fn test(alloc: Global, tokens: &mut Tokens<'_>) -> Result<Condition, Stop>
 /// The assignments of an update.
 #[cycle(expression)]
 fn assignments(alloc: Global, tokens: &mut Tokens<'_>) -> Result<Assignments, Stop>
-    ensures gives { Gives sets_value (act (puts (of_sets [])) ∷ assignment (more_sets ∷ [])) [] result tokens.old tokens.new }
+    ensures gives { Gives sets_value all_sets [] result tokens.old tokens.new }
     ensures shorter { OnOk result (length tokens.new.tokens < length tokens.old.tokens) }
 {
     let mut sets = Assignments::new(alloc);
@@ -196,7 +200,7 @@ fn assignments(alloc: Global, tokens: &mut Tokens<'_>) -> Result<Assignments, St
 
 #[cycle(expression)]
 fn assignment(alloc: Global, tokens: &mut Tokens<'_>) -> Result<Assignment, Stop>
-    ensures gives { Gives assignment_value (a_name ∷ word w.Becomes ∷ operand 6 ∷ []) [] result tokens.old tokens.new }
+    ensures gives { Gives assignment_value one_set [] result tokens.old tokens.new }
     ensures shorter { OnOk result (length tokens.new.tokens < length tokens.old.tokens) }
 {
     let column = name(alloc, tokens)?;

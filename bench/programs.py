@@ -1,4 +1,4 @@
-"""Programs that `bench/check` and `bench/fuzz_check` make: all of them are valid."""
+"""Programs that `bench/check` and `bench/fuzz_check` make. All but those of `Careless` are valid."""
 
 import random
 
@@ -188,6 +188,80 @@ class Maker:
         parts += [self.function(number) for number in range(functions)]
         parts += [self.page(number) for number in range(pages)]
         return "\n".join(parts) + "\n", pages, functions
+
+
+class Careless(Maker):
+    """Makes whole programs, in which a name, a count or a path is wrong now and then, so often of 100 times."""
+
+    def __init__(self, seed, percent):
+        super().__init__(seed)
+        self.percent = percent
+        self.functions = [(f"f{number}", self.random.randint(0, 3)) for number in range(3)]
+        self.stores = ["s0", "s1"]
+        self.tables = {"t0": ["k"], "t1": ["k", "v", "w"]}
+
+    def slips(self):
+        return self.chance(self.percent)
+
+    def any_name(self):
+        return self.pick(["a", "b", "c", "d", "e", "f0", "f1", "s0", "t0", "k", "v", "len", "get", "none"])
+
+    def new_name(self):
+        free = [name for name in ["a", "b", "c", "d", "e", "f0", "s0", "t0", "len"] if name not in self.known]
+        return self.any_name() if self.slips() or not free else self.pick(free)
+
+    def variable(self):
+        return self.any_name() if self.slips() else super().variable()
+
+    def call(self, depth):
+        name, count = self.pick(self.functions + BUILT_INS + [(name, count + 1) for name, count in OF_STORES])
+        count += self.random.randint(-1, 1) if self.slips() else 0
+        arguments = [self.expression(depth) for _ in range(count)]
+        if name in dict(OF_STORES) and arguments and not self.slips():
+            arguments[0] = self.pick(self.stores)
+        return f"{self.any_name() if self.slips() else name}({', '.join(arguments)})"
+
+    def column(self, table, others=()):
+        return self.any_name() if self.slips() or not table else self.pick(table[1:] or table if others else table)
+
+    def tests(self, table):
+        if self.chance(40):
+            return ""
+        tests = [f"{self.column(table)} {self.pick(COMPARERS)} {self.sum(1)}" for _ in range(self.random.randint(1, 2))]
+        return " where " + " and ".join(tests)
+
+    def part(self):
+        name = self.any_name() if self.slips() else self.pick(["t0", "t1"])
+        table = self.tables.get(name, [])
+        count = max(1, len(table) + (self.random.randint(-1, 1) if self.slips() else 0))
+        return self.pick([
+            lambda: f"insert {name} ({self.expressions(count, 1)});",
+            lambda: f"select {self.column(table)}, {self.column(table)} from {name}{self.tests(table)};",
+            lambda: f"update {name} set {self.column(table, True)} = {self.expression(1)}{self.tests(table)};",
+            lambda: f"delete {name}{self.tests(table)};",
+            lambda: f"expect {self.expression(1)} from {name}{self.tests(table)};",
+        ])()
+
+    def named_block(self, count):
+        """So many parameters, and a body."""
+        self.known = []
+        names = []
+        for _ in range(count):
+            names.append(self.new_name())
+            self.known.append(names[-1])
+        return f"({', '.join(names)}) {self.block('', 2)}\n"
+
+    def program(self):
+        parts = [f"store {name};\n" for name in self.stores]
+        parts += [f"table {name} ({', '.join(columns)});\n" for name, columns in self.tables.items()]
+        parts += [f"function {name}{self.named_block(count)}" for name, count in self.functions]
+        parts += [f"page \"/{number}\" {self.named_block(0)[3:]}" for number in range(2)]
+        if self.slips():
+            parts.append(f"function {self.any_name()}{self.named_block(self.random.randint(0, 2))}")
+        if self.slips():
+            parts.append(self.pick(["store s0;", "store get;", "table t1 (v, v);", 'page "\\x2f1" { }', "table q (k, k);"]))
+        self.random.shuffle(parts)
+        return "".join(parts).encode()
 
 
 def ok(pages, functions, stores=0, tables=0):

@@ -1,16 +1,39 @@
 -- What a program's file is.
-use Rattle.std.specs.Prelude.{◌≡◌, ℕ, List}
-use Rattle.script_syntax.specs.Grammar.{SpellsProgram}
+use Rattle.std.specs.Prelude.{◌≡◌, ◌⊎◌, ℕ, List, Result, Ok, Err}
 use Rattle.script_tree.specs.Programs.{Program}
+use Rattle.script_tree.specs.StraightLine.{IsStraightLine}
+use Rattle.script_tree.specs.declared.syntax.declaration.Declaration.{Declaration}
+use Rattle.script_tokens.specs.declared.fault.SyntaxFault.{SyntaxFault}
+use Rattle.script_grammar.specs.Files.{Spells, SpellsNone}
+use Rattle.script_check.specs.Least.{IsLeastFault}
+use Rattle.script_check.specs.Validity.{IsValid}
+use Rattle.script_check.specs.declared.fault.CheckFault.{CheckFault}
 use Rattle.command_inputs.specs.Inputs.{Input}
 use Rattle.command_inputs.specs.declared.fault.InputFault.{InputFault}
-use Rattle.command_inputs.specs.declared.fault.InputFault.TheVariants.{NotBuilt}
+use Rattle.command_inputs.specs.declared.fault.InputFault.TheVariants.{NotBuilt, Syntax, Check}
 use Rattle.command_inputs.specs.declared.role.Role.TheVariants as role
 
--- The bytes spell none of the programs that are built.
+-- The bytes spell a tree, and it is valid.
+pub record SpellsProgram (bytes : List ℕ) (program : Program) : Type 0 where
+  pub tree : Spells bytes program.declarations
+  pub valid : IsValid program.declarations
+
+-- They spell no tree, and this is their first fault.
+pub record HasSyntaxFault (bytes : List ℕ) (fault : InputFault) : Type 0 where
+  pub first : SyntaxFault
+  pub none : SpellsNone bytes first
+  pub fault_is : fault ≡ Syntax first
+
+-- They spell a tree, and this is its least fault.
+pub record HasCheckFault (bytes : List ℕ) (fault : InputFault) : Type 0 where
+  pub tree : List Declaration
+  pub least : CheckFault
+  pub spells : Spells bytes tree
+  pub is_least : IsLeastFault tree least
+  pub fault_is : fault ≡ Check least
+
 abbrev pub IsProgramFault : List ℕ → InputFault → Type 0
-IsProgramFault bytes fault =
-    ((program : Program) → SpellsProgram bytes program → ⊥) × (fault ≡ NotBuilt)
+IsProgramFault bytes fault = HasSyntaxFault bytes fault ⊎ HasCheckFault bytes fault
 
 abbrev pub program_input : ℕ → Input Program
 program_input most = record {
@@ -19,3 +42,32 @@ program_input most = record {
   spells = λ bytes program. SpellsProgram bytes program;
   has_fault = λ bytes fault. IsProgramFault bytes fault;
 }
+
+-- ---- programs that can be replayed today
+
+pub record SpellsStraightLine (bytes : List ℕ) (program : Program) : Type 0 where
+  pub program_is : SpellsProgram bytes program
+  pub straight : IsStraightLine program.declarations
+
+-- They spell another program.
+pub record SpellsAnother (bytes : List ℕ) (fault : InputFault) : Type 0 where
+  pub program : Program
+  pub spells : SpellsProgram bytes program
+  pub not_straight : IsStraightLine program.declarations → ⊥
+  pub fault_is : fault ≡ NotBuilt
+
+abbrev pub IsStraightLineFault : List ℕ → InputFault → Type 0
+IsStraightLineFault bytes fault = IsProgramFault bytes fault ⊎ SpellsAnother bytes fault
+
+abbrev pub straight_line_input : ℕ → Input Program
+straight_line_input most = record {
+  role = role.Program;
+  most = most;
+  spells = λ bytes program. SpellsStraightLine bytes program;
+  has_fault = λ bytes fault. IsStraightLineFault bytes fault;
+}
+
+-- The program, where it can be replayed today.
+abbrev pub IsTaken : Program → Result Program InputFault → Type 0
+IsTaken program (Ok taken) = (taken ≡ program) × IsStraightLine program.declarations
+IsTaken program (Err fault) = (fault ≡ NotBuilt) × (IsStraightLine program.declarations → ⊥)

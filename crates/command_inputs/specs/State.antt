@@ -14,7 +14,7 @@ use Rattle.script_tree.specs.declared.operation.Object.TheVariants.{Register, St
 use Rattle.script_tree.specs.declared.limits.TheConstants.{MOST_KEY_BYTES}
 use Rattle.command_inputs.specs.Inputs.{Input}
 use Rattle.command_inputs.specs.declared.fault.InputFault.{InputFault}
-use Rattle.command_inputs.specs.declared.fault.InputFault.TheVariants.{Absent, TooLong, NotBuilt, State, Trace}
+use Rattle.command_inputs.specs.declared.fault.InputFault.TheVariants.{Absent, TooLong, Syntax, Check, NotBuilt, State, Trace}
 use Rattle.command_inputs.specs.declared.role.Role.TheVariants as role
 use Rattle.command_inputs.specs.declared.state.StateFault.{StateFault}
 use Rattle.command_inputs.specs.declared.state.StateFault.TheVariants.{NotJson, OtherShape, BeyondLimit, RegisterTwice}
@@ -160,6 +160,8 @@ pub record SpellsObjects (bytes : List ℕ) (start : Objects) : Type 0 where
 abbrev pub IsStateFault : List ℕ → InputFault → Type 0
 IsStateFault bytes (Absent role) = ⊥
 IsStateFault bytes (TooLong role) = ⊥
+IsStateFault bytes (Syntax fault) = ⊥
+IsStateFault bytes (Check fault) = ⊥
 IsStateFault bytes NotBuilt = ⊥
 IsStateFault bytes (State fault) = HasStateFault bytes fault
 IsStateFault bytes (Trace fault) = ⊥

@@ -7,7 +7,7 @@ use Rattle.trace_format.specs.Events.{trace_format}
 use Rattle.wire.specs.Files.{Spells, IsFault}
 use Rattle.command_inputs.specs.Inputs.{Input}
 use Rattle.command_inputs.specs.declared.fault.InputFault.{InputFault}
-use Rattle.command_inputs.specs.declared.fault.InputFault.TheVariants.{Absent, TooLong, NotBuilt, State, Trace}
+use Rattle.command_inputs.specs.declared.fault.InputFault.TheVariants.{Absent, TooLong, Syntax, Check, NotBuilt, State, Trace}
 use Rattle.command_inputs.specs.declared.fault.TraceFault.{TraceFault}
 use Rattle.command_inputs.specs.declared.fault.TraceFault.TheVariants.{Unreadable, Unbalanced}
 use Rattle.command_inputs.specs.declared.role.Role.TheVariants as role
@@ -29,6 +29,8 @@ HasTraceFault bytes (Unbalanced rid) = IsUnbalanced bytes rid
 abbrev pub IsTraceFault : List ℕ → InputFault → Type 0
 IsTraceFault bytes (Absent role) = ⊥
 IsTraceFault bytes (TooLong role) = ⊥
+IsTraceFault bytes (Syntax fault) = ⊥
+IsTraceFault bytes (Check fault) = ⊥
 IsTraceFault bytes NotBuilt = ⊥
 IsTraceFault bytes (State fault) = ⊥
 IsTraceFault bytes (Trace fault) = HasTraceFault bytes fault

@@ -1,5 +1,6 @@
 ghost use Rattle.std.specs.Prelude.{◌≡◌};
 ghost use Rattle.command_inputs.specs.Faults.{refused};
+ghost use Rattle.command_inputs.specs.FaultTexts.{syntax_number};
 ghost use Rattle.command_inputs.specs.declared.fault.InputError.TheVariants.{Fault, Halt as Halts};
 ghost use Rattle.command_inputs.specs.declared.halt.Halt.TheVariants.{Memory};
 
@@ -7,6 +8,8 @@ use crate::halt::Halt;
 use crate::role::Role;
 use crate::state::StateFault;
 use outside::ShelfFault;
+use script_check::fault::CheckFault;
+use script_tokens::fault::{SyntaxFault, SyntaxFaultKind};
 use std::alloc::AllocError;
 use std::fmt;
 
@@ -26,7 +29,11 @@ pub enum InputFault {
     Absent(Role),
     /// It has more bytes than its limit.
     TooLong(Role),
-    /// The program isn't one of those that are built.
+    /// The program's text has this first fault.
+    Syntax(SyntaxFault),
+    /// The program's tree has this least fault.
+    Check(CheckFault),
+    /// The program isn't one of those that can be replayed today.
     NotBuilt,
     State(StateFault),
     Trace(TraceFault),
@@ -49,6 +56,17 @@ impl InputError {
             ShelfFault::Failed => InputError::Halt(Halt::Failed),
             ShelfFault::Memory => InputError::Halt(Halt::Memory),
         }
+    }
+}
+
+/// The number by which this kind of fault is printed.
+fn syntax_number(kind: SyntaxFaultKind) -> u8
+    ensures { result ≡ syntax_number kind }
+{
+    match kind {
+        SyntaxFaultKind::NoToken => 1,
+        SyntaxFaultKind::Grammar => 2,
+        SyntaxFaultKind::Limit => 3,
     }
 }
 
@@ -76,6 +94,16 @@ impl fmt::Display for InputFault {
         match self {
             InputFault::Absent(role) => write!(f, "{role}: absent"),
             InputFault::TooLong(role) => write!(f, "{role}: too long"),
+            InputFault::Syntax(fault) => {
+                let number = syntax_number(fault.kind);
+                let at = fault.at;
+                write!(f, "program: syntax {number} at {at}")
+            }
+            InputFault::Check(fault) => {
+                let number = fault.kind.number();
+                let at = fault.at;
+                write!(f, "program: check {number} at {at}")
+            }
             InputFault::NotBuilt => write!(f, "program: not built"),
             InputFault::State(fault) => write!(f, "state: {fault}"),
             InputFault::Trace(fault) => write!(f, "trace: {fault}"),

@@ -5,10 +5,12 @@ ghost use Rattle.command_inputs.specs.Program.{program_input};
 
 use crate::fault::{InputError, InputFault};
 use crate::file::read_whole;
+use crate::halt::Halt;
 use crate::role::Role;
+use basis::OrMemory;
 use outside::Shelf;
-use script_syntax::straight_line;
-use script_tree::syntax::program::Program;
+use script_check::program::{Program, check};
+use script_syntax::parse::parse;
 use std::alloc::Global;
 
 /// Reads the program whose file has this name.
@@ -24,8 +26,13 @@ pub fn read_program<F: Shelf>(
     ensures used { UsesToRead (F.told shelf.old) (F.told shelf.new) result }
 {
     let bytes = read_whole(alloc, shelf, Role::Program, name, most)?;
-    match straight_line::read_program(alloc, &bytes)? {
-        Some(program) => Ok(program),
-        None => Err(InputError::Fault(InputFault::NotBuilt)),
+    match parse(alloc, &bytes) {
+        Ok(tree) => match check(alloc, tree) {
+            Ok(program) => Ok(program),
+            Err(OrMemory::Memory) => Err(InputError::Halt(Halt::Memory)),
+            Err(OrMemory::Other(fault)) => Err(InputError::Fault(InputFault::Check(fault))),
+        },
+        Err(OrMemory::Memory) => Err(InputError::Halt(Halt::Memory)),
+        Err(OrMemory::Other(fault)) => Err(InputError::Fault(InputFault::Syntax(fault))),
     }
 }

@@ -6,13 +6,12 @@ use Rattle.command_inputs.specs.declared.fault.InputError.{InputError}
 use Rattle.command_inputs.specs.declared.fault.InputError.TheVariants.{Fault, Halt as Halts}
 use Rattle.commands.specs.Outcome.{IfAnswered, WithInput}
 use Rattle.commands.specs.declared.answer.Answer.{Answer}
-use Rattle.commands.specs.declared.answer.Finding.{Finding}
 
 -- This input was read, and so it goes on.
 pub goes_on : {A : Type 0} (input : Input A) (file : Option (List ℕ)) (x : A)
-    (next : A → Answer → Type 0) (r : Result Finding InputError) → IsInput input file (Ok x)
+    (next : A → Answer → Type 0) (r : Result Answer InputError) → IsInput input file (Ok x)
     → IfAnswered (next x) r → IfAnswered (WithInput input file next) r
-goes_on input file x next (Ok finding) is h = inr (x, is, h)
+goes_on input file x next (Ok found) is h = inr (x, is, h)
 goes_on input file x next (Err (Fault fault)) is h = inr (x, is, h)
 goes_on input file x next (Err (Halts halt)) is h = h
 
@@ -24,8 +23,8 @@ ends_by view input file next (Halts halt) read = read
 
 -- This input wasn't read, and so it ends, as `?` passes the error on.
 pub ends : {A X : Type 0} (view : X → A) (input : Input A) (file : Option (List ℕ))
-    (next : A → Answer → Type 0) (e : InputError) (r : Result Finding InputError)
+    (next : A → Answer → Type 0) (e : InputError) (r : Result Answer InputError)
     → IsRead view input file (Err e) → IsErrAnd r (λ passed. passed ≡ e)
     → IfAnswered (WithInput input file next) r
-ends view input file next e (Ok finding) read found = absurd found
+ends view input file next e (Ok found) read found = absurd found
 ends view input file next e (Err passed) read same = rw same (ends_by view input file next e read)

@@ -12,10 +12,10 @@ use Rattle.replayer.specs.Differences.{verdict}
 use Rattle.replayer.specs.Laws.{AgreesExactly, ExplainsIfRead}
 use Rattle.command_inputs.specs.Inputs.{Input, IsInput}
 use Rattle.command_inputs.specs.Trace.{trace_input}
-use Rattle.commands.specs.Words.{ReplayNames, replay_names}
+use Rattle.commands.specs.Words.{ReplayNames, check_name, replay_names}
 use Rattle.commands.specs.Lines.{finding_of, status_of}
-use Rattle.commands.specs.Outcome.{WithInput, IsFound, IsOutcome, IsOutcomeOf, WithProgram, WithState, WithTrace}
-use Rattle.commands.specs.Explained.{AreSpelled, IsExplained, IsUnexplained}
+use Rattle.commands.specs.Outcome.{WithInput, IsCounted, IsFound, IsOutcome, IsOutcomeOf, WithProgram, WithState, WithTrace}
+use Rattle.commands.specs.Explained.{AskCheck, AskReplay, AreSpelled, IsExplained, IsProgramFile, IsUnexplained}
 use Rattle.commands.specs.declared.answer.Answer.{Answer}
 use Rattle.commands.specs.declared.answer.Answer.TheVariants.{Replay}
 
@@ -43,10 +43,10 @@ record Replayed (words : List (List ℕ)) (files : Files) (answer : Answer) : Ty
   pub found : IsFound program start trace schedule answer
 
 replayed_of : (words : List (List ℕ)) (files : Files) (answer : Answer) (names : Option ReplayNames)
-    → replay_names words ≡ names → (status_of answer ≡ 3 → ⊥) → (status_of answer ≡ 2 → ⊥)
-    → IsOutcomeOf files names answer → Replayed words files answer
-replayed_of words files answer None asked sound used h = absurd (used (ap status_of h))
-replayed_of words files answer (Some names) asked sound used h =
+    (check : Option (List ℕ)) → replay_names words ≡ names → (status_of answer ≡ 3 → ⊥)
+    → (names ≡ None → ⊥) → IsOutcomeOf files names check answer → Replayed words files answer
+replayed_of words files answer None check asked sound used h = absurd (used refl)
+replayed_of words files answer (Some names) check asked sound used h =
     let program = goes_on _ _ (WithProgram files names) answer sound h in
     let state = goes_on _ _ (WithState files names program.0) answer sound program.2 in
     let trace = goes_on _ _ (WithTrace files names program.0 state.0) answer sound state.2 in
@@ -91,10 +91,15 @@ explains exact program start trace (Ok schedule) answer balanced found zero =
 explains exact program start trace (Err at) answer balanced found zero =
     absurd (let e = ap status_of (sym found) ∙ zero in cc)
 
+some_none : {A : Type 0} (o : Option A) (x : A) → o ≡ Some x → o ≡ None → ⊥
+some_none None x s n = cc
+some_none (Some y) x s n = cc
+
 pub explained : AgreesExactly → (words : List (List ℕ)) (files : Files) (answer : Answer)
-    → status_of answer ≡ 0 → IsOutcome words files answer → IsExplained words files
-explained exact words files answer zero h =
-    let r = replayed_of words files answer (replay_names words) refl (λ e. cc) (λ e. cc) h in
+    → AskReplay words → status_of answer ≡ 0 → IsOutcome words files answer → IsExplained words files
+explained exact words files answer asked zero h =
+    let r = replayed_of words files answer (replay_names words) (check_name words) refl (λ e. cc)
+    (λ none. some_none (replay_names words) asked.0 asked.1 none) h in
     let e = explains exact r.program r.start r.trace r.schedule answer r.balanced r.found zero in
     let AreRead : Result (List Moment) ℕ → Type 0 =
     λ read. AreSpelled words files r.program r.start r.trace read in
@@ -110,10 +115,22 @@ unexplaining exact program start trace (Ok schedule) answer balanced found one e
     ((exact program start trace schedule balanced).1 e)
 unexplaining exact program start trace (Err at) answer balanced found one e = e
 
+not_one : (files : Files) (check : Option (List ℕ)) (answer : Answer)
+    → IsOutcomeOf files None check answer → status_of answer ≡ 1 → ⊥
+not_one files None answer h one = let e = ap status_of (sym h) ∙ one in cc
+not_one files (Some name) answer (inl h) one = let e = ap status_of (sym h.2) ∙ one in cc
+not_one files (Some name) answer (inr h) one = let e = ap status_of (sym h.2) ∙ one in cc
+
+is_asked : (files : Files) (names : Option ReplayNames) (check : Option (List ℕ)) (answer : Answer)
+    → IsOutcomeOf files names check answer → status_of answer ≡ 1 → names ≡ None → ⊥
+is_asked files None check answer h one none = not_one files check answer h one
+is_asked files (Some names) check answer h one none = cc
+
 pub unexplained : AgreesExactly → (words : List (List ℕ)) (files : Files) (answer : Answer)
     → status_of answer ≡ 1 → IsOutcome words files answer → IsUnexplained words files
 unexplained exact words files answer one h =
-    let r = replayed_of words files answer (replay_names words) refl (λ e. cc) (λ e. cc) h in (
+    let r = replayed_of words files answer (replay_names words) (check_name words) refl (λ e. cc)
+    (is_asked files (replay_names words) (check_name words) answer h one) h in (
       r.program,
       r.start,
       r.trace,
@@ -121,3 +138,16 @@ unexplained exact words files answer one h =
       r.spelled,
       unexplaining exact r.program r.start r.trace r.schedule answer r.balanced r.found one,
     )
+
+-- ---- a check
+
+-- Status 0: the file spells a program.
+pub is_program_file : (words : List (List ℕ)) (files : Files) (answer : Answer) → AskCheck words
+    → status_of answer ≡ 0 → IsOutcome words files answer → IsProgramFile words files
+is_program_file words files answer asked zero h =
+    let none : IsOutcomeOf files None (check_name words) answer =
+    subst (λ n. IsOutcomeOf files n (check_name words) answer) asked.1 h in
+    let some : IsOutcomeOf files None (Some asked.0) answer =
+    subst (λ n. IsOutcomeOf files None n answer) asked.2 none in
+    let read = goes_on _ _ IsCounted answer (λ e. let f = sym e ∙ zero in cc) some in
+    record { name = asked.0; program = read.0; asked = asked.2; spelled = read.1 }

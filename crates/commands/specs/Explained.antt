@@ -1,5 +1,5 @@
--- What the statuses of a replay mean.
-use Rattle.std.specs.Prelude.{◌≡◌, ℕ, List, Some, Result, Ok}
+-- What the statuses mean.
+use Rattle.std.specs.Prelude.{◌≡◌, ℕ, List, Some, None, Result, Ok}
 use Rattle.std.specs.FinMap.{get}
 use Rattle.outside.specs.Files.{Files}
 use Rattle.script_meaning.specs.Explains.{Explains}
@@ -10,11 +10,25 @@ use Rattle.script_tree.specs.declared.trace.TraceEvent.{TraceEvent}
 use Rattle.wire.specs.declared.limits.TheConstants.{MOST_FILE_BYTES, MOST_SCHEDULE_BYTES}
 use Rattle.replayer.specs.Laws.{ExplainsIfRead}
 use Rattle.command_inputs.specs.Inputs.{IsInput}
-use Rattle.command_inputs.specs.Program.{program_input}
+use Rattle.command_inputs.specs.Program.{program_input, straight_line_input}
 use Rattle.command_inputs.specs.Schedule.{schedule_input}
 use Rattle.command_inputs.specs.State.{state_input}
 use Rattle.command_inputs.specs.Trace.{trace_input}
-use Rattle.commands.specs.Words.{ReplayNames, replay_names}
+use Rattle.commands.specs.Words.{ReplayNames, check_name, replay_names}
+
+-- The words ask for a replay, or for a check.
+abbrev pub AskReplay : List (List ℕ) → Type 0
+AskReplay words = (names : ReplayNames) × (replay_names words ≡ Some names)
+
+abbrev pub AskCheck : List (List ℕ) → Type 0
+AskCheck words = (name : List ℕ) × (replay_names words ≡ None) × (check_name words ≡ Some name)
+
+-- The file that is to be checked spells a program.
+pub record IsProgramFile (words : List (List ℕ)) (files : Files) : Type 0 where
+  pub name : List ℕ
+  pub program : Program
+  pub asked : check_name words ≡ Some name
+  pub spelled : IsInput (program_input MOST_FILE_BYTES) (get files name) (Ok program)
 
 -- The words name the files of a replay. These spell this program, what the objects hold at first,
 -- this trace, and this schedule, or none from a place on.
@@ -22,7 +36,7 @@ pub record AreSpelled (words : List (List ℕ)) (files : Files) (program : Progr
     (trace : List TraceEvent) (schedule : Result (List Moment) ℕ) : Type 0 where
   pub names : ReplayNames
   pub asked : replay_names words ≡ Some names
-  pub program_file : IsInput (program_input MOST_FILE_BYTES) (get files names.program) (Ok program)
+  pub program_file : IsInput (straight_line_input MOST_FILE_BYTES) (get files names.program) (Ok program)
   pub state_file : IsInput (state_input MOST_FILE_BYTES) (get files names.state) (Ok start)
   pub trace_file : IsInput (trace_input MOST_FILE_BYTES) (get files names.trace) (Ok trace)
   pub schedule_file :

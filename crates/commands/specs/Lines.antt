@@ -7,8 +7,9 @@ use Rattle.replayer.specs.declared.reason.ReplayReason.TheVariants as reason
 use Rattle.replayer.specs.declared.reason.Replayed.{Replayed}
 use Rattle.replayer.specs.declared.reason.Replayed.TheVariants as replayed
 use Rattle.command_inputs.specs.FaultTexts.{fault_text}
+use Rattle.script_check.specs.declared.counts.Counts.{Counts}
 use Rattle.commands.specs.declared.answer.Answer.{Answer}
-use Rattle.commands.specs.declared.answer.Answer.TheVariants.{Usage, Input, Replay}
+use Rattle.commands.specs.declared.answer.Answer.TheVariants.{Usage, Input, Checked, Replay}
 use Rattle.commands.specs.declared.answer.Finding.{Finding}
 use Rattle.commands.specs.declared.answer.Finding.TheVariants.{Agrees, Differs}
 
@@ -18,10 +19,19 @@ finding_of moments replayed.Agrees = Agrees moments
 finding_of moments (replayed.Differs reason) = Differs reason
 
 abbrev pub status_of : Answer → ℕ
+status_of (Checked counts) = 0
 status_of (Replay (Agrees moments)) = 0
 status_of (Replay (Differs reason)) = 1
 status_of Usage = 2
 status_of (Input fault) = 3
+
+-- how many declarations of each sort a program has
+abbrev pub counts_line : Counts → List ℕ
+counts_line counts =
+    codes "ok: pages " ++ (decimal counts.pages
+    ++ (codes ", functions " ++ (decimal counts.functions
+    ++ (codes ", stores " ++ (decimal counts.stores
+    ++ (codes ", tables " ++ (decimal counts.tables ++ codes "\n")))))))
 
 abbrev pub difference_line : ReplayReason → List ℕ
 difference_line (reason.Unreadable at) =
@@ -37,5 +47,6 @@ difference_line (reason.Open rid) =
 abbrev pub line_of : Answer → List ℕ
 line_of (Replay (Agrees moments)) = codes "agrees: moments " ++ (decimal moments ++ codes "\n")
 line_of (Replay (Differs reason)) = difference_line reason
+line_of (Checked counts) = counts_line counts
 line_of Usage = codes "usage\n"
 line_of (Input fault) = fault_text fault ++ codes "\n"

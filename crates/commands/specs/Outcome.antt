@@ -6,11 +6,12 @@ use Rattle.script_tree.specs.Objects.{Objects}
 use Rattle.script_tree.specs.Programs.{Program}
 use Rattle.script_tree.specs.declared.schedule.Moment.{Moment}
 use Rattle.script_tree.specs.declared.trace.TraceEvent.{TraceEvent}
+use Rattle.script_check.specs.Counts.{counts_of}
 use Rattle.wire.specs.declared.limits.TheConstants.{MOST_FILE_BYTES, MOST_SCHEDULE_BYTES}
 use Rattle.replayer.specs.Differences.{replayed}
 use Rattle.command_inputs.specs.Faults.{IsAbsence}
 use Rattle.command_inputs.specs.Inputs.{Input, IsInput}
-use Rattle.command_inputs.specs.Program.{program_input}
+use Rattle.command_inputs.specs.Program.{program_input, straight_line_input}
 use Rattle.command_inputs.specs.Schedule.{schedule_input}
 use Rattle.command_inputs.specs.State.{state_input}
 use Rattle.command_inputs.specs.Trace.{trace_input}
@@ -18,10 +19,9 @@ use Rattle.command_inputs.specs.declared.fault.InputError.{InputError}
 use Rattle.command_inputs.specs.declared.fault.InputError.TheVariants as error
 use Rattle.command_inputs.specs.declared.fault.InputFault.{InputFault}
 use Rattle.commands.specs.Lines.{finding_of}
-use Rattle.commands.specs.Words.{ReplayNames, replay_names}
+use Rattle.commands.specs.Words.{ReplayNames, check_name, replay_names}
 use Rattle.commands.specs.declared.answer.Answer.{Answer}
-use Rattle.commands.specs.declared.answer.Answer.TheVariants.{Usage, Input as InputAnswer, Replay}
-use Rattle.commands.specs.declared.answer.Finding.{Finding}
+use Rattle.commands.specs.declared.answer.Answer.TheVariants.{Usage, Input as InputAnswer, Checked, Replay}
 
 -- The input is at fault, which is the answer; or it is this thing, with which it goes on.
 abbrev pub WithInput : {A : Type 0} → Input A → Option (List ℕ) → (A → Answer → Type 0) → Answer
@@ -57,22 +57,31 @@ WithProgram files names program =
 
 abbrev pub IsReplayed : Files → ReplayNames → Answer → Type 0
 IsReplayed files names =
-    WithInput (program_input MOST_FILE_BYTES) (get files names.program) (WithProgram files names)
+    WithInput (straight_line_input MOST_FILE_BYTES) (get files names.program) (WithProgram files names)
+
+-- ---- a check
+
+-- The answer is how much the program declares.
+abbrev pub IsCounted : Program → Answer → Type 0
+IsCounted program answer = answer ≡ Checked (counts_of program.declarations)
+
+abbrev pub IsCheckedFile : Files → List ℕ → Answer → Type 0
+IsCheckedFile files name = WithInput (program_input MOST_FILE_BYTES) (get files name) IsCounted
 
 -- ---- commands
 
-abbrev pub IsOutcomeOf : Files → Option ReplayNames → Answer → Type 0
-IsOutcomeOf files None answer = answer ≡ Usage
-IsOutcomeOf files (Some names) answer = IsReplayed files names answer
+abbrev pub IsOutcomeOf : Files → Option ReplayNames → Option (List ℕ) → Answer → Type 0
+IsOutcomeOf files (Some names) check answer = IsReplayed files names answer
+IsOutcomeOf files None (Some name) answer = IsCheckedFile files name answer
+IsOutcomeOf files None None answer = answer ≡ Usage
 
 -- The outcome of the words over these files.
 abbrev pub IsOutcome : List (List ℕ) → Files → Answer → Type 0
-IsOutcome words files = IsOutcomeOf files (replay_names words)
+IsOutcome words files = IsOutcomeOf files (replay_names words) (check_name words)
 
--- The answer of which a result tells: what was found, or the input's fault. Nothing is said where
--- the command halts.
-abbrev pub IfAnswered : (Answer → Type 0) → Result Finding InputError → Type 0
-IfAnswered is (Ok finding) = is (Replay finding)
+-- The answer, or the input's fault, of which a result tells. Nothing is said where the command halts.
+abbrev pub IfAnswered : (Answer → Type 0) → Result Answer InputError → Type 0
+IfAnswered is (Ok answer) = is answer
 IfAnswered is (Err (error.Fault fault)) = is (InputAnswer fault)
 IfAnswered is (Err (error.Halt halt)) = Unit {0}
 
@@ -80,4 +89,5 @@ IfAnswered is (Err (error.Halt halt)) = Unit {0}
 abbrev pub IsAbsent : Answer → Type 0
 IsAbsent Usage = ⊥
 IsAbsent (InputAnswer fault) = IsAbsence fault
+IsAbsent (Checked counts) = ⊥
 IsAbsent (Replay finding) = ⊥

@@ -35,3 +35,17 @@ in_four None = None
 abbrev pub replay_names : List (List ℕ) → Option ReplayNames
 replay_names [] = None
 replay_names (command ∷ words) = if bytes_eq command (codes "replay") then in_four (names_in words) else None
+
+-- the name, where it is one alone
+abbrev pub one_name : List (List ℕ) → Option (List ℕ)
+one_name (name ∷ []) = Some name
+one_name names = None
+
+abbrev pub in_one : Option (List (List ℕ)) → Option (List ℕ)
+in_one (Some names) = one_name names
+in_one None = None
+
+-- `check` and a name
+abbrev pub check_name : List (List ℕ) → Option (List ℕ)
+check_name [] = None
+check_name (command ∷ words) = if bytes_eq command (codes "check") then in_one (names_in words) else None

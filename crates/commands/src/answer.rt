@@ -1,8 +1,9 @@
 ghost use Rattle.std.specs.Prelude.{◌≡◌, IfOk, string_bytes};
-ghost use Rattle.commands.specs.Lines.{difference_line, finding_of, line_of, status_of};
+ghost use Rattle.commands.specs.Lines.{counts_line, difference_line, finding_of, line_of, status_of};
 
 use command_inputs::InputFault;
 use replayer::{ReplayReason, Replayed};
+use script_check::counts::Counts;
 use std::alloc::{AllocError, Global};
 
 /// What a replay found.
@@ -20,6 +21,8 @@ pub enum Answer {
     Usage,
     /// The first input at fault has this fault.
     Input(InputFault),
+    /// The program is valid, and declares so much.
+    Checked(Counts),
     Replay(Finding),
 }
 
@@ -41,6 +44,7 @@ impl Answer {
         ensures { result ≡ status_of self }
     {
         match self {
+            Answer::Checked(_) => 0,
             Answer::Replay(Finding::Agrees(_)) => 0,
             Answer::Replay(Finding::Differs(_)) => 1,
             Answer::Usage => 2,
@@ -55,12 +59,25 @@ impl Answer {
         match self {
             Answer::Usage => String::from_str(alloc, "usage\n"),
             Answer::Input(fault) => format!(in alloc; "{fault}\n"),
+            Answer::Checked(counts) => counts_line(alloc, counts),
             Answer::Replay(Finding::Agrees(moments)) => {
                 format!(in alloc; "agrees: moments {moments}\n")
             }
             Answer::Replay(Finding::Differs(reason)) => difference_line(alloc, reason),
         }
     }
+}
+
+fn counts_line(alloc: Global, counts: Counts) -> Result<String, AllocError>
+    ensures { IfOk result (λ line. string_bytes line ≡ counts_line counts) }
+{
+    let Counts {
+        pages,
+        functions,
+        stores,
+        tables,
+    } = counts;
+    format!(in alloc; "ok: pages {pages}, functions {functions}, stores {stores}, tables {tables}\n")
 }
 
 fn difference_line(alloc: Global, reason: ReplayReason) -> Result<String, AllocError>

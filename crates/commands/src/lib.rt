@@ -2,6 +2,7 @@
 #![tactic(auto)]
 
 pub mod answer;
+pub mod check;
 pub mod print;
 pub mod replay;
 pub mod run;

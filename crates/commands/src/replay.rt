@@ -3,9 +3,9 @@ ghost use Rattle.command_inputs.specs.Faults.{UsesToRead};
 ghost use Rattle.commands.specs.NamesView.{names_of};
 ghost use Rattle.commands.specs.Outcome.{IfAnswered, IsReplayed};
 
-use crate::answer::Finding;
+use crate::answer::{Answer, Finding};
 use crate::words::ReplayNames;
-use command_inputs::{InputError, read_program, read_schedule, read_state, read_trace};
+use command_inputs::{InputError, read_schedule, read_state, read_straight_line, read_trace};
 use outside::Shelf;
 use replayer::replay::replay;
 use std::alloc::Global;
@@ -17,23 +17,23 @@ pub fn replay_files<F: Shelf>(
     alloc: Global,
     shelf: &mut F,
     names: ReplayNames<'_>,
-) -> Result<Finding, InputError>
+) -> Result<Answer, InputError>
     ensures answer { let names = names_of names.entry in
         ForSome (F.told shelf.old).files (λ files. IfAnswered (IsReplayed files names) result) }
     ensures used { UsesToRead (F.told shelf.old) (F.told shelf.new) result }
 {
-    let program = read_program(alloc, shelf, names.program, MOST_FILE_BYTES)?;
+    let program = read_straight_line(alloc, shelf, names.program, MOST_FILE_BYTES)?;
     let start = read_state(alloc, shelf, names.state, MOST_FILE_BYTES)?;
     let trace = read_trace(alloc, shelf, names.trace, MOST_FILE_BYTES)?;
     let schedule = read_schedule(alloc, shelf, names.schedule, MOST_SCHEDULE_BYTES)?;
     match schedule {
         Ok(schedule) => {
             let replayed = replay(alloc, &program, start, &trace, Ok(&schedule))?;
-            Ok(Finding::new(schedule.len() as u64, replayed))
+            Ok(Answer::Replay(Finding::new(schedule.len() as u64, replayed)))
         }
         Err(at) => {
             let replayed = replay(alloc, &program, start, &trace, Err(at))?;
-            Ok(Finding::new(0, replayed))
+            Ok(Answer::Replay(Finding::new(0, replayed)))
         }
     }
 }

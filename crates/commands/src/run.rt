@@ -1,12 +1,13 @@
 ghost use Rattle.std.specs.Prelude.{◌≡◌, ◌<◌, ◌≤◌, Err, IfOk, IsOkAnd};
 ghost use Rattle.std.specs.Option.{ForSome};
 ghost use Rattle.outside.specs.Shelves.{UsesShelf};
-ghost use Rattle.commands.specs.Explained.{IsExplained, IsUnexplained};
+ghost use Rattle.commands.specs.Explained.{AskCheck, AskReplay, IsExplained, IsProgramFile, IsUnexplained};
 ghost use Rattle.commands.specs.Outcome.{IsAbsent, IsOutcome};
 ghost use Rattle.commands.specs.Runs.{IsAnswered, IsHalted};
 ghost use Rattle.command_inputs.specs.declared.halt.Halt.TheVariants.{Failed};
 
 use crate::answer::Answer;
+use crate::check::check_file;
 use crate::print::print_line;
 use crate::replay::replay_files;
 use crate::words::Words;
@@ -34,8 +35,13 @@ pub fn run<F: Shelf, O: Sink, H: House, C: Clock + Sync, G: Gate + Sync>(
     ensures halted { 4 ≤ result → IsHalted words.now (F.told shelf.old) (F.told shelf.new)
         (O.told out.old) (O.told out.new) result }
 
-    // With status 0 and 1 the schedule explains the trace, and it doesn't.
-    ensures agrees { result ≡ 0 → ForSome (F.told shelf.old).files (IsExplained words.now) }
+    // With status 0 of a check the file spells a program.
+    ensures valid { result ≡ 0 → AskCheck words.now →
+        ForSome (F.told shelf.old).files (IsProgramFile words.now) }
+
+    // With status 0 of a replay the schedule explains the trace, and with status 1 it doesn't.
+    ensures agrees { result ≡ 0 → AskReplay words.now →
+        ForSome (F.told shelf.old).files (IsExplained words.now) }
     ensures differs { result ≡ 1 → ForSome (F.told shelf.old).files (IsUnexplained words.now) }
 
     ensures status { result ≤ 5 }
@@ -59,11 +65,15 @@ fn answer_of<F: Shelf>(alloc: Global, words: &Words, shelf: &mut F) -> Result<An
     ensures used { UsesShelf (F.told shelf.old) (F.told shelf.new) (result ≡ Err Failed)
         (IsOkAnd result IsAbsent) }
 {
-    let Some(names) = words.replay_names(alloc)? else {
+    let answered = if let Some(names) = words.replay_names(alloc)? {
+        replay_files(alloc, shelf, names)
+    } else if let Some(name) = words.check_name() {
+        check_file(alloc, shelf, name)
+    } else {
         return Ok(Answer::Usage);
     };
-    match replay_files(alloc, shelf, names) {
-        Ok(finding) => Ok(Answer::Replay(finding)),
+    match answered {
+        Ok(answer) => Ok(answer),
         Err(InputError::Fault(fault)) => Ok(Answer::Input(fault)),
         Err(InputError::Halt(halt)) => Err(halt),
     }

@@ -1,7 +1,7 @@
 ghost use Rattle.std.specs.Prelude.{◌≡◌, ◌++◌, ◌∷◌, [], map, option_map, IfOk, OnOk, OnErr, string_bytes};
 ghost use Rattle.clap.specs.Matches.{found_of};
 ghost use Rattle.clap.specs.Simple.{app_of};
-ghost use Rattle.commands.specs.Words.{in_four, names_in};
+ghost use Rattle.commands.specs.Words.{in_four, in_one, is_option, names_in};
 ghost use Rattle.commands.specs.WordsApp.{found_names, replay_app};
 ghost use Rattle.commands.specs.NamesView.{names_of};
 
@@ -35,7 +35,7 @@ pub struct ReplayNames<'a> {
 }
 
 impl Words {
-    ghost use Rattle.commands.specs.Words.{replay_names};
+    ghost use Rattle.commands.specs.Words.{check_name, replay_names};
 
     pub fn new(alloc: Global) -> Words
         ensures { result ≡ [] }
@@ -56,6 +56,16 @@ impl Words {
         Ok(())
     }
 
+    /// The name, where the words are `check` and one.
+    pub fn check_name(&self) -> Option<&str>
+        ensures { option_map (λ name. name.now) result ≡ check_name self.now }
+    {
+        match self.items.as_slice() {
+            [command, rest @ ..] if command.as_str() == "check" => one_name(rest),
+            _ => None,
+        }
+    }
+
     /// The names, where the words are `replay` and four of them.
     pub fn replay_names(&self, alloc: Global) -> Result<Option<ReplayNames<'_>>, AllocError>
         ensures { IfOk result (λ names. option_map names_of names ≡ replay_names self.now) }
@@ -64,6 +74,29 @@ impl Words {
             [command, rest @ ..] if command.as_str() == "replay" => four_names(alloc, rest),
             _ => Ok(None),
         }
+    }
+}
+
+/// Whether a word stands for an option: a dash, and more behind it.
+fn is_option(word: &str) -> bool
+    ensures { result ≡ is_option word.now }
+{
+    match word.as_bytes() {
+        [first, _, ..] => *first == b'-',
+        _ => false,
+    }
+}
+
+/// The name, where these words are one.
+fn one_name(words: &[String]) -> Option<&str>
+    ensures { let name = in_one (names_in (map string_bytes words.now)) in
+        option_map (λ found. found.now) result ≡ name }
+{
+    match words {
+        [name] if name.as_str() != "--" && !is_option(name.as_str()) => Some(name.as_str()),
+        [first, name] if first.as_str() == "--" => Some(name.as_str()),
+        [name, last] if !is_option(name.as_str()) && last.as_str() == "--" => Some(name.as_str()),
+        _ => None,
     }
 }
 

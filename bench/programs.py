@@ -286,6 +286,13 @@ def small_pages(count):
     return b"".join(b'page "/p%d" { echo %d; }\n' % (number, number) for number in range(count)), ok(count, 0)
 
 
+def dense(size):
+    """A page of lists of one number: no ordinary program, since it has a node of the tree for each two bytes."""
+    front, back = b'page "/a" { echo [', b"1]; }"
+    lists = b"[1]," * ((size - len(front) - len(back)) // 4)
+    return front + lists + back + b"#" * (size - len(front) - len(lists) - len(back)), ok(1, 0)
+
+
 def calling_functions(count):
     """Each function calls the next one and one far off."""
     lines = []

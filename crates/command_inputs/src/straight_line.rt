@@ -22,8 +22,9 @@ fn is_name(arguments: &[Expression]) -> bool
     ensures { result ≡ is_name (expressions_of arguments.now) }
 {
     match arguments {
+        [] => false,
         [name] => is_text(name),
-        _ => false,
+        [_, _, ..] => false,
     }
 }
 
@@ -55,8 +56,10 @@ fn is_entry(arguments: &[Expression]) -> bool
     ensures { result ≡ is_entry (expressions_of arguments.now) }
 {
     match arguments {
+        [] => false,
+        [_] => false,
         [name, value] => is_text(name) && is_atom(value),
-        _ => false,
+        [_, _, _, ..] => false,
     }
 }
 
@@ -84,11 +87,17 @@ fn is_straight_statement(statement: &Statement) -> bool
     }
 }
 
+fn are_straight(statements: &[Statement]) -> bool
+    ensures { result ≡ list_all is_straight_statement statements.now }
+{
+    statements.iter().all(|statement| is_straight_statement(statement))
+}
+
 fn is_straight_page(declaration: &Declaration) -> bool
     ensures { result ≡ is_straight_page declaration.now }
 {
     match declaration {
-        Declaration::Page { body, .. } => body.as_slice().iter().all(|statement| is_straight_statement(statement)),
+        Declaration::Page { body, .. } => are_straight(body.as_slice()),
         _ => false,
     }
 }

@@ -1,4 +1,5 @@
 pub mod Fronts
+pub mod OneName
 pub mod Steps
 pub mod Verdicts
 pub mod WordsRead

@@ -93,11 +93,36 @@ fn one_name(words: &[String]) -> Option<&str>
         option_map (λ found. found.now) result ≡ name }
 {
     match words {
-        [name] if name.as_str() != "--" && !is_option(name.as_str()) => Some(name.as_str()),
-        [first, name] if first.as_str() == "--" => Some(name.as_str()),
-        [name, last] if !is_option(name.as_str()) && last.as_str() == "--" => Some(name.as_str()),
-        _ => None,
+        [] => None,
+        [name] => plain_name(name.as_str()),
+        [first, second] => name_of_two(first.as_str(), second.as_str()),
+        [_, _, _, ..] => None,
     }
+}
+
+/// The word, where it is a name.
+fn plain_name(word: &str) -> Option<&str>
+    ensures { option_map (λ found. found.now) result ≡ in_one (names_in (word.now ∷ [])) }
+{
+    if word == "--" || is_option(word) {
+        None
+    } else {
+        Some(word)
+    }
+}
+
+/// The name, where one of these words is it and the other is `--`.
+fn name_of_two<'a>(first: &'a str, second: &'a str) -> Option<&'a str>
+    ensures { let name = in_one (names_in (first.now ∷ second.now ∷ [])) in
+        option_map (λ found. found.now) result ≡ name }
+{
+    if first == "--" {
+        return Some(second);
+    }
+    if second == "--" && !is_option(first) {
+        return Some(first);
+    }
+    None
 }
 
 /// The names, where these words are four of them.

@@ -20,7 +20,9 @@ use Rattle.command_inputs.specs.declared.fault.InputError.TheVariants as error
 use Rattle.command_inputs.specs.declared.fault.InputFault.{InputFault}
 use Rattle.commands.specs.Lines.{finding_of}
 use Rattle.commands.specs.Words.{ReplayNames, check_name, replay_names}
+use Rattle.script_check.specs.declared.counts.Counts.{Counts}
 use Rattle.commands.specs.declared.answer.Answer.{Answer}
+use Rattle.commands.specs.declared.answer.Finding.{Finding}
 use Rattle.commands.specs.declared.answer.Answer.TheVariants.{Usage, Input as InputAnswer, Checked, Replay}
 
 -- The input is at fault, which is the answer; or it is this thing, with which it goes on.
@@ -79,11 +81,19 @@ IsOutcomeOf files None None answer = answer ≡ Usage
 abbrev pub IsOutcome : List (List ℕ) → Files → Answer → Type 0
 IsOutcome words files = IsOutcomeOf files (replay_names words) (check_name words)
 
--- The answer, or the input's fault, of which a result tells. Nothing is said where the command halts.
-abbrev pub IfAnswered : (Answer → Type 0) → Result Answer InputError → Type 0
-IfAnswered is (Ok answer) = is answer
-IfAnswered is (Err (error.Fault fault)) = is (InputAnswer fault)
-IfAnswered is (Err (error.Halt halt)) = Unit {0}
+-- The answer of which a result tells: the one for what was found, or the input's fault. Nothing is
+-- said where the command halts.
+abbrev pub IfAnswered : {A : Type 0} → (A → Answer) → (Answer → Type 0) → Result A InputError
+    → Type 0
+IfAnswered answer is (Ok found) = is (answer found)
+IfAnswered answer is (Err (error.Fault fault)) = is (InputAnswer fault)
+IfAnswered answer is (Err (error.Halt halt)) = Unit {0}
+
+abbrev pub IfReplayed : Files → ReplayNames → Result Finding InputError → Type 0
+IfReplayed files names = IfAnswered Replay (IsReplayed files names)
+
+abbrev pub IfChecked : Files → List ℕ → Result Counts InputError → Type 0
+IfChecked files name = IfAnswered Checked (IsCheckedFile files name)
 
 -- The answer is that an input isn't there.
 abbrev pub IsAbsent : Answer → Type 0

@@ -1,9 +1,9 @@
 ghost use Rattle.std.specs.Option.{ForSome};
 ghost use Rattle.command_inputs.specs.Faults.{UsesToRead};
 ghost use Rattle.commands.specs.NamesView.{names_of};
-ghost use Rattle.commands.specs.Outcome.{IfAnswered, IsReplayed};
+ghost use Rattle.commands.specs.Outcome.{IfReplayed};
 
-use crate::answer::{Answer, Finding};
+use crate::answer::Finding;
 use crate::words::ReplayNames;
 use command_inputs::{InputError, read_schedule, read_state, read_straight_line, read_trace};
 use outside::Shelf;
@@ -17,9 +17,9 @@ pub fn replay_files<F: Shelf>(
     alloc: Global,
     shelf: &mut F,
     names: ReplayNames<'_>,
-) -> Result<Answer, InputError>
+) -> Result<Finding, InputError>
     ensures answer { let names = names_of names.entry in
-        ForSome (F.told shelf.old).files (λ files. IfAnswered (IsReplayed files names) result) }
+        ForSome (F.told shelf.old).files (λ files. IfReplayed files names result) }
     ensures used { UsesToRead (F.told shelf.old) (F.told shelf.new) result }
 {
     let program = read_straight_line(alloc, shelf, names.program, MOST_FILE_BYTES)?;
@@ -29,11 +29,11 @@ pub fn replay_files<F: Shelf>(
     match schedule {
         Ok(schedule) => {
             let replayed = replay(alloc, &program, start, &trace, Ok(&schedule))?;
-            Ok(Answer::Replay(Finding::new(schedule.len() as u64, replayed)))
+            Ok(Finding::new(schedule.len() as u64, replayed))
         }
         Err(at) => {
             let replayed = replay(alloc, &program, start, &trace, Err(at))?;
-            Ok(Answer::Replay(Finding::new(0, replayed)))
+            Ok(Finding::new(0, replayed))
         }
     }
 }

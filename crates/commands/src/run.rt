@@ -67,14 +67,14 @@ fn answer_of<F: Shelf>(alloc: Global, words: &Words, shelf: &mut F) -> Result<An
 {
     if let Some(names) = words.replay_names(alloc)? {
         return match replay_files(alloc, shelf, names) {
-            Ok(answer) => Ok(answer),
+            Ok(finding) => Ok(Answer::Replay(finding)),
             Err(InputError::Fault(fault)) => Ok(Answer::Input(fault)),
             Err(InputError::Halt(halt)) => Err(halt),
         };
     }
     if let Some(name) = words.check_name() {
         return match check_file(alloc, shelf, name) {
-            Ok(answer) => Ok(answer),
+            Ok(counts) => Ok(Answer::Checked(counts)),
             Err(InputError::Fault(fault)) => Ok(Answer::Input(fault)),
             Err(InputError::Halt(halt)) => Err(halt),
         };

@@ -16,9 +16,9 @@ returns-in_err-trace-clause-answer g c = λ files told.
     let refused = c.in_err-trace.ensures.read files told'' in
     let names = names_of c.args.names in
     let held = objects_of c.in_ok-start.start in
-    goes_on _ _ _ (WithProgram files names) _ program
-    (goes_on _ _ _ (WithState files names c.in_ok-program.program) _ start
-    (ends (λ trace. trace) _ _ (WithTrace files names c.in_ok-program.program held) _ _ refused c.from_residual-in_err-trace.ensures.1))
+    goes_on Replay _ _ _ (WithProgram files names) _ program
+    (goes_on Replay _ _ _ (WithState files names c.in_ok-program.program) _ start
+    (ends Replay (λ trace. trace) _ _ (WithTrace files names c.in_ok-program.program held) _ _ refused c.from_residual-in_err-trace.ensures.1))
 
 pub returns-in_err-schedule-clause-answer : goal.returns-in_err-schedule-clause-answer
 returns-in_err-schedule-clause-answer g c = λ files told.
@@ -31,10 +31,10 @@ returns-in_err-schedule-clause-answer g c = λ files told.
     let refused = c.in_err-schedule.ensures.read files told3 in
     let names = names_of c.args.names in
     let held = objects_of c.in_ok-start.start in
-    goes_on _ _ _ (WithProgram files names) _ program
-    (goes_on _ _ _ (WithState files names c.in_ok-program.program) _ start
-    (goes_on _ _ _ (WithTrace files names c.in_ok-program.program held) _ trace
-    (ends (λ schedule. schedule) _ _ (IsFound c.in_ok-program.program held c.in_ok-trace.trace)
+    goes_on Replay _ _ _ (WithProgram files names) _ program
+    (goes_on Replay _ _ _ (WithState files names c.in_ok-program.program) _ start
+    (goes_on Replay _ _ _ (WithTrace files names c.in_ok-program.program held) _ trace
+    (ends Replay (λ schedule. schedule) _ _ (IsFound c.in_ok-program.program held c.in_ok-trace.trace)
     _ _ refused c.from_residual-in_err-schedule.ensures.1)))
 
 pub returns-in-Ok-clause-answer : goal.returns-in-Ok-clause-answer

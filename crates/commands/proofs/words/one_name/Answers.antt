@@ -1,4 +1,4 @@
-use Rattle.std.proofs.Common.{map, string_bytes, sym}
+use Rattle.std.proofs.Common.{string_bytes}
 use Rattle.commands.proofs.OneName.{many_words}
 use Rattle.commands.proofs.words.one_name.Goals as goal
 

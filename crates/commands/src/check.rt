@@ -6,6 +6,7 @@ use command_inputs::{InputError, read_program};
 use outside::Shelf;
 use script_check::counts::Counts;
 use std::alloc::Global;
+use std::mem;
 use wire::limits::MOST_FILE_BYTES;
 
 /// How much the program in the file of this name declares.
@@ -15,5 +16,8 @@ pub fn check_file<F: Shelf>(alloc: Global, shelf: &mut F, name: &str) -> Result<
     ensures used { UsesToRead (F.told shelf.old) (F.told shelf.new) result }
 {
     let program = read_program(alloc, shelf, name, MOST_FILE_BYTES)?;
-    Ok(program.counts())
+    let counts = program.counts();
+    // The command ends next, and the system takes back a large tree sooner than it could be freed.
+    mem::forget(program);
+    Ok(counts)
 }

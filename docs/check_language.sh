@@ -1,0 +1,24 @@
+#!/bin/sh
+# Checks each program of the table "Examples" in language.md, and compares the line with the page's. The
+# program is $orochi, or else the launcher of this clone. Ends with 0 where they all agree.
+here=$(CDPATH= cd -- "$(dirname -- "$0")" && pwd -P) || exit 125
+orochi=${orochi:-${here%/docs}/orochi}
+room=$(mktemp -d) || exit 125
+trap 'rm -rf "$room"' EXIT
+
+awk -F '`' '/^### / { inside = ($0 == "### Examples") } /^## / { inside = 0 }
+    inside && /^\|/ && NF >= 5 { print $2; print $4 }' "$here/language.md" >"$room/examples"
+
+differ=0
+examples=0
+while IFS= read -r program && IFS= read -r wanted; do
+    printf %s "$program" >"$room/program"
+    printed=$("$orochi" check "$room/program")
+    examples=$((examples + 1))
+    [ "$printed" = "$wanted" ] && continue
+    differ=$((differ + 1))
+    printf '%s\n  wanted %s\n  printed %s\n' "$program" "$wanted" "$printed"
+done <"$room/examples"
+
+echo "examples $examples, differ $differ"
+[ "$examples" -gt 0 ] && [ "$differ" -eq 0 ]

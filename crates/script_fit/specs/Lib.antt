@@ -1,0 +1,2 @@
+pub mod FitsOperation
+pub mod Laws

@@ -15,7 +15,6 @@ use Rattle.script_meaning.specs.Evaluate.{Setting, Flow, run}
 use Rattle.script_meaning.specs.Run.{Outcome, goes, stops}
 use Rattle.script_meaning.specs.declared.run.Stop.TheVariants.{Wants as wants, Fault as fault, AnswerFault as answer_fault}
 use Rattle.script_fit.specs.FitsOperation.{FitsOperation}
-use Rattle.script_asks.specs.Written.{AreWrittenDeclarations}
 use Rattle.script_asks.proofs.Asked.{IsOutcomeOf, IsKeptFlow, run_well}
 use Rattle.script_asks.proofs.Valid.{bodies_sound, page_sound}
 
@@ -26,12 +25,11 @@ over_is (d ∷ ds) response path op e = cc
 wanted : (a b : Op) → Wants a ≡ Wants b → a ≡ b
 wanted a b e = cc
 
-module _ (program : Program) (request : Request) (answers : List Datum) (op : Op) (valid : IsValid program.declarations)
-    (written : AreWrittenDeclarations program.declarations) (short : IsRequestWithinLimits request) where
+module _ (program : Program) (request : Request) (answers : List Datum) (op : Op) (valid : IsValid program.declarations) (short : IsRequestWithinLimits request) where
   abbrev setting : Setting
   setting = record { program = program; request = request }
 
-  by_outcome : (page : ℕ) (r : Outcome Flow) → IsOutcomeOf setting short (bodies_sound program valid written) IsKeptFlow r → (ended page r).ending ≡ Wants op → FitsOperation program op
+  by_outcome : (page : ℕ) (r : Outcome Flow) → IsOutcomeOf setting short (bodies_sound program valid) IsKeptFlow r → (ended page r).ending ≡ Wants op → FitsOperation program op
   by_outcome page (goes flow p) h e = absurd (over_is p.answers _ _ op e)
   by_outcome page (stops (wants x) p) h e = subst (FitsOperation program) (wanted x op e) h
   by_outcome page (stops (fault f) p) h e = absurd (over_is p.answers _ _ op e)
@@ -41,7 +39,7 @@ module _ (program : Program) (request : Request) (answers : List Datum) (op : Op
   by_page None q e = absurd (over_is answers _ _ op e)
   by_page (Some page) q e =
       by_outcome page.number (run setting (MOST_STEPS + 1) 0 (statements_of page.body) [] (start answers))
-      (run_well setting short (bodies_sound program valid written) (MOST_STEPS + 1) 0 (statements_of page.body) [] (page_sound program valid written request.path page q) tt (start answers)) e
+      (run_well setting short (bodies_sound program valid) (MOST_STEPS + 1) 0 (statements_of page.body) [] (page_sound program valid request.path page q) tt (start answers)) e
 
   pub fits : (conduct program request answers).ending ≡ Wants op → FitsOperation program op
   fits e = by_page (page_in program request.path) refl e

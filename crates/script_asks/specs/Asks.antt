@@ -7,10 +7,9 @@ use Rattle.script_tree.specs.declared.operation.Op.{Op}
 use Rattle.script_check.specs.Validity.{IsValid}
 use Rattle.script_fit.specs.FitsOperation.{FitsOperation}
 use Rattle.script_meaning.specs.Conduct.{conduct, Wants}
-use Rattle.script_asks.specs.Written.{AreWrittenDeclarations}
 
 -- The operation that a page of a valid program wants fits the program, whatever the answers were.
 abbrev pub AsksForWhatFits : Type 0
 AsksForWhatFits = (program : Program) (request : Request) (answers : List Datum) (op : Op)
-    → IsValid program.declarations → AreWrittenDeclarations program.declarations → IsRequestWithinLimits request
+    → IsValid program.declarations → IsRequestWithinLimits request
     → (conduct program request answers).ending ≡ Wants op → FitsOperation program op

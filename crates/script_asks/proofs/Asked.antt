@@ -1,8 +1,7 @@
 -- A run of sound statements asks only for operations that fit, and its values are within the limits.
 use Rattle.std.proofs.Common.{◌≡◌, ◌≢◌, ℕ, zero, suc, ◌<◌, ◌+◌, Bool, true, false, cond, List, [], ◌∷◌, ◌++◌, length, take, Option, Some, None, Result, Ok, Err, refl, sym, ap, subst, ◌∙◌, arith}
-use Rattle.std.specs.Prelude.{All, ◌==◌, nat_lt, slice_get}
+use Rattle.std.specs.Prelude.{◌==◌, nat_lt, slice_get}
 use Rattle.std.specs.Str.{bytes_eq}
-use Rattle.std.proofs.lemmas.List.Elements.{All-nil, All-cons}
 use Rattle.basis.specs.Lists.{nth}
 use Rattle.script_tree.specs.Datum as v
 use Rattle.script_tree.specs.Datum.{Datum, Data, IsWithinLimits, is_within_limits}
@@ -27,7 +26,8 @@ use Rattle.script_meaning.specs.Run.{Cost, taking, Run, Progress, Outcome, goes,
 use Rattle.script_meaning.specs.declared.run.Stop.TheVariants.{Wants as wants, Fault as fault, AnswerFault as answer_fault}
 use Rattle.script_meaning.specs.declared.run.Mark.TheVariants.{Issued as issued}
 use Rattle.script_meaning.specs.Variables.{Variables, value_in, declared, assigned, bound}
-use Rattle.script_fit.specs.FitsOperation.{FitsOperation, FitsTest, FitsChange}
+use Rattle.script_fit.specs.FitsOperation.{FitsOperation}
+use Rattle.script_fit.specs.FitsTransaction.{FitTests, FitChanges}
 use Rattle.script_asks.proofs.Values.{IsFine, text_within, member_within, checked_fine, binary_fine, unary_fine, indexed_fine}
 use Rattle.script_asks.proofs.Operations.{AreWithin, Fitting, IsFineCall, HasStore, built_in_fine, FitsUnchecked, FitUnchecked, transacts}
 use Rattle.script_asks.proofs.Tables.{width_at, column_there, not_the_key, some_columns, columns_there}
@@ -226,10 +226,10 @@ module _ (w : Setting) (short : IsRequestWithinLimits w.request) (bodies : AreSo
   AreQueries qs us = FitUnchecked w.program us × (qs ≢ no_query → us ≢ [])
 
   abbrev AreTests : NumberedTable → List o.Test → Type 0
-  AreTests t tests = All (FitsTest (length t.columns)) tests
+  AreTests t tests = FitTests (length t.columns) tests
 
   abbrev AreChanges : NumberedTable → Assignments → List o.Change → Type 0
-  AreChanges t sets changes = All (FitsChange (length t.columns)) changes × (sets ≢ no_assignment → 0 < length changes)
+  AreChanges t sets changes = FitChanges (length t.columns) changes × (sets ≢ no_assignment → 0 < length changes)
 
   module _ (later : Later) (well : IsWell later) (depth : ℕ) (vs : Variables) (kept : AreKept vs) where
     mutual
@@ -284,12 +284,12 @@ module _ (w : Setting) (short : IsRequestWithinLimits w.request) (bodies : AreSo
       query_well (select at xs t cs) s =
           let at_table = known_at t (λ columns. AreColumns columns xs × AreSoundTests w.program columns cs) s.1 in
           bind (AreTests (table_in w.program t)) (FitsUnchecked w.program) (tests_of w later depth vs (table_in w.program t) cs) _ (tests_well (table_in w.program t) cs at_table.1.1) (λ tests k p.
-          (length (table_in w.program t).columns, at_table.0, record { some = some_columns (table_in w.program t) xs s.0; there = columns_there (table_in w.program t) xs at_table.1.0; tested = k }))
+          (length (table_in w.program t).columns, at_table.0, (some_columns (table_in w.program t) xs s.0, columns_there (table_in w.program t) xs at_table.1.0, k)))
       query_well (update at t sets cs) s =
           let at_table = known_at t (λ columns. AreSoundSets w.program columns sets × AreSoundTests w.program columns cs) s.1 in
           bind (AreChanges (table_in w.program t) sets) (FitsUnchecked w.program) (changes_of w later depth vs (table_in w.program t) sets) _ (changes_well (table_in w.program t) sets at_table.1.0) (λ changes l.
           bind (AreTests (table_in w.program t)) (FitsUnchecked w.program) (tests_of w later depth vs (table_in w.program t) cs) _ (tests_well (table_in w.program t) cs at_table.1.1) (λ tests k p.
-          (length (table_in w.program t).columns, at_table.0, record { some = l.1 s.0; changed = l.0; tested = k })))
+          (length (table_in w.program t).columns, at_table.0, (l.1 s.0, l.0, k))))
       query_well (delete at t cs) s =
           let at_table = known_at t (λ columns. AreSoundTests w.program columns cs) s in
           bind (AreTests (table_in w.program t)) (FitsUnchecked w.program) (tests_of w later depth vs (table_in w.program t) cs) _ (tests_well (table_in w.program t) cs at_table.1) (λ tests k p.
@@ -307,18 +307,18 @@ module _ (w : Setting) (short : IsRequestWithinLimits w.request) (bodies : AreSo
           bind (AreQueries qs) (AreQueries (query q qs)) (operands_of_all w later depth vs qs) _ (queries_well qs s.1) (λ ds l p. ((k, l.0), λ n e. absurd cc)))
 
       tests_well : (t : NumberedTable) (cs : Conditions) → AreSoundTests w.program t.columns cs → Gives (AreTests t) (tests_of w later depth vs t cs)
-      tests_well t no_condition s = λ p. All-nil (FitsTest (length t.columns))
+      tests_well t no_condition s = λ p. tt
       tests_well t (condition x c e cs) s =
           bind IsWithinLimits (AreTests t) (eval w later depth vs e) _ (eval_well e s.1) (λ d k.
           bind (AreTests t) (AreTests t) (tests_of w later depth vs t cs) _ (tests_well t cs s.2) (λ tests l p.
-          All-cons (FitsTest (length t.columns)) _ tests (record { column = column_there x.text t.columns s.0; value = k }) l))
+          (column_there x.text t.columns s.0, k, l)))
 
       changes_well : (t : NumberedTable) (sets : Assignments) → AreSoundSets w.program t.columns sets → Gives (AreChanges t sets) (changes_of w later depth vs t sets)
-      changes_well t no_assignment s = λ p. (All-nil (FitsChange (length t.columns)), λ n. absurd (n refl))
+      changes_well t no_assignment s = λ p. (tt, λ n. absurd (n refl))
       changes_well t (assignment x e sets) s =
           bind IsWithinLimits (AreChanges t (assignment x e sets)) (eval w later depth vs e) _ (eval_well e s.2) (λ d k.
           bind (AreChanges t sets) (AreChanges t (assignment x e sets)) (changes_of w later depth vs t sets) _ (changes_well t sets s.3) (λ changes l p.
-          (All-cons (FitsChange (length t.columns)) _ changes (record { column = column_there x.text t.columns s.0; no_key = not_the_key x.text t.columns s.1 s.0; value = k }) l.0, λ n. omega arith)))
+          ((not_the_key x.text t.columns s.1 s.0, column_there x.text t.columns s.0, k, l.0), λ n. omega arith)))
 
   -- ---- statements
 

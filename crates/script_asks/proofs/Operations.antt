@@ -1,7 +1,6 @@
 -- The operations of calls and transactions fit.
 use Rattle.std.proofs.Common.{◌≡◌, ◌≢◌, ℕ, zero, suc, ◌<◌, ℤ, pos, negsuc, Bool, true, false, cond, List, [], ◌∷◌, ◌++◌, length, Some, Result, Ok, Err, refl, ap, subst, arith}
-use Rattle.std.specs.Prelude.{nat_lt, All}
-use Rattle.std.proofs.lemmas.List.Elements.{All-nil, All-cons}
+use Rattle.std.specs.Prelude.{nat_lt}
 use Rattle.basis.specs.Lists.{nth}
 use Rattle.basis.proofs.Booleans.{both-left, both-right}
 use Rattle.basis.proofs.Options.{some_is, none_is_not}
@@ -21,7 +20,8 @@ use Rattle.script_meaning.specs.Operands.{OpAnswer, Unchecked, first, second, th
 use Rattle.script_meaning.specs.Operations as o
 use Rattle.script_meaning.specs.Operators.{printed, escaped_bytes}
 use Rattle.script_meaning.specs.Results.{◌>>=◌}
-use Rattle.script_fit.specs.FitsOperation.{FitsOperation, FitsTest, FitsSelect, FitsUpdate, FitsStatement, OfTable}
+use Rattle.script_fit.specs.FitsOperation.{FitsOperation}
+use Rattle.script_fit.specs.FitsTransaction.{FitColumns, FitTests, FitChanges, FitsStatement, FitStatements}
 use Rattle.script_asks.proofs.Values.{IsFine, fine_after, checked_fine, length_fine, sliced_fine, kind_within, number_of_within, request_text, built_fine}
 
 -- each value is within the limits
@@ -105,13 +105,17 @@ module _ (program : Program) where
 
   -- ---- transactions
 
+  -- the table is there, and this holds of how many columns it has
+  abbrev OfTable : ℕ → (ℕ → Type 0) → Type 0
+  OfTable t Holds = (width : ℕ) × (nth (table_widths program.declarations) t ≡ Some width) × Holds width
+
   -- a statement whose values weren't looked at
   abbrev pub FitsUnchecked : Unchecked → Type 0
-  FitsUnchecked (u.insert t ds) = OfTable (table_widths program.declarations) t (λ width. length ds ≡ width) × AreWithin ds
-  FitsUnchecked (u.select t columns tests) = OfTable (table_widths program.declarations) t (FitsSelect columns tests)
-  FitsUnchecked (u.update t changes tests) = OfTable (table_widths program.declarations) t (FitsUpdate changes tests)
-  FitsUnchecked (u.delete t tests) = OfTable (table_widths program.declarations) t (λ width. All (FitsTest width) tests)
-  FitsUnchecked (u.expect d t tests) = OfTable (table_widths program.declarations) t (λ width. All (FitsTest width) tests)
+  FitsUnchecked (u.insert t ds) = OfTable t (λ width. length ds ≡ width) × AreWithin ds
+  FitsUnchecked (u.select t columns tests) = OfTable t (λ width. (0 < length columns) × FitColumns width columns × FitTests width tests)
+  FitsUnchecked (u.update t changes tests) = OfTable t (λ width. (0 < length changes) × FitChanges width changes × FitTests width tests)
+  FitsUnchecked (u.delete t tests) = OfTable t (λ width. FitTests width tests)
+  FitsUnchecked (u.expect d t tests) = OfTable t (λ width. FitTests width tests)
 
   abbrev pub FitUnchecked : List Unchecked → Type 0
   FitUnchecked [] = Unit {0}
@@ -134,7 +138,7 @@ module _ (program : Program) where
       by (Ok k) e = let n = name_is_key d k e in (f.0.0, f.0.1, record { columns = f.0.2; key = (k, n.0, n.1); values = values_at (d ∷ ds) f.1 })
       by (Err g) e = tt
 
-  expect_fits : (t : ℕ) (tests : List o.Test) (r : Result ℤ ScriptFault) → OfTable (table_widths program.declarations) t (λ width. All (FitsTest width) tests)
+  expect_fits : (t : ℕ) (tests : List o.Test) (r : Result ℤ ScriptFault) → OfTable t (λ width. FitTests width tests)
       → CheckedFits (r >>= λ n. Ok (o.expect n t tests))
   expect_fits t tests (Ok n) f = f
   expect_fits t tests (Err g) f = tt
@@ -147,16 +151,16 @@ module _ (program : Program) where
   checked_fits (u.expect d t tests) f = expect_fits t tests (number_in d) f
 
   abbrev AllFit : Result (List o.Statement) ScriptFault → Type 0
-  AllFit (Ok ss) = All (FitsStatement (table_widths program.declarations)) ss
+  AllFit (Ok ss) = FitStatements (table_widths program.declarations) ss
   AllFit (Err f) = Unit {0}
 
   all_fit : (us : List Unchecked) → FitUnchecked us → AllFit (all_checked us)
-  all_fit [] f = All-nil (FitsStatement (table_widths program.declarations))
+  all_fit [] f = tt
   all_fit (s ∷ us) f = by (checked s) (checked_fits s f.0) (all_checked us) (all_fit us f.1)
     where
       by : (r : Result o.Statement ScriptFault) → CheckedFits r → (rs : Result (List o.Statement) ScriptFault) → AllFit rs
           → AllFit (r >>= λ s. rs >>= λ ss. Ok (s ∷ ss))
-      by (Ok x) h (Ok xs) hs = All-cons (FitsStatement (table_widths program.declarations)) x xs h hs
+      by (Ok x) h (Ok xs) hs = (h, hs)
       by (Ok x) h (Err g) hs = tt
       by (Err g) h rs hs = tt
 
@@ -177,5 +181,5 @@ module _ (program : Program) where
   transacts (s ∷ us) n f = by (all_checked (s ∷ us)) (all_fit (s ∷ us) f) (some_checked s us)
     where
       by : (r : Result (List o.Statement) ScriptFault) → AllFit r → IsMore r → Fitting (r >>= λ ss. Ok (record { object = o.tables; act = o.transact ss }))
-      by (Ok ss) h m = record { some = m; each = h }
+      by (Ok ss) h m = (m, h)
       by (Err g) h m = tt

@@ -1,8 +1,7 @@
 -- Tables and columns that are declared are found within their numbers.
 use Rattle.std.proofs.Common.{◌≡◌, ◌≢◌, ℕ, suc, ◌<◌, ◌≤◌, ◌+◌, Bool, true, false, cond, List, [], ◌∷◌, length, Some, refl, subst, arith}
-use Rattle.std.specs.Prelude.{map, All, ◌||◌}
+use Rattle.std.specs.Prelude.{map, ◌||◌}
 use Rattle.std.specs.Str.{bytes_eq}
-use Rattle.std.proofs.lemmas.List.Elements.{All-nil, All-cons}
 use Rattle.basis.specs.Lists.{nth}
 use Rattle.basis.proofs.Options.{some_is, none_is_not}
 use Rattle.script_tree.specs.Declarations.{NumberedTable, table_from, column_from, column_in}
@@ -11,6 +10,7 @@ use Rattle.script_tree.specs.declared.syntax.name.Name.{Name}
 use Rattle.script_tree.specs.declared.syntax.declaration.Declaration.{Declaration}
 use Rattle.script_tree.specs.declared.syntax.declaration.Declaration.TheVariants.{Store, Table, Function, Page}
 use Rattle.script_check.specs.Validity.{has, texts, is_key}
+use Rattle.script_fit.specs.FitsTransaction.{FitColumns}
 use Rattle.script_asks.proofs.Sound.{AreColumns}
 
 -- the table stands so far behind the first number
@@ -63,6 +63,6 @@ pub some_columns : (t : NumberedTable) (xs : List Name) → xs ≢ [] → 0 < le
 some_columns t [] n = absurd (n refl)
 some_columns t (x ∷ xs) n = omega arith
 
-pub columns_there : (t : NumberedTable) (xs : List Name) → AreColumns t.columns xs → All (λ c. c < length t.columns) (map (column_in t) xs)
-columns_there t [] h = All-nil (λ c. c < length t.columns)
-columns_there t (x ∷ xs) h = All-cons (λ c. c < length t.columns) (column_in t x) (map (column_in t) xs) (column_there x.text t.columns h.0) (columns_there t xs h.1)
+pub columns_there : (t : NumberedTable) (xs : List Name) → AreColumns t.columns xs → FitColumns (length t.columns) (map (column_in t) xs)
+columns_there t [] h = tt
+columns_there t (x ∷ xs) h = (column_there x.text t.columns h.0, columns_there t xs h.1)

@@ -1,7 +1,5 @@
 -- Rows with other values in columns that aren't the key.
 use Rattle.std.proofs.Common.{◌≡◌, ℕ, zero, suc, ◌<◌, Bool, true, false, cond, List, [], ◌∷◌, length, Some, refl, sym, ap, subst, ◌∙◌, arith}
-use Rattle.std.specs.Prelude.{All}
-use Rattle.std.proofs.lemmas.List.Elements.{All-head, All-tail}
 use Rattle.basis.specs.Lists.{nth, with_nth}
 use Rattle.basis.proofs.Options.{some_is, none_is_not}
 use Rattle.script_tree.specs.Datum.{Datum, IsWithinLimits}
@@ -10,7 +8,7 @@ use Rattle.script_tree.specs.Order.{compare}
 use Rattle.script_tree.specs.Transactions.{Row, Table, key, meets, changed_row, updated_rows}
 use Rattle.script_tree.specs.declared.transaction.Change.{Change}
 use Rattle.script_tree.specs.declared.transaction.Test.{Test}
-use Rattle.script_fit.specs.FitsOperation.{FitsChange}
+use Rattle.script_fit.specs.FitsTransaction.{FitChanges}
 use Rattle.script_fit.proofs.TableRows.{IsBelow, AreRows}
 
 length_kept : (i : ℕ) (d : Datum) (row : Row) → length (with_nth i d row) ≡ length row
@@ -38,19 +36,15 @@ row_with w i d row l h r = record {
   values = value_in_limits i d row h r.values;
 }
 
-row_changed : (w : ℕ) (cs : List Change) (row : Row) → All (FitsChange w) cs → IsRow w row → IsRow w (changed_row cs row)
+row_changed : (w : ℕ) (cs : List Change) (row : Row) → FitChanges w cs → IsRow w row → IsRow w (changed_row cs row)
 row_changed w [] row f r = r
-row_changed w (c ∷ cs) row f r =
-    let it = All-head (FitsChange w) c cs f in
-    row_changed w cs (with_nth c.column c.value row) (All-tail (FitsChange w) c cs f) (row_with w c.column c.value row it.no_key it.value r)
+row_changed w (c ∷ cs) row f r = row_changed w cs (with_nth c.column c.value row) f.3 (row_with w c.column c.value row f.0 f.2 r)
 
-key_same : (w : ℕ) (cs : List Change) (row : Row) → All (FitsChange w) cs → key (changed_row cs row) ≡ key row
+key_same : (w : ℕ) (cs : List Change) (row : Row) → FitChanges w cs → key (changed_row cs row) ≡ key row
 key_same w [] row f = refl
-key_same w (c ∷ cs) row f =
-    key_same w cs (with_nth c.column c.value row) (All-tail (FitsChange w) c cs f)
-    ∙ key_kept c.column c.value row (All-head (FitsChange w) c cs f).no_key
+key_same w (c ∷ cs) row f = key_same w cs (with_nth c.column c.value row) f.3 ∙ key_kept c.column c.value row f.0
 
-module _ (w : ℕ) (cs : List Change) (tests : List Test) (fits : All (FitsChange w) cs) where
+module _ (w : ℕ) (cs : List Change) (tests : List Test) (fits : FitChanges w cs) where
   -- a row as it is after an update
   abbrev updated : Row → Row
   updated row = cond (meets tests row) (changed_row cs row) row

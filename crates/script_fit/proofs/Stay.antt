@@ -109,7 +109,7 @@ dice_stay (Roll bound) Nothing f = refl
 dice_stay (Roll bound) (Number n) f = refl
 
 -- The object that an act is of still holds what it may.
-object_stays : (program : Program) (o : Object) (act : Act) (choice : Choice) (cell : Cell) → FitsObject program o cell → FitsAct program o act
+object_stays : (program : Program) (o : Object) (act : Act) (choice : Choice) (cell : Cell) → FitsObject program o cell → FitsAct (declares_store program.declarations) (table_widths program.declarations) o act
     → plausible act choice cell ≡ true → FitsObject program o (acted act choice cell).0
 object_stays program (Register x) act choice cell h f p =
     let s = register_stays x act choice h.0 h.2 f in (s.0, ap (λ c. (acted act choice c).0) h.1 ∙ s.1, s.2)

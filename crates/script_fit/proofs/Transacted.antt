@@ -1,8 +1,7 @@
 -- Tables stay tables in a transaction that fits them.
 use Rattle.std.proofs.Common.{◌≡◌, ℕ, zero, suc, Bool, true, false, cond, List, [], ◌∷◌, Option, Some, None, refl, sym, subst}
-use Rattle.std.specs.Prelude.{All, option_and_then}
+use Rattle.std.specs.Prelude.{option_and_then}
 use Rattle.std.specs.Option.{option_map, option_map_or}
-use Rattle.std.proofs.lemmas.List.Elements.{All-head, All-tail}
 use Rattle.std.specs.Ordering.{int_eq}
 use Rattle.basis.specs.Lists.{nth, with_nth}
 use Rattle.basis.proofs.Options.{some_is, none_is_not}
@@ -11,7 +10,7 @@ use Rattle.script_tree.specs.Fit.{IsTable, AreTables}
 use Rattle.script_tree.specs.Transactions.{Table, table_at, with_row, row_count, after_statement, after_statements, after_transaction}
 use Rattle.script_tree.specs.declared.transaction.Statement.{Statement}
 use Rattle.script_tree.specs.declared.transaction.Statement.TheVariants.{Insert, Select, Update, Delete, Expect}
-use Rattle.script_fit.specs.FitsOperation.{FitsStatement, FitsTransaction}
+use Rattle.script_fit.specs.FitsTransaction.{FitsStatement, FitStatements, FitsTransaction}
 use Rattle.script_fit.proofs.TableRows.{rows_of_table, table_of_rows, rows_with, rows_left}
 use Rattle.script_fit.proofs.Changed.{rows_updated}
 
@@ -52,7 +51,7 @@ after_one widths (Insert t row) tables a f =
 after_one widths (Select t columns tests) tables a f = a
 after_one widths (Update t changes tests) tables a f =
     let old = rows_of_table f.0 (table_at t tables) (table_there widths tables t f.0 a f.1) in
-    tables_with widths tables t f.0 _ a f.1 (table_of_rows f.0 _ (rows_updated f.0 changes tests f.2.changed (table_at t tables) old))
+    tables_with widths tables t f.0 _ a f.1 (table_of_rows f.0 _ (rows_updated f.0 changes tests f.2.1 (table_at t tables) old))
 after_one widths (Delete t tests) tables a f =
     let old = rows_of_table f.0 (table_at t tables) (table_there widths tables t f.0 a f.1) in
     tables_with widths tables t f.0 _ a f.1 (table_of_rows f.0 _ (rows_left f.0 tests (table_at t tables) old))
@@ -66,9 +65,9 @@ went_on : (widths : List ℕ) (d : Datum) (o : Option (List Table × List Datum)
 went_on widths d None h = tt
 went_on widths d (Some r) h = h
 
-after_all : (widths : List ℕ) (ss : List Statement) (tables : List Table) → AreTables widths tables → All (FitsStatement widths) ss → LeavesAll widths (after_statements ss tables)
+after_all : (widths : List ℕ) (ss : List Statement) (tables : List Table) → AreTables widths tables → FitStatements widths ss → LeavesAll widths (after_statements ss tables)
 after_all widths [] tables a f = a
-after_all widths (s ∷ ss) tables a f = by (after_statement s tables) (after_one widths s tables a (All-head (FitsStatement widths) s ss f)) (λ ts b. after_all widths ss ts b (All-tail (FitsStatement widths) s ss f))
+after_all widths (s ∷ ss) tables a f = by (after_statement s tables) (after_one widths s tables a f.0) (λ ts b. after_all widths ss ts b f.1)
   where
     by : (o : Option (List Table × Datum)) → Leaves widths o → ((ts : List Table) → AreTables widths ts → LeavesAll widths (after_statements ss ts))
         → LeavesAll widths (option_and_then (λ r. option_map (λ rest. (rest.0, r.1 ∷ rest.1)) (after_statements ss r.0)) o)
@@ -82,4 +81,4 @@ ended widths tables (Some r) a h = h
 
 pub transacted : (widths : List ℕ) (ss : List Statement) (tables : List Table) → AreTables widths tables → FitsTransaction widths ss
     → AreTables widths (after_transaction ss tables).0
-transacted widths ss tables a f = ended widths tables (after_statements ss tables) a (after_all widths ss tables a f.each)
+transacted widths ss tables a f = ended widths tables (after_statements ss tables) a (after_all widths ss tables a f.1)

@@ -1,55 +1,14 @@
 -- When an operation fits a program: its object takes the act, what it names is declared, and its values are within the limits.
-use Rattle.std.specs.Prelude.{◌≡◌, ℕ, ◌<◌, ◌≤ℤ◌, pos, true, List, length, All, Some}
-use Rattle.basis.specs.Lists.{nth}
+use Rattle.std.specs.Prelude.{◌≡◌, ℕ, ◌≤ℤ◌, pos, Bool, true, List}
 use Rattle.script_tree.specs.Datum.{IsWithinLimits}
-use Rattle.script_tree.specs.Fit.{declares_store, table_widths, IsKey, IsRow}
+use Rattle.script_tree.specs.Fit.{declares_store, table_widths, IsKey}
 use Rattle.script_tree.specs.Programs.{Program}
 use Rattle.script_tree.specs.declared.operation.Act.{Act}
 use Rattle.script_tree.specs.declared.operation.Act.TheVariants.{Read, Write, Get, Put, Remove, Transact, Now, Roll}
 use Rattle.script_tree.specs.declared.operation.Object.{Object}
 use Rattle.script_tree.specs.declared.operation.Object.TheVariants.{Register, Store, Tables, Clock, Dice}
 use Rattle.script_tree.specs.declared.operation.Op.{Op}
-use Rattle.script_tree.specs.declared.transaction.Change.{Change}
-use Rattle.script_tree.specs.declared.transaction.Statement.{Statement}
-use Rattle.script_tree.specs.declared.transaction.Statement.TheVariants.{Insert, Select, Update, Delete, Expect}
-use Rattle.script_tree.specs.declared.transaction.Test.{Test}
-
--- ---- transactions, where the tables have so many columns each
-
--- The table is there, and this holds of how many columns it has.
-abbrev pub OfTable : List ℕ → ℕ → (ℕ → Type 0) → Type 0
-OfTable widths t Holds = (width : ℕ) × (nth widths t ≡ Some width) × Holds width
-
-pub record FitsTest (width : ℕ) (test : Test) : Type 0 where
-  pub column : test.column < width
-  pub value : IsWithinLimits test.value
-
--- The first column is the key, which stays as it is.
-pub record FitsChange (width : ℕ) (change : Change) : Type 0 where
-  pub column : change.column < width
-  pub no_key : 0 < change.column
-  pub value : IsWithinLimits change.value
-
-pub record FitsSelect (columns : List ℕ) (tests : List Test) (width : ℕ) : Type 0 where
-  pub some : 0 < length columns
-  pub there : All (λ c. c < width) columns
-  pub tested : All (FitsTest width) tests
-
-pub record FitsUpdate (changes : List Change) (tests : List Test) (width : ℕ) : Type 0 where
-  pub some : 0 < length changes
-  pub changed : All (FitsChange width) changes
-  pub tested : All (FitsTest width) tests
-
-abbrev pub FitsStatement : List ℕ → Statement → Type 0
-FitsStatement widths (Insert t row) = OfTable widths t (λ width. IsRow width row)
-FitsStatement widths (Select t columns tests) = OfTable widths t (FitsSelect columns tests)
-FitsStatement widths (Update t changes tests) = OfTable widths t (FitsUpdate changes tests)
-FitsStatement widths (Delete t tests) = OfTable widths t (λ width. All (FitsTest width) tests)
-FitsStatement widths (Expect n t tests) = OfTable widths t (λ width. All (FitsTest width) tests)
-
-pub record FitsTransaction (widths : List ℕ) (statements : List Statement) : Type 0 where
-  pub some : 0 < length statements
-  pub each : All (FitsStatement widths) statements
+use Rattle.script_fit.specs.FitsTransaction.{FitsTransaction}
 
 -- ---- acts of each object
 
@@ -108,12 +67,13 @@ FitsDice (Roll bound) = pos 1 ≤ℤ bound
 
 -- ---- operations
 
-abbrev pub FitsAct : Program → Object → Act → Type 0
-FitsAct program (Register x) act = FitsRegister x act
-FitsAct program (Store s) act = (declares_store program.declarations s ≡ true) × FitsStore act
-FitsAct program Tables act = FitsTables (table_widths program.declarations) act
-FitsAct program Clock act = FitsClock act
-FitsAct program Dice act = FitsDice act
+-- where these stores are there, and tables of so many columns each
+abbrev pub FitsAct : (List ℕ → Bool) → List ℕ → Object → Act → Type 0
+FitsAct stores widths (Register x) act = FitsRegister x act
+FitsAct stores widths (Store s) act = (stores s ≡ true) × FitsStore act
+FitsAct stores widths Tables act = FitsTables widths act
+FitsAct stores widths Clock act = FitsClock act
+FitsAct stores widths Dice act = FitsDice act
 
 abbrev pub FitsOperation : Program → Op → Type 0
-FitsOperation program op = FitsAct program op.object op.act
+FitsOperation program op = FitsAct (declares_store program.declarations) (table_widths program.declarations) op.object op.act

@@ -1,5 +1,5 @@
 -- When a tree is a program: docs/language.md, "Check" and "Scope". Each part of the tree has these faults, in the order of the text.
-use Rattle.std.specs.Prelude.{◌≡◌, ℕ, suc, ◌==◌, ◌||◌, List, [], ◌∷◌, ◌++◌, length, Bool, true, false, not, Option, Some, None, is_some, option_map, if◌then◌else◌}
+use Rattle.std.specs.Prelude.{◌≡◌, ℕ, suc, ◌==◌, nat_le, ◌||◌, List, [], ◌∷◌, ◌++◌, length, Bool, true, false, not, Option, Some, None, is_some, option_map, if◌then◌else◌}
 use Rattle.std.specs.Str.{bytes_eq}
 use Rattle.script_tree.specs.Builtins.{builtin_of, takes_store, arity_of}
 use Rattle.script_tree.specs.Declarations.{table_from, DeclaredFunction, function_from, page_from}
@@ -7,6 +7,7 @@ use Rattle.script_tree.specs.Fit.{declares_store}
 use Rattle.script_tree.specs.SyntaxLists.{statements_of}
 use Rattle.script_tree.specs.SyntaxPlaces.{place_of}
 use Rattle.script_tree.specs.Syntax.{Expression, number, text, truth, null, bracket, variable, call, list, transact, unary, binary, and_, or_, index, Expressions, no_expression, expression, Query, insert, select, update, delete, expect, Queries, no_query, query, Conditions, no_condition, condition, Assignments, no_assignment, assignment, Statement, let_, set_, if_, while_, for_, echo, status, return, do_, Else, no_else, else_, Statements, no_statement, statement}
+use Rattle.script_tree.specs.declared.limits.TheConstants.{MOST_LITERAL_BYTES}
 use Rattle.script_tree.specs.declared.syntax.builtin.Builtin.{Builtin}
 use Rattle.script_tree.specs.declared.syntax.name.Name.{Name}
 use Rattle.script_tree.specs.declared.syntax.declaration.Declaration.{Declaration}
@@ -105,17 +106,31 @@ abbrev pub set_faults : Option (List Name) → Name → List CheckFault
 set_faults None x = []
 set_faults (Some columns) x = fault_unless (has (texts columns) x.text) x.at Unknown ++ fault_unless (not (is_key columns x.text)) x.at KeyWritten
 
+-- ---- parts that each text has: a tree that is none of a text may lack them
+
+abbrev pub are_some : Queries → Bool
+are_some no_query = false
+are_some (query q qs) = true
+
+abbrev pub is_some_name : List Name → Bool
+is_some_name [] = false
+is_some_name (x ∷ xs) = true
+
+abbrev pub is_some_set : Assignments → Bool
+is_some_set no_assignment = false
+is_some_set (assignment x e sets) = true
+
 abbrev mutual
   pub expression_faults : List Declaration → List (List ℕ) → Expression → List CheckFault
   expression_faults ds known (number at n) = []
-  expression_faults ds known (text at bytes) = []
+  expression_faults ds known (text at bytes) = fault_unless (nat_le (length bytes) MOST_LITERAL_BYTES) at WrongCount
   expression_faults ds known (truth at b) = []
   expression_faults ds known (null at) = []
   expression_faults ds known (bracket at e) = expression_faults ds known e
   expression_faults ds known (variable at x) = fault_unless (has known x) at Undeclared
   expression_faults ds known (call at f es) = call_faults at (how_many es) (builtin_of f) (function_from f ds) ++ arguments_faults ds known (names_store (builtin_of f)) es
   expression_faults ds known (list at es) = expressions_faults ds known es
-  expression_faults ds known (transact at qs) = queries_faults ds known qs
+  expression_faults ds known (transact at qs) = fault_unless (are_some qs) at WrongCount ++ queries_faults ds known qs
   expression_faults ds known (unary at operator e) = expression_faults ds known e
   expression_faults ds known (binary at operator left right) = expression_faults ds known left ++ expression_faults ds known right
   expression_faults ds known (and_ at left right) = expression_faults ds known left ++ expression_faults ds known right
@@ -134,8 +149,8 @@ abbrev mutual
 
   pub query_faults : List Declaration → List (List ℕ) → Query → List CheckFault
   query_faults ds known (insert at t es) = let table = columns_in ds t.text in table_faults table t ++ row_faults table t (how_many es) ++ expressions_faults ds known es
-  query_faults ds known (select at columns t cs) = let table = columns_in ds t.text in columns_faults table columns ++ table_faults table t ++ conditions_faults ds known table cs
-  query_faults ds known (update at t sets cs) = let table = columns_in ds t.text in table_faults table t ++ assignments_faults ds known table sets ++ conditions_faults ds known table cs
+  query_faults ds known (select at columns t cs) = let table = columns_in ds t.text in fault_unless (is_some_name columns) at WrongCount ++ columns_faults table columns ++ table_faults table t ++ conditions_faults ds known table cs
+  query_faults ds known (update at t sets cs) = let table = columns_in ds t.text in fault_unless (is_some_set sets) at WrongCount ++ table_faults table t ++ assignments_faults ds known table sets ++ conditions_faults ds known table cs
   query_faults ds known (delete at t cs) = let table = columns_in ds t.text in table_faults table t ++ conditions_faults ds known table cs
   query_faults ds known (expect at e t cs) = let table = columns_in ds t.text in expression_faults ds known e ++ table_faults table t ++ conditions_faults ds known table cs
 

@@ -9,8 +9,9 @@ ghost use Rattle.script_check.specs.Validity.{store_faults, expression_faults};
 use crate::fault::CheckFaultKind;
 use crate::found::Found;
 use crate::index::Index;
-use crate::query::check_queries;
+use crate::query::{check_queries, has_queries};
 use crate::scope::Scope;
+use script_tree::limits::MOST_LITERAL_BYTES;
 use script_tree::syntax::builtin::Builtin;
 use script_tree::syntax::expression::{Expression, ExpressionNode, Expressions};
 use script_tree::text::Text;
@@ -73,10 +74,14 @@ fn check_node(index: &Index, scope: &Scope, at: usize, node: &ExpressionNode, fo
     ensures { Finds (in_node index.now scope.now at node.now) found.old found.new }
 {
     match node {
-        ExpressionNode::Number(_)
-        | ExpressionNode::Text(_)
-        | ExpressionNode::Bool(_)
-        | ExpressionNode::Null => {}
+        ExpressionNode::Number(_) | ExpressionNode::Bool(_) | ExpressionNode::Null => {}
+        ExpressionNode::Text(text) => {
+            found.unless(
+                text.len() <= MOST_LITERAL_BYTES,
+                at,
+                CheckFaultKind::WrongCount,
+            );
+        }
         ExpressionNode::Bracket(inner) => check_expression(index, scope, inner, found),
         ExpressionNode::Variable(name) => {
             let is_known = scope.knows(name.as_bytes());
@@ -89,6 +94,11 @@ fn check_node(index: &Index, scope: &Scope, at: usize, node: &ExpressionNode, fo
             check_expressions(index, scope, members.as_slice(), found);
         }
         ExpressionNode::Transact(queries) => {
+            found.unless(
+                has_queries(queries.as_slice()),
+                at,
+                CheckFaultKind::WrongCount,
+            );
             check_queries(index, scope, queries.as_slice(), found);
         }
         ExpressionNode::Unary(_, operand) => check_expression(index, scope, operand, found),

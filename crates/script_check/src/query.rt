@@ -1,11 +1,14 @@
 #![tactic(auto, using(crate::proofs::Least::lower_append, crate::proofs::Least::lower_none))]
 
+ghost use Rattle.std.specs.Prelude.{◌≡◌, map};
 ghost use Rattle.std.specs.Option.{option_copied};
+ghost use Rattle.script_tree.specs.ExpressionView.{assignment_of};
+ghost use Rattle.script_tree.specs.SyntaxLists.{queries_of, assignments_of};
 ghost use Rattle.script_check.specs.Finds.{Finds};
 ghost use Rattle.script_check.specs.Members.{in_query_node, in_queries, in_tests, in_sets};
 ghost use Rattle.script_check.specs.Validity.{table_faults, row_faults, column_faults};
 ghost use Rattle.script_check.specs.Validity.{columns_faults, set_faults};
-ghost use Rattle.script_check.specs.Validity.{query_faults};
+ghost use Rattle.script_check.specs.Validity.{query_faults, are_some, is_some_name, is_some_set};
 
 use crate::columns::Columns;
 use crate::expression::{check_expression, check_expressions};
@@ -57,6 +60,29 @@ fn check_set(table: Option<&Columns>, name: &Name, found: &mut Found)
     }
 }
 
+// A tree that no text spells may have none of these.
+
+/// Whether a transaction has a statement.
+pub(crate) fn has_queries(queries: &[Query]) -> bool
+    ensures { result ≡ are_some (queries_of queries.now) }
+{
+    !queries.is_empty()
+}
+
+/// Whether a select has a column.
+fn has_names(names: &[Name]) -> bool
+    ensures { result ≡ is_some_name names.now }
+{
+    !names.is_empty()
+}
+
+/// Whether an update has an assignment.
+fn has_sets(sets: &[Assignment]) -> bool
+    ensures { result ≡ is_some_set (assignments_of (map assignment_of sets.now)) }
+{
+    !sets.is_empty()
+}
+
 #[cycle(expression)]
 fn check_query(index: &Index, scope: &Scope, query: &Query, found: &mut Found)
     ensures { Finds (query_faults index.now scope.now query.now) found.old found.new }
@@ -77,12 +103,22 @@ fn check_query_node(index: &Index, scope: &Scope, at: usize, node: &QueryNode, f
         }
         QueryNode::Select(columns, name, conditions) => {
             let table = index.table(name.text.as_bytes());
+            found.unless(
+                has_names(columns.as_slice()),
+                at,
+                CheckFaultKind::WrongCount,
+            );
             check_columns(table, columns.as_slice(), found);
             check_table(table, name, found);
             check_tests(index, scope, table, conditions.as_slice(), found);
         }
         QueryNode::Update(name, assignments, conditions) => {
             let table = index.table(name.text.as_bytes());
+            found.unless(
+                has_sets(assignments.as_slice()),
+                at,
+                CheckFaultKind::WrongCount,
+            );
             check_table(table, name, found);
             check_sets(index, scope, table, assignments.as_slice(), found);
             check_tests(index, scope, table, conditions.as_slice(), found);

@@ -1,0 +1,7 @@
+pub mod Asked
+pub mod Wanted
+pub mod Operations
+pub mod Sound
+pub mod Tables
+pub mod Valid
+pub mod Values

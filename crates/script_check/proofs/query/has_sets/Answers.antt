@@ -1,0 +1,7 @@
+use Rattle.std.proofs.Common.{ap, ◌∙◌}
+use Rattle.std.specs.Prelude.{not}
+use Rattle.script_check.proofs.Some.{some_sets}
+use Rattle.script_check.proofs.query.has_sets.Goals as goal
+
+pub returns : goal.returns
+returns c = ap not c.is_empty.ensures ∙ some_sets c.args.sets.now

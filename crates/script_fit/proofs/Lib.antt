@@ -1,0 +1,4 @@
+pub mod Changed
+pub mod Stay
+pub mod TableRows
+pub mod Transacted

@@ -1,0 +1,3 @@
+pub mod FitsOperation
+pub mod FitsTransaction
+pub mod Laws

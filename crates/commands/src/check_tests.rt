@@ -10,6 +10,8 @@ const ONE_PAGE: &str = "ok: pages 1, functions 0, stores 0, tables 0";
 
 const ONE_STORE: &str = "ok: pages 0, functions 0, stores 1, tables 0";
 
+const PAGE_AND_STORE: &str = "ok: pages 1, functions 0, stores 1, tables 0";
+
 const PAGE_AND_TABLE: &str = "ok: pages 1, functions 0, stores 0, tables 1";
 
 /// What stands around an expression, which begins at 17.
@@ -190,7 +192,7 @@ fn counts(rt: HostRuntime) -> Result<(), Fail> {
             "ok: pages 0, functions 0, stores 4, tables 2",
         ),
         (
-            br#"page "/a" { echo f(get(s, "k"), 2); } function f(a, b) { return a; } store s; table t (a, b);"#,
+            br#"page "/a" { echo f(get(s, "k")); } function f(a) { } store s; table t (a, b);"#,
             "ok: pages 1, functions 1, stores 1, tables 1",
         ),
     ] {
@@ -233,11 +235,11 @@ fn longest_tokens(rt: HostRuntime) -> Result<(), Fail> {
     let alloc = rt.alloc();
     for (part, line) in [
         (
-            b"let iffy = 1; let fortune = 2; let inn = 3; let _ = 4; let not1 = iffy; let Do = not1;".as_slice(),
+            b"let iffy = 1; let fortune = 2; let inn = 3; let _ = 4; let not1 = iffy;".as_slice(),
             ONE_PAGE,
         ),
         (
-            b"if 1<=2{} if 1<2{} if 1>=2{} echo 1==2;echo 1!=2;echo 1>2;let x=-1;set x=-x;",
+            b"if 1<=2{} if 1<2{} if 1>=2{} echo 1==2;echo 1!=2;let x=-1;set x=-x;",
             ONE_PAGE,
         ),
         (b"echo 1or 2and 3; echo 1 -- 2; echo not-1;", ONE_PAGE),
@@ -628,7 +630,7 @@ fn brackets_calls_and_lists(rt: HostRuntime) -> Result<(), Fail> {
     let alloc = rt.alloc();
     for (part, line) in [
         (
-            br#"[][0] + [1, [2], (3)][1][0]; echo "ab"[1]; echo null[0]; echo str(1)[0]; echo (1)[2]"#.as_slice(),
+            br#"[][0] + [1, [2], (3)][1][0] + "ab"[1] + null[0] + str(1)[0] + (1)[2]"#.as_slice(),
             ONE_PAGE,
         ),
         (b"()", "syntax 2 at 18"),
@@ -773,7 +775,11 @@ fn transactions(rt: HostRuntime) -> Result<(), Fail> {
     let alloc = rt.alloc();
     for (part, line) in [
         (
-            b"update t set v = 1 == 2 or 3, v = 4 where k >= 1 + 2 and v != (3 or 4) and k < not 5;".as_slice(),
+            b"insert t (1, 2); select v, k, v from t; delete t; expect 0 from t;".as_slice(),
+            PAGE_AND_TABLE,
+        ),
+        (
+            b"update t set v = 1 == 2 or 3, v = 4 where v != (3 or 4) and k < not 5;",
             PAGE_AND_TABLE,
         ),
         (
@@ -789,7 +795,7 @@ fn transactions(rt: HostRuntime) -> Result<(), Fail> {
     }
     for (program, line) in [
         (
-            br#"table t (k, v); page "/a" { echo transact { insert t (1, 2); select v, k, v from t; delete t; expect 0 from t; }[1]; }"#.as_slice(),
+            br#"table t (k, v); page "/a" { echo transact { delete t; }[0] + -transact { delete t; }; }"#.as_slice(),
             PAGE_AND_TABLE,
         ),
         (
@@ -807,40 +813,66 @@ fn known_names(rt: HostRuntime) -> Result<(), Fail> {
     let alloc = rt.alloc();
     for (part, line) in [
         (
-            b"let x = 1; if x { let y = x; set x = y; } else { let y = 2; echo x + y; } let y = 3; echo y;".as_slice(),
+            b"let x = 1; if x { let y = x; set x = y; } else { let y = 2; echo x + y; } let y = 3;".as_slice(),
             ONE_PAGE,
         ),
         (
-            b"for x in [1] { echo x; set x = 2; } for x in [x_()] { let y = x; } let x = 3; } function x_() { return 1;",
-            "ok: pages 1, functions 1, stores 0, tables 0",
-        ),
-        (
-            br#"let x = 1; } page "/b" { let x = 2; } function f(x) { return x; } function g(x) { set x = f(x);"#,
-            "ok: pages 2, functions 2, stores 0, tables 0",
+            b"for x in [1] { echo x; set x = 2; } for x in [2] { let y = x; } let x = 3;",
+            ONE_PAGE,
         ),
         (
             b"while true { let x = 1; while x { let y = x; } let y = 2; } let x = 3;",
             ONE_PAGE,
-        ),
-        (
-            b"let len = 1; let get = len; let s = get; let t = s; let f = t; echo len(str(f)); } store s; table t (s); function f() {",
-            "ok: pages 1, functions 1, stores 1, tables 1",
-        ),
-        (
-            b"echo f(1, 2); } function f(a, b) { return g(f(b, a)); } function g(a) { if a { return f(a, a); }",
-            "ok: pages 1, functions 2, stores 0, tables 0",
         ),
     ] {
         tells_inside(&rt, alloc, STATEMENTS, part, line)?;
     }
     for (program, line) in [
         (
-            br#"store f; table f (f); function f(f) { let x = f; return f(x); } page "f" { echo get(f, f(1)); do transact { insert f (1); }; }"#.as_slice(),
+            br#"page "/a" { let x = 1; } page "/b" { let x = 2; } function f(x) { return x; }"#.as_slice(),
+            "ok: pages 2, functions 1, stores 0, tables 0",
+        ),
+        (
+            b"function f(x) { return x; } function g(x) { set x = f(x); }",
+            "ok: pages 0, functions 2, stores 0, tables 0",
+        ),
+        (
+            br#"page "/a" { echo f(1); } function f(a) { return g(f(a)); } function g(a) { return f(a); }"#,
+            "ok: pages 1, functions 2, stores 0, tables 0",
+        ),
+    ] {
+        tells(&rt, alloc, program, line)?;
+    }
+    Ok(())
+}
+
+#[test]
+fn one_name_for_many_things(rt: HostRuntime) -> Result<(), Fail> {
+    let alloc = rt.alloc();
+    for (program, line) in [
+        (
+            br#"page "/a" { let len = 1; let get = len; let body = len(str(get)); }"#.as_slice(),
+            ONE_PAGE,
+        ),
+        (
+            br#"page "/a" { let f = 1; let s = f; let t = s; } function f() { } store s; table t (s);"#,
             "ok: pages 1, functions 1, stores 1, tables 1",
         ),
         (
-            br#"page "/a" { do put(x, x(1), x(2)); do transact { delete x where x == x(3); }; } function x(x) { return x; } store x; table x (x);"#,
+            br#"store f; table f (f); function f(f) { let x = f; return f(x); } page "f" { echo get(f, 1); }"#,
             "ok: pages 1, functions 1, stores 1, tables 1",
+        ),
+        (
+            br#"page "/a" { let x = 1; do put(x, x(1), x); } function x(x) { return x; } store x;"#,
+            "ok: pages 1, functions 1, stores 1, tables 0",
+        ),
+        (
+            br#"page "/a" { let x = 1; do transact { delete x where x == x; }; } table x (x);"#,
+            PAGE_AND_TABLE,
+        ),
+        (
+            b"function table_(t) { } table t (table_); store t;",
+            "ok: pages 0, functions 1, stores 1, tables 1",
         ),
     ] {
         tells(&rt, alloc, program, line)?;
@@ -854,14 +886,12 @@ fn names_that_are_not_known(rt: HostRuntime) -> Result<(), Fail> {
     for (part, line) in [
         (b"echo x; let x = 1;".as_slice(), "check 1 at 17"),
         (b"let x = x;", "check 1 at 20"),
-        (b"let x = 1 + f(x); } function f(a) {", "check 1 at 26"),
         (b"if 1 { let x = 1; } echo x;", "check 1 at 37"),
         (b"if 1 { let x = 1; } else { echo x; }", "check 1 at 44"),
         (b"for x in x { }", "check 1 at 21"),
         (b"for x in [x] { }", "check 1 at 22"),
         (b"for x in [1] { } echo x;", "check 1 at 34"),
         (b"while x { let x = 1; }", "check 1 at 18"),
-        (br#"let x = 1; } page "/b" { echo x;"#, "check 1 at 42"),
         (b"echo X; let x = 1;", "check 1 at 17"),
         (b"let x = 1; echo x; echo xx;", "check 1 at 36"),
         (b"return 1; echo x;", "check 1 at 27"),
@@ -871,7 +901,15 @@ fn names_that_are_not_known(rt: HostRuntime) -> Result<(), Fail> {
     }
     for (program, line) in [
         (
-            br#"function f(x) { } page "/a" { echo x; }"#.as_slice(),
+            br#"page "/a" { let x = 1 + f(x); } function f(a) { }"#.as_slice(),
+            "check 1 at 26",
+        ),
+        (
+            br#"page "/a" { let x = 1; } page "/b" { echo x; }"#,
+            "check 1 at 42",
+        ),
+        (
+            br#"function f(x) { } page "/a" { echo x; }"#,
             "check 1 at 35",
         ),
         (
@@ -891,7 +929,6 @@ fn names_of_other_things(rt: HostRuntime) -> Result<(), Fail> {
         (b"echo len;".as_slice(), "check 1 at 17"),
         (b"let x = 1; echo x();", "check 1 at 28"),
         (b"do f();", "check 1 at 15"),
-        (b"do F(); } function f() {", "check 1 at 15"),
         (br#"do Len("a");"#, "check 1 at 15"),
         (b"do f(x, y);", "check 1 at 15"),
     ] {
@@ -912,6 +949,10 @@ fn names_of_other_things(rt: HostRuntime) -> Result<(), Fail> {
         (
             br#"table t (k, v); page "/a" { do transact { update t set v = v + 1; }; }"#,
             "check 1 at 59",
+        ),
+        (
+            br#"page "/a" { do F(); } function f() { }"#,
+            "check 1 at 15",
         ),
         (br#"store s; page "/a" { do get(s, s); }"#, "check 1 at 31"),
         (
@@ -1141,24 +1182,6 @@ fn counts_of_arguments(rt: HostRuntime) -> Result<(), Fail> {
 }
 
 #[test]
-fn counts_of_the_built_ins_arguments(rt: HostRuntime) -> Result<(), Fail> {
-    let alloc = rt.alloc();
-    for (part, line) in [
-        (
-            b"len(1); do str(1); do escape(1); do num(1); do slice(1, 2, 3); do append(1, 2); do kind(1); do param(1); do method(); do path(); do body()".as_slice(),
-            "ok: pages 1, functions 0, stores 1, tables 0",
-        ),
-        (
-            b"read(1); do write(1, 2); do get(s, 1); do put(s, 1, 2); do remove(s, 1); do clock(); do random(1)",
-            "ok: pages 1, functions 0, stores 1, tables 0",
-        ),
-    ] {
-        tells_inside(&rt, alloc, STORE, part, line)?;
-    }
-    Ok(())
-}
-
-#[test]
 fn stores(rt: HostRuntime) -> Result<(), Fail> {
     let alloc = rt.alloc();
     for (program, line) in [
@@ -1315,8 +1338,8 @@ fn set_of_the_key(rt: HostRuntime) -> Result<(), Fail> {
             "check 5 at 39",
         ),
         (
-            br#"table t (k, v); table u (v, k); page "/a" { do transact { update u set k = 1; update u set v = 1; }; }"#,
-            "check 5 at 91",
+            br#"table u (v, k); page "/a" { do transact { update u set k = 1; update u set v = 1; }; }"#,
+            "check 5 at 75",
         ),
         (
             b"function f() { return transact { update t set k = 1; }; } table t (k, v);",
@@ -1370,11 +1393,6 @@ fn the_first_fault(rt: HostRuntime) -> Result<(), Fail> {
         (b"echo ; $", "syntax 2 at 17"),
         (b"echo $ ; ;", "syntax 1 at 17"),
         (b"echo 2 2; 9223372036854775808", "syntax 2 at 19"),
-        (br#"echo x; } page "/a" {"#, "check 1 at 17"),
-        (
-            b"echo x; } store s; store s; table t (k, k); function len() {",
-            "check 1 at 17",
-        ),
         (b"do len(x, get(s, y));", "check 3 at 15"),
         (b"do len(x, y) + z;", "check 3 at 15"),
     ] {
@@ -1390,16 +1408,21 @@ fn the_first_fault(rt: HostRuntime) -> Result<(), Fail> {
             "syntax 3 at 34",
         ),
         (br#"page "/a" { echo x; "#, "syntax 2 at 20"),
+        (br#"page "/a" { echo x; } page "/a" { }"#, "check 1 at 17"),
         (
             br#"store s; store s; page "/a" { echo x; }"#,
             "check 2 at 15",
+        ),
+        (
+            br#"page "/a" { echo x; } store s; store s; table t (k, k); function len() { }"#,
+            "check 1 at 17",
         ),
         (
             br#"page "/a" { } page "/a" { echo x; do len(); } store s; store s;"#,
             "check 6 at 19",
         ),
         (
-            br#"table t (k); page "/a" { do transact { select a from t; select b from u; insert t (1, 2); update t set k = 1; }; }"#,
+            br#"table t (k); page "/a" { do transact { select a from t; insert u (1); update t set k = 1; }; }"#,
             "check 4 at 46",
         ),
         (
@@ -2084,22 +2107,47 @@ fn a_file_that_ends_too_early(rt: HostRuntime) -> Result<(), Fail> {
             "ok: pages 0, functions 1, stores 0, tables 0",
         ),
         (
-            "page \"/a\" { let x = 1 ; set x = 2 ; if x { } else { } while x { } for y in [ ] { echo y ; } status 200 ; return 1 ; do len ( 1 ) ;",
+            "page \"/a\" { let x = 1 ; set x = 2 ; if x { } else { } while x { }",
             b" }",
             "ok: pages 1, functions 0, stores 0, tables 0",
         ),
         (
-            "page \"/a\" { echo not - 1 or 2 and 3 == 4 + 5 - 6 * 7 / 8 % 9 [ 0 ] [ ( 1 ) ] + write ( \"a\" , [ 1 , true ] ) + null ;",
+            "page \"/a\" { for y in [ ] { echo y ; } status 200 ; return 1 ; do len ( 1 ) ;",
             b" }",
             "ok: pages 1, functions 0, stores 0, tables 0",
         ),
         (
-            "page \"/a\" { do transact { insert t ( 1 , 2 ) ; select k , v from t where k == 1 and v < 2 ; expect 1 from t where k >= 1 ; } ;",
+            "page \"/a\" { echo not - 1 or 2 and 3 == 4 + 5 - 6 * 7 / 8 % 9 [ 0 ] [ ( 1 ) ] ;",
+            b" }",
+            "ok: pages 1, functions 0, stores 0, tables 0",
+        ),
+        (
+            "page \"/a\" { echo write ( \"a\" , [ 1 , true , null ] ) != [ ] [ false ] ;",
+            b" }",
+            "ok: pages 1, functions 0, stores 0, tables 0",
+        ),
+        (
+            "page \"/a\" { do transact { insert t ( 1 , 2 ) ; select k , v from t ; } ;",
             b" } table t (k, v);",
             "ok: pages 1, functions 0, stores 0, tables 1",
         ),
         (
-            "page \"/a\" { do transact { update t set v = 1 , v = 2 where k != 1 ; delete t where v > 1 + 2 ; delete t ; expect 1 from t ; } ;",
+            "page \"/a\" { do transact { select k from t where k == 1 and v < 2 + 3 ; } ;",
+            b" } table t (k, v);",
+            "ok: pages 1, functions 0, stores 0, tables 1",
+        ),
+        (
+            "page \"/a\" { do transact { update t set v = 1 , v = 2 where k != 1 ; } ;",
+            b" } table t (k, v);",
+            "ok: pages 1, functions 0, stores 0, tables 1",
+        ),
+        (
+            "page \"/a\" { do transact { delete t ; delete t where v > 1 ; } ;",
+            b" } table t (k, v);",
+            "ok: pages 1, functions 0, stores 0, tables 1",
+        ),
+        (
+            "page \"/a\" { do transact { expect 1 from t where k >= 1 ; expect 0 from t ; } ;",
             b" } table t (k, v);",
             "ok: pages 1, functions 0, stores 0, tables 1",
         ),
@@ -2236,6 +2284,34 @@ fn no_function_has_the_name_of_a_built_in(rt: HostRuntime) -> Result<(), Fail> {
         tells(&rt, alloc, &program, ONE_PAGE)?;
         let program = repeated(alloc, b"page \"/a\" { echo ", word, 1, b"; }")?;
         tells(&rt, alloc, &program, "check 1 at 17")?;
+    }
+    Ok(())
+}
+
+#[test]
+fn counts_of_the_built_ins_arguments(rt: HostRuntime) -> Result<(), Fail> {
+    let alloc = rt.alloc();
+    for call in [
+        "len(1)",
+        "str(1)",
+        "escape(1)",
+        "num(1)",
+        "slice(1, 2, 3)",
+        "append(1, 2)",
+        "kind(1)",
+        "param(1)",
+        "method()",
+        "path()",
+        "body()",
+        "read(1)",
+        "write(1, 2)",
+        "get(s, 1)",
+        "put(s, 1, 2)",
+        "remove(s, 1)",
+        "clock()",
+        "random(1)",
+    ] {
+        tells_inside(&rt, alloc, STORE, call.as_bytes(), PAGE_AND_STORE)?;
     }
     Ok(())
 }

@@ -3,6 +3,8 @@
 
 pub mod answer;
 pub mod check;
+#[cfg(test)]
+mod check_tests;
 pub mod print;
 pub mod replay;
 pub mod run;

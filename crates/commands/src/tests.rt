@@ -109,7 +109,7 @@ fn schedule_of(alloc: Global, moments: &[Moment]) -> Result<Vec<u8>, AllocError>
 }
 
 /// So many of these bytes between a front and a back.
-fn repeated(
+pub fn repeated(
     alloc: Global,
     front: &[u8],
     middle: &[u8],
@@ -150,7 +150,7 @@ fn shelf_of(
     Ok(shelf)
 }
 
-fn run_over(
+pub fn run_over(
     alloc: Global,
     texts: &[&str],
     shelf: &mut MemShelf,
@@ -187,14 +187,6 @@ fn ends(
 /// Whether a replay of the files ends so, with this line.
 fn replays(alloc: Global, files: Files, status: u8, line: &[u8]) -> Result<bool, AllocError> {
     ends(alloc, &NAMES, &NAMES[1..], files, status, line)
-}
-
-/// Whether a check of this program ends with this line, and with its status.
-pub fn checks(alloc: Global, program: &[u8], line: &[u8]) -> Result<bool, AllocError> {
-    let status = if line.starts_with(b"ok: ") { 0 } else { 3 };
-    let line = repeated(alloc, line, b"", 0, b"\n")?;
-    let files = [program, b"".as_slice(), b"".as_slice(), b"".as_slice()];
-    ends(alloc, &["check", "p"], &["p"], files, status, &line)
 }
 
 /// Whether a replay of both pages, which are answered so from this state, ends so.
@@ -468,18 +460,5 @@ fn failing_output(rt: HostRuntime) -> Result<(), Fail> {
         assert_eq!(rt; run_over(alloc, &NAMES, &mut shelf, &mut out)?, 4);
         assert_eq!(rt; out.written(), &line[..front]);
     }
-    Ok(())
-}
-
-#[test]
-fn check_finds(rt: HostRuntime) -> Result<(), Fail> {
-    let alloc = rt.alloc();
-    let sum = b"page \"/e\" { echo 1 + 2; }";
-    let counts = b"ok: pages 1, functions 0, stores 0, tables 0";
-    assert!(rt; checks(alloc, sum, counts)?);
-    assert!(rt; checks(alloc, b"page \"/a\" { echo x; }", b"program: check 1 at 17")?);
-    assert!(rt; checks(alloc, b"page \"/a\" { echo ; }", b"program: syntax 2 at 17")?);
-    let large = b"page \"/a\" { echo 9223372036854775808; }";
-    assert!(rt; checks(alloc, large, b"program: syntax 3 at 17")?);
     Ok(())
 }

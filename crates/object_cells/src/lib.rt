@@ -1,0 +1,6 @@
+//! Registers, and the stores of a program: values under texts, in ordered maps.
+#![tactic(auto)]
+
+pub mod cells;
+
+pub use cells::{Cells, Registers, Store};

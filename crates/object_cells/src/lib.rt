@@ -2,5 +2,7 @@
 #![tactic(auto)]
 
 pub mod cells;
+pub mod stores;
 
 pub use cells::{Cells, Registers, Store};
+pub use stores::Stores;

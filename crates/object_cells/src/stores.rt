@@ -1,0 +1,121 @@
+ghost use Rattle.std.specs.Prelude.{◌≡◌, Some, None, true, is_some, IfOk, OnOk, OnErr};
+ghost use Rattle.std.specs.Option.{option_copied};
+ghost use Rattle.script_tree.specs.Datum.{IsWithinLimits};
+ghost use Rattle.script_tree.specs.Fit.{IsKey};
+ghost use Rattle.script_tree.specs.Objects.{or_null};
+ghost use Rattle.object_cells.specs.Stores.{store_of, has_store, held_in, AreDeclared, AreEmpty};
+ghost use Rattle.object_cells.specs.Stores.{ChangesIn, IsDeclaredToo};
+
+use crate::cells::Store;
+use script_tree::syntax::declaration::Declaration;
+use script_tree::text::Text;
+use script_tree::value::Value;
+use std::alloc::{AllocError, Global};
+use std::collections::BTreeMap;
+use std::marker::Model;
+
+/// The stores of a program. Contracts see each with what it holds, in the order of their names.
+#[derive(Drop)]
+pub struct Stores {
+    stores: BTreeMap<Text, Store>,
+}
+
+impl Model for Stores {
+    ghost use Rattle.std.specs.Coded.{coded_list, coded×, coded_ℕ};
+    ghost use Rattle.script_tree.specs.DatumCode.{coded_datum};
+    ghost use Rattle.object_cells.specs.Stores.{HeldByName};
+
+    ghost Value = { HeldByName };
+
+    ghost coded = { coded_list (coded× (coded_list coded_ℕ) (coded_list (coded× (coded_list coded_ℕ) coded_datum))) };
+
+    ghost view = { λ a. a.stores.entries };
+}
+
+impl Stores {
+    /// A store for each declaration of one; none holds anything.
+    pub fn new(alloc: Global, declarations: &[Declaration]) -> Result<Stores, AllocError>
+        ensures declared { IfOk result (AreDeclared declarations.now) }
+        ensures empty { IfOk result AreEmpty }
+    {
+        let mut stores = BTreeMap::new(alloc);
+        for declaration in declarations {
+            add_declared(alloc, &mut stores, declaration)?;
+        }
+        Ok(Stores { stores })
+    }
+
+    /// Whether there is a store of this name.
+    pub fn has(&self, store: &Text) -> bool
+        ensures { result ≡ has_store self.now store.now }
+    {
+        self.stores.contains_key(store)
+    }
+
+    /// The store of this name.
+    pub fn store(&self, name: &Text) -> Option<&Store>
+        ensures { option_copied result ≡ store_of self.now name.now }
+    {
+        self.stores.get(name)
+    }
+
+    /// The value of a key in a store, null where it has none.
+    pub fn get(&self, store: &Text, key: &Text) -> Result<Value, AllocError>
+        ensures value { IfOk result (λ d. d ≡ or_null (held_in self.now store.now key.now)) }
+        ensures within { IfOk result IsWithinLimits }
+    {
+        match self.stores.get(store) {
+            Some(store) => store.get(key),
+            None => Ok(Value::null()),
+        }
+    }
+
+    /// Gives a key of a store its value, and tells whether it had one.
+    pub fn put(&mut self, store: &Text, key: Text, value: Value) -> Result<bool, AllocError>
+        requires there { has_store self.old store.now ≡ true }
+        requires key_fits { IsKey key }
+        requires value_fits { IsWithinLimits value }
+        ensures had { IfOk result (λ had. had ≡ is_some (held_in self.old store.now key)) }
+        ensures put { OnOk result (ChangesIn store.now key (Some value) self.old self.new) }
+        ensures err { OnErr result (self.new ≡ self.old) }
+    {
+        match self.stores.get_mut(store) {
+            Some(store) => store.put(key, value),
+            None => unreachable!(),
+        }
+    }
+
+    /// Takes the value of a key of a store away. It takes no memory.
+    pub fn remove(&mut self, store: &Text, key: &Text)
+        ensures { ChangesIn store.now key.now None self.old self.new }
+    {
+        match self.stores.get_mut(store) {
+            Some(store) => store.remove(key),
+            None => {}
+        }
+    }
+}
+
+impl Clone for Stores {
+    ghost is_clone = { λ stores copy. copy ≡ stores };
+
+    fn clone(&self) -> Result<Stores, AllocError> {
+        Ok(Stores {
+            stores: self.stores.clone()?,
+        })
+    }
+}
+
+/// Adds the store that a declaration declares, if it declares one.
+fn add_declared(
+    alloc: Global,
+    stores: &mut BTreeMap<Text, Store>,
+    declaration: &Declaration,
+) -> Result<(), AllocError>
+    ensures { OnOk result (IsDeclaredToo declaration.now stores.old.entries stores.new.entries) }
+{
+    if let Declaration::Store { name, .. } = declaration {
+        stores.insert(name.text.clone()?, Store::new(alloc))?;
+    }
+    Ok(())
+}

@@ -38,20 +38,6 @@ changes_in name key d old new before after there changes replaces = record {
   at_store s k true = changes k ∙ ap (λ o. with_key key d (held (unwrap_or o [])) k) (sym there)
   at_store s k false = refl
 
--- a store that isn't there has nothing to remove
-pub nothing_in : (name key : List ℕ) (stores : HeldByName) → store_of stores name ≡ None → ChangesIn name key None stores stores
-nothing_in name key stores none = record {
-  same = λ s. refl;
-  held = λ s k. at_store s k (bytes_eq name s) ((bytes_eq-Decides name s).0);
-} where
-  at_key : (k : List ℕ) (b : Bool) → None ≡ cond b None (held_in stores name k)
-  at_key k true = refl
-  at_key k false = ap (λ o. held (unwrap_or o []) k) (sym none)
-
-  at_store : (s k : List ℕ) (b : Bool) → (b ≡ true → name ≡ s) → held_in stores s k ≡ cond b (with_key key None (held_in stores name) k) (held_in stores s k)
-  at_store s k true is = ap (λ o. held (unwrap_or o []) k) (ap (store_of stores) (sym (is refl)) ∙ none) ∙ at_key k (bytes_eq k key)
-  at_store s k false is = refl
-
 -- ---- declarations
 
 with_declared : (text s : List ℕ) (o : Option Held) → is_some (cond (bytes_eq text s) (Some []) o) ≡ ((bytes_eq s text || false) || is_some o)

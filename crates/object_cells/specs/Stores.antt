@@ -6,7 +6,7 @@ use Rattle.std.specs.Map.{lookup}
 use Rattle.std.specs.Ordering.{nat_cmp}
 use Rattle.std.specs.Str.{bytes_eq}
 use Rattle.script_tree.specs.Datum.{Datum}
-use Rattle.script_tree.specs.Fit.{declares_store}
+use Rattle.script_tree.specs.Fit.{declares_store, IsEntry}
 use Rattle.script_tree.specs.Objects.{with_key}
 use Rattle.script_tree.specs.declared.syntax.declaration.Declaration.{Declaration}
 use Rattle.object_cells.specs.Cells.{Held, held}
@@ -33,6 +33,10 @@ AreDeclared declarations stores = (s : List ℕ) → has_store stores s ≡ decl
 -- No store holds anything.
 abbrev pub AreEmpty : HeldByName → Type 0
 AreEmpty stores = (s k : List ℕ) → held_in stores s k ≡ None
+
+-- What stands under any key of any store is an entry.
+abbrev pub HoldEntries : HeldByName → Type 0
+HoldEntries stores = (s k : List ℕ) → IsEntry k (held_in stores s k)
 
 -- This key of this store has this now, and every other key of every store what it had; the same stores are there.
 pub record ChangesIn (store key : List ℕ) (d : Option Datum) (old new : HeldByName) : Type 0 where

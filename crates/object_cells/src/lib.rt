@@ -3,6 +3,8 @@
 
 pub mod cells;
 pub mod stores;
+#[cfg(test)]
+mod tests;
 
 pub use cells::{Cells, Registers, Store};
 pub use stores::Stores;

@@ -46,10 +46,10 @@ impl Stores {
     }
 
     /// Whether there is a store of this name.
-    pub fn has(&self, store: &Text) -> bool
-        ensures { result ≡ has_store self.now store.now }
+    pub fn has(&self, name: &Text) -> bool
+        ensures { result ≡ has_store self.now name.now }
     {
-        self.stores.contains_key(store)
+        self.stores.contains_key(name)
     }
 
     /// The store of this name.
@@ -60,39 +60,39 @@ impl Stores {
     }
 
     /// The value of a key in a store, null where it has none.
-    pub fn get(&self, store: &Text, key: &Text) -> Result<Value, AllocError>
-        ensures value { IfOk result (λ d. d ≡ or_null (held_in self.now store.now key.now)) }
+    pub fn get(&self, name: &Text, key: &Text) -> Result<Value, AllocError>
+        ensures value { IfOk result (λ d. d ≡ or_null (held_in self.now name.now key.now)) }
         ensures within { IfOk result IsWithinLimits }
     {
-        match self.stores.get(store) {
+        match self.stores.get(name) {
             Some(store) => store.get(key),
             None => Ok(Value::null()),
         }
     }
 
     /// Gives a key of a store its value, and tells whether it had one.
-    pub fn put(&mut self, store: &Text, key: Text, value: Value) -> Result<bool, AllocError>
-        requires there { has_store self.old store.now ≡ true }
+    pub fn put(&mut self, name: &Text, key: Text, value: Value) -> Result<bool, AllocError>
+        requires there { has_store self.old name.now ≡ true }
         requires key_fits { IsKey key }
         requires value_fits { IsWithinLimits value }
-        ensures had { IfOk result (λ had. had ≡ is_some (held_in self.old store.now key)) }
-        ensures put { OnOk result (ChangesIn store.now key (Some value) self.old self.new) }
+        ensures had { IfOk result (λ had. had ≡ is_some (held_in self.old name.now key)) }
+        ensures put { OnOk result (ChangesIn name.now key (Some value) self.old self.new) }
         ensures err { OnErr result (self.new ≡ self.old) }
     {
-        match self.stores.get_mut(store) {
+        match self.stores.get_mut(name) {
             Some(store) => store.put(key, value),
             None => unreachable!(),
         }
     }
 
     /// Takes the value of a key of a store away. It takes no memory.
-    pub fn remove(&mut self, store: &Text, key: &Text)
-        ensures { ChangesIn store.now key.now None self.old self.new }
+    pub fn remove(&mut self, name: &Text, key: &Text)
+        ensures { ChangesIn name.now key.now None self.old self.new }
     {
-        match self.stores.get_mut(store) {
-            Some(store) => store.remove(key),
-            None => {}
-        }
+        let Some(store) = self.stores.get_mut(name) else {
+            return;
+        };
+        store.remove(key);
     }
 }
 

@@ -6,17 +6,16 @@ use Rattle.object_cells.proofs.stores.Stores.put.Goals as goal
 
 pub returns-clause-put : goal.returns-clause-put
 returns-clause-put c =
+    let name = c.args.name.now in
     let old = c.self.inside.stores in
-    let there : store_of old.entries c.args.store.now ≡ Some c.in-Some.store.now = search rules in
+    let there : store_of old.entries name ≡ Some c.in-Some.store.now = search rules in
     let written = (c.get_mut.follows.holds c.put.new.self).3 (search rules) in
-    let replaces = replaced c.args.store.now c.put.new.self old (c.get_mut.follows.lender c.put.new.self) written.0 in
-    rw (← c.self.view_is) (OnOk-map c.put.result
-    (λ changes. changes_in c.args.store.now c.args.key (Some c.args.value) old.entries _ _ _ there changes replaces) c.put.ensures.put)
+    let replaces = replaced name c.put.new.self old (c.get_mut.follows.lender c.put.new.self) written.0 in
+    rw (← c.self.view_is) (OnOk-map c.put.result (λ changes. changes_in name c.args.key (Some c.args.value) old.entries _ _ _ there changes replaces) c.put.ensures.put)
 
 pub returns-clause-err : goal.returns-clause-err
 returns-clause-err c =
-    let old = c.self.inside.stores in
-    let there : store_of old.entries c.args.store.now ≡ Some c.in-Some.store.now = search rules in
-    OnErr-map c.put.result
-    (λ same. (c.get_mut.follows.holds c.put.new.self).0 ∙ set_value_same _ old.entries c.put.new.self (there ∙ ap Some (sym same)) ∙ c.self.view_is)
-    c.put.ensures.err
+    let old = c.self.inside.stores.entries in
+    let there : store_of old c.args.name.now ≡ Some c.in-Some.store.now = search rules in
+    let written = (c.get_mut.follows.holds c.put.new.self).0 in
+    OnErr-map c.put.result (λ same. written ∙ set_value_same _ old c.put.new.self (there ∙ ap Some (sym same)) ∙ c.self.view_is) c.put.ensures.err

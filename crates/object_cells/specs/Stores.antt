@@ -2,6 +2,7 @@
 use Rattle.std.specs.Prelude.{◌≡◌, ℕ, List, [], ◌∷◌, Bool, ◌||◌, if◌then◌else◌, Option, None, is_some, unwrap_or}
 use Rattle.std.specs.BTreeMap.{is_at}
 use Rattle.std.specs.Cmp.Lexicographic.{slice_cmp}
+use Rattle.std.specs.Coded.{Coded, coded_list, coded×, coded_ℕ}
 use Rattle.std.specs.Map.{lookup}
 use Rattle.std.specs.Ordering.{nat_cmp}
 use Rattle.std.specs.Str.{bytes_eq}
@@ -9,11 +10,15 @@ use Rattle.script_tree.specs.Datum.{Datum}
 use Rattle.script_tree.specs.Fit.{declares_store, IsEntry}
 use Rattle.script_tree.specs.Objects.{with_key}
 use Rattle.script_tree.specs.declared.syntax.declaration.Declaration.{Declaration}
-use Rattle.object_cells.specs.Cells.{Held, held}
+use Rattle.object_cells.specs.Cells.{Held, held, coded_held}
 
 -- the stores with what each holds, in the order of their names
 abbrev pub HeldByName : Type 0
 HeldByName = List (List ℕ × Held)
+
+-- how a proof stores them
+abbrev pub coded_by_name : Coded HeldByName
+coded_by_name = coded_list (coded× (coded_list coded_ℕ) coded_held)
 
 -- what the store of a name holds, if there is such a store
 abbrev pub store_of : HeldByName → List ℕ → Option Held

@@ -15,7 +15,8 @@ use std::collections::BTreeMap;
 use std::collections::btree_map::Iter;
 use std::marker::Model;
 
-/// Values under keys. Contracts see the keys that have one, with it, in their order.
+/// Values under keys, all within the limits. A copy has keys of its own, and shares the values.
+/// Contracts see the keys that have a value, with it, in their order.
 #[derive(Drop)]
 pub struct Cells {
     values: BTreeMap<Text, Value>,
@@ -28,13 +29,11 @@ pub type Registers = Cells;
 pub type Store = Cells;
 
 impl Model for Cells {
-    ghost use Rattle.std.specs.Coded.{coded_list, coded×, coded_ℕ};
-    ghost use Rattle.script_tree.specs.DatumCode.{coded_datum};
-    ghost use Rattle.object_cells.specs.Cells.{Held, HoldsEntries};
+    ghost use Rattle.object_cells.specs.Cells.{Held, coded_held, HoldsEntries};
 
     ghost Value = { Held };
 
-    ghost coded = { coded_list (coded× (coded_list coded_ℕ) coded_datum) };
+    ghost coded = { coded_held };
 
     ghost view = { λ cells. cells.values.entries };
 
@@ -69,6 +68,7 @@ impl Cells {
         ensures had { IfOk result (λ had. had ≡ is_some (held self.old key)) }
         ensures put { OnOk result (Changes key (Some value) self.old self.new) }
         ensures err { OnErr result (self.new ≡ self.old) }
+        ensures err_only_at_new_key { OnErr result (held self.old key ≡ None) }
     {
         let before = self.values.insert(key, value)?;
         Ok(before.is_some())

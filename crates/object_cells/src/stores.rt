@@ -17,19 +17,17 @@ use std::marker::Model;
 /// The stores of a program. Contracts see each with what it holds, in the order of their names.
 #[derive(Drop)]
 pub struct Stores {
-    stores: BTreeMap<Text, Store>,
+    by_name: BTreeMap<Text, Store>,
 }
 
 impl Model for Stores {
-    ghost use Rattle.std.specs.Coded.{coded_list, coded×, coded_ℕ};
-    ghost use Rattle.script_tree.specs.DatumCode.{coded_datum};
-    ghost use Rattle.object_cells.specs.Stores.{HeldByName};
+    ghost use Rattle.object_cells.specs.Stores.{HeldByName, coded_by_name};
 
     ghost Value = { HeldByName };
 
-    ghost coded = { coded_list (coded× (coded_list coded_ℕ) (coded_list (coded× (coded_list coded_ℕ) coded_datum))) };
+    ghost coded = { coded_by_name };
 
-    ghost view = { λ a. a.stores.entries };
+    ghost view = { λ stores. stores.by_name.entries };
 }
 
 impl Stores {
@@ -38,25 +36,25 @@ impl Stores {
         ensures declared { IfOk result (AreDeclared declarations.now) }
         ensures empty { IfOk result AreEmpty }
     {
-        let mut stores = BTreeMap::new(alloc);
+        let mut by_name = BTreeMap::new(alloc);
         for declaration in declarations {
-            add_declared(alloc, &mut stores, declaration)?;
+            add_declared(alloc, &mut by_name, declaration)?;
         }
-        Ok(Stores { stores })
+        Ok(Stores { by_name })
     }
 
     /// Whether there is a store of this name.
     pub fn has(&self, name: &Text) -> bool
         ensures { result ≡ has_store self.now name.now }
     {
-        self.stores.contains_key(name)
+        self.by_name.contains_key(name)
     }
 
     /// The store of this name.
     pub fn store(&self, name: &Text) -> Option<&Store>
         ensures { option_copied result ≡ store_of self.now name.now }
     {
-        self.stores.get(name)
+        self.by_name.get(name)
     }
 
     /// The value of a key in a store, null where it has none.
@@ -64,7 +62,7 @@ impl Stores {
         ensures value { IfOk result (λ d. d ≡ or_null (held_in self.now name.now key.now)) }
         ensures within { IfOk result IsWithinLimits }
     {
-        match self.stores.get(name) {
+        match self.by_name.get(name) {
             Some(store) => store.get(key),
             None => Ok(Value::null()),
         }
@@ -78,8 +76,9 @@ impl Stores {
         ensures had { IfOk result (λ had. had ≡ is_some (held_in self.old name.now key)) }
         ensures put { OnOk result (ChangesIn name.now key (Some value) self.old self.new) }
         ensures err { OnErr result (self.new ≡ self.old) }
+        ensures err_only_at_new_key { OnErr result (held_in self.old name.now key ≡ None) }
     {
-        match self.stores.get_mut(name) {
+        match self.by_name.get_mut(name) {
             Some(store) => store.put(key, value),
             None => unreachable!(),
         }
@@ -89,7 +88,7 @@ impl Stores {
     pub fn remove(&mut self, name: &Text, key: &Text)
         ensures { ChangesIn name.now key.now None self.old self.new }
     {
-        let Some(store) = self.stores.get_mut(name) else {
+        let Some(store) = self.by_name.get_mut(name) else {
             return;
         };
         store.remove(key);
@@ -101,7 +100,7 @@ impl Clone for Stores {
 
     fn clone(&self) -> Result<Stores, AllocError> {
         Ok(Stores {
-            stores: self.stores.clone()?,
+            by_name: self.by_name.clone()?,
         })
     }
 }
@@ -109,13 +108,13 @@ impl Clone for Stores {
 /// Adds the store that a declaration declares, if it declares one.
 fn add_declared(
     alloc: Global,
-    stores: &mut BTreeMap<Text, Store>,
+    by_name: &mut BTreeMap<Text, Store>,
     declaration: &Declaration,
 ) -> Result<(), AllocError>
-    ensures { OnOk result (IsDeclaredToo declaration.now stores.old.entries stores.new.entries) }
+    ensures { OnOk result (IsDeclaredToo declaration.now by_name.old.entries by_name.new.entries) }
 {
     if let Declaration::Store { name, .. } = declaration {
-        stores.insert(name.text.clone()?, Store::new(alloc))?;
+        by_name.insert(name.text.clone()?, Store::new(alloc))?;
     }
     Ok(())
 }

@@ -4,7 +4,7 @@ use Rattle.object_cells.proofs.stores.add_declared.Goals as goal
 
 pub returns-in_ok-insert : goal.returns-in_ok-insert
 returns-in_ok-insert c =
-    let old = c.args.stores.now in
+    let old = c.args.by_name.now in
     let new = c.insert.new.self in
     let name = c.in_ok-clone.field-0 in
     let replaces = replaced name c.new.result old new c.in_ok-insert.ensures.updates.0 in

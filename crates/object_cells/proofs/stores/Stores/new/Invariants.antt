@@ -5,6 +5,6 @@ use Rattle.object_cells.proofs.stores.Stores.new.Given as goal
 
 abbrev pub invariant-loop-declaration : goal.invariant-loop-declaration
 invariant-loop-declaration l = record {
-  declared : (s : List ℕ) → (declares_store (drop l.declaration-index l.declarations) s || has_store l.stores.entries s) ≡ declares_store l.declarations s;
-  empty : AreEmpty l.stores.entries;
+  declared : (s : List ℕ) → (declares_store (drop l.declaration-index l.declarations) s || has_store l.by_name.entries s) ≡ declares_store l.declarations s;
+  empty : AreEmpty l.by_name.entries;
 }

@@ -1,0 +1,4 @@
+pub mod Acts
+pub mod CellFacts
+pub mod Fits
+pub mod StoreFacts

@@ -1,0 +1,61 @@
+-- One table of all.
+use Rattle.std.proofs.Common.{◌≡◌, ◌<◌, ℕ, zero, suc, List, [], ◌∷◌, Option, length, get_or, set, map, replicate, ◌++◌, ◌+◌, refl, ap, ◌∙◌, arith}
+use Rattle.basis.specs.Lists.{with_nth}
+use Rattle.script_tree.specs.Transactions.{table_at}
+use Rattle.object_tables.specs.Slots.{Slot, Slots, restored, rows_of, IsFiled}
+use Rattle.object_tables.specs.Journal.{back_at, AllFiled}
+
+pub back_in : (ts : List Slots) (t : ℕ) (k : List ℕ) (before : Option Slot) (es : Slots) → t < length ts → restored k before es ≡ get_or ts t []
+    → back_at t k before (set ts t es) ≡ ts
+back_in [] t k before es h e = absurd (omega arith)
+back_in (x ∷ ts) zero k before es h e = ap (λ y. y ∷ ts) e
+back_in (x ∷ ts) (suc t) k before es h e = ap (λ ys. x ∷ ys) (back_in ts t k before es (omega arith) e)
+
+pub rows_at : (ts : List Slots) (t : ℕ) (es : Slots) → rows_of es ≡ rows_of (get_or ts t []) → map rows_of (set ts t es) ≡ map rows_of ts
+rows_at [] t es e = refl
+rows_at (x ∷ ts) zero es e = ap (λ y. y ∷ map rows_of ts) e
+rows_at (x ∷ ts) (suc t) es e = ap (λ ys. rows_of x ∷ ys) (rows_at ts t es e)
+
+pub filed_at : (ts : List Slots) (t : ℕ) → AllFiled ts → IsFiled (get_or ts t [])
+filed_at [] t f = tt
+filed_at (x ∷ ts) zero f = f.0
+filed_at (x ∷ ts) (suc t) f = filed_at ts t f.1
+
+pub filed_set : (ts : List Slots) (t : ℕ) (es : Slots) → AllFiled ts → IsFiled es → AllFiled (set ts t es)
+filed_set [] t es f g = tt
+filed_set (x ∷ ts) zero es f g = (g, f.1)
+filed_set (x ∷ ts) (suc t) es f g = (f.0, filed_set ts t es f.1 g)
+
+pub rows_there : (ts : List Slots) (t : ℕ) → table_at t (map rows_of ts) ≡ rows_of (get_or ts t [])
+rows_there [] t = refl
+rows_there (x ∷ ts) zero = refl
+rows_there (x ∷ ts) (suc t) = rows_there ts t
+
+pub rows_set : (ts : List Slots) (t : ℕ) (es : Slots) → map rows_of (set ts t es) ≡ with_nth t (rows_of es) (map rows_of ts)
+rows_set [] t es = refl
+rows_set (x ∷ ts) zero es = refl
+rows_set (x ∷ ts) (suc t) es = ap (λ ys. rows_of x ∷ ys) (rows_set ts t es)
+
+-- what an index gives, by the default of the definitions
+pub there : (ts : List Slots) (t : ℕ) (es : Slots) → t < length ts → es ≡ get_or ts t es → es ≡ get_or ts t []
+there [] t es h e = absurd (omega arith)
+there (x ∷ ts) zero es h e = e
+there (x ∷ ts) (suc t) es h e = there ts t es (omega arith) e
+
+pub filed_empty : (n : ℕ) → AllFiled (replicate n [])
+filed_empty zero = tt
+filed_empty (suc n) = (tt, filed_empty n)
+
+pub rows_empty : (n : ℕ) → map rows_of (replicate n []) ≡ replicate n []
+rows_empty zero = refl
+rows_empty (suc n) = ap (λ ys. [] ∷ ys) (rows_empty n)
+
+pub replicate_more : (n : ℕ) (ts : List Slots) → ts ≡ replicate n [] → ts ++ [] ∷ [] ≡ replicate (n + 1) []
+replicate_more n ts e = rw e (by n)
+  where
+    by : (n : ℕ) → replicate {A = Slots} n [] ++ [] ∷ [] ≡ replicate (n + 1) []
+    by zero = refl
+    by (suc n) = let e : suc (n + 1) ≡ suc n + 1 = omega arith in ap (λ ys. [] ∷ ys) (by n) ∙ ap (λ (k : ℕ). replicate {A = Slots} k []) e
+
+pub filed_here : (ts : List Slots) (t : ℕ) (es : Slots) → AllFiled ts → t < length ts → es ≡ get_or ts t es → IsFiled es
+filed_here ts t es f h e = rw (there ts t es h e) (filed_at ts t f)

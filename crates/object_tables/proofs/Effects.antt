@@ -9,8 +9,8 @@ use Rattle.basis.specs.Lists.{with_nth}
 use Rattle.script_tree.specs.Transactions.{Row, key, table_at, with_row, changed_row, updated_rows, other_rows, Table, meets, meeting_rows, row_count}
 use Rattle.script_tree.specs.declared.transaction.Test.{Test}
 use Rattle.script_tree.specs.declared.transaction.Change.{Change}
-use Rattle.object_tables.specs.Slots.{Slot, Slots, by_bytes, slot_at, put, rows_of, has_row, puts_for, put_for, with_puts, KeepKeys}
-use Rattle.object_tables.specs.Journal.{put_at, AllFiled}
+use Rattle.object_tables.specs.Slots.{Slot, Slots, by_bytes, slot_at, put, replaced, rows_of, has_row, puts_for, put_for, with_puts, KeepKeys}
+use Rattle.object_tables.specs.Journal.{put_at, replaced_at, AllFiled}
 use Rattle.object_tables.proofs.Insert.{inserts, filed_put}
 use Rattle.object_tables.proofs.Places.{rows_there, rows_set, filed_at, filed_set}
 use Rattle.object_tables.proofs.Remade.{makes, rows_updated, filed_updated, rows_left, filed_left, with_puts-push}
@@ -34,16 +34,16 @@ pub insert_filed : (ts us : List Slots) (t : ℕ) (row : Row) (k : List ℕ) →
 insert_filed ts us t row k e f u =
     rw u (filed_set ts t _ f (filed_put k (Some row) (get_or ts t []) (λ q p. e ∙ ap text (exact_bytes k q p)) e (filed_at ts t f)))
 
-put_twice : (ts : List Slots) (t : ℕ) (k : List ℕ) (s : Slot) (ps : Slots) → t < length ts
-    → set (put_at t k s ts) t (with_puts ps (get_or (put_at t k s ts) t [])) ≡ set ts t (with_puts ps (put k s (get_or ts t [])))
-put_twice [] t k s ps h = absurd (omega arith)
-put_twice (x ∷ ts) zero k s ps h = refl
-put_twice (x ∷ ts) (suc t) k s ps h = ap (λ ys. x ∷ ys) (put_twice ts t k s ps (omega arith))
+replaced_twice : (ts : List Slots) (t : ℕ) (k : List ℕ) (s : Slot) (ps : Slots) → t < length ts
+    → set (replaced_at t k s ts) t (with_puts ps (get_or (replaced_at t k s ts) t [])) ≡ set ts t (with_puts ps (replaced k s (get_or ts t [])))
+replaced_twice [] t k s ps h = absurd (omega arith)
+replaced_twice (x ∷ ts) zero k s ps h = refl
+replaced_twice (x ∷ ts) (suc t) k s ps h = ap (λ ys. x ∷ ys) (replaced_twice ts t k s ps (omega arith))
 
-pub one_put : (ts us : List Slots) (t : ℕ) (ps qs : Slots) (k : List ℕ) (s : Slot) → t < length ts → us ≡ put_at t k s ts → qs ≡ ps ++ (k, s) ∷ []
+pub one_replaced : (ts us : List Slots) (t : ℕ) (ps qs : Slots) (k : List ℕ) (s : Slot) → t < length ts → us ≡ replaced_at t k s ts → qs ≡ ps ++ (k, s) ∷ []
     → set us t (with_puts ps (get_or us t [])) ≡ set ts t (with_puts qs (get_or ts t []))
-one_put ts us t ps qs k s h u q =
-    rw (u, q, with_puts-push ps (k, s) (get_or ts t [])) (put_twice ts t k s ps h)
+one_replaced ts us t ps qs k s h u q =
+    rw (u, q, with_puts-push ps (k, s) (get_or ts t [])) (replaced_twice ts t k s ps h)
 
 pub update_done : (ts us : List Slots) (t : ℕ) (changes : List Change) (tests : List Test) (ps : Slots) → InOrder ts t
     → ps ≡ puts_for (λ row. Some (changed_row changes row)) tests (get_or ts t []) → us ≡ set ts t (with_puts ps (get_or ts t []))

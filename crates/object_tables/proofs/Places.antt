@@ -1,12 +1,15 @@
 -- One table of all.
-use Rattle.std.proofs.Common.{◌≡◌, ◌<◌, ℕ, zero, suc, List, [], ◌∷◌, Option, length, get_or, set, map, replicate, ◌++◌, ◌+◌, refl, ap, ◌∙◌, arith}
+use Rattle.std.proofs.Common.{◌≡◌, ◌<◌, ◌≤◌, ℕ, zero, suc, List, [], ◌∷◌, Option, length, get_or, set, map, replicate, ◌++◌, ◌+◌, refl, ap, ◌∙◌, arith}
+use Rattle.std.specs.List.Sorted.{IsStrictlySortedBy}
+use Rattle.std.specs.Map.{keys_of}
 use Rattle.basis.specs.Lists.{with_nth}
 use Rattle.script_tree.specs.Transactions.{table_at}
-use Rattle.object_tables.specs.Slots.{Slot, Slots, restored, rows_of, IsFiled}
-use Rattle.object_tables.specs.Journal.{back_at, AllFiled}
+use Rattle.object_tables.specs.Slots.{Slot, Slots, by_bytes, restored, rows_of, IsFiled}
+use Rattle.object_tables.specs.Journal.{restored_at, settled_at, AllFiled, AreWhole}
+use Rattle.object_tables.proofs.PutBack.{rows_settled, filed_settled}
 
 pub back_in : (ts : List Slots) (t : ℕ) (k : List ℕ) (before : Option Slot) (es : Slots) → t < length ts → restored k before es ≡ get_or ts t []
-    → back_at t k before (set ts t es) ≡ ts
+    → restored_at t k before (set ts t es) ≡ ts
 back_in [] t k before es h e = absurd (omega arith)
 back_in (x ∷ ts) zero k before es h e = ap (λ y. y ∷ ts) e
 back_in (x ∷ ts) (suc t) k before es h e = ap (λ ys. x ∷ ys) (back_in ts t k before es (omega arith) e)
@@ -59,3 +62,22 @@ replicate_more n ts e = rw e (by n)
 
 pub filed_here : (ts : List Slots) (t : ℕ) (es : Slots) → AllFiled ts → t < length ts → es ≡ get_or ts t es → IsFiled es
 filed_here ts t es f h e = rw (there ts t es h e) (filed_at ts t f)
+
+pub rows_settled_at : (ts : List Slots) (t : ℕ) (k : List ℕ) → map rows_of (settled_at t k ts) ≡ map rows_of ts
+rows_settled_at ts t k = rows_at ts t _ (rows_settled k (get_or ts t []))
+
+pub filed_settled_at : (ts : List Slots) (t : ℕ) (k : List ℕ) → AllFiled ts → AllFiled (settled_at t k ts)
+filed_settled_at ts t k f = filed_set ts t _ f (filed_settled k (get_or ts t []) (filed_at ts t f))
+
+pub nothing_past : (ts : List Slots) (t : ℕ) → length ts ≤ t → get_or ts t [] ≡ []
+nothing_past [] t h = refl
+nothing_past (x ∷ ts) zero h = absurd (omega arith)
+nothing_past (x ∷ ts) (suc t) h = nothing_past ts t (omega arith)
+
+pub whole_empty : (n : ℕ) → AreWhole (replicate n [])
+whole_empty zero = tt
+whole_empty (suc n) = (tt, whole_empty n)
+
+pub nothing_in_order : (ts : List Slots) (t : ℕ) → length ts ≤ t → IsStrictlySortedBy by_bytes (keys_of (get_or ts t []))
+unfolding IsStrictlySortedBy
+nothing_in_order ts t h = rw (nothing_past ts t h) tt

@@ -12,7 +12,7 @@ use Rattle.basis.specs.Lists.{with_nth}
 use Rattle.script_tree.specs.Transactions.{Row, key, meets, changed_row, updated_rows, other_rows}
 use Rattle.script_tree.specs.declared.transaction.Test.{Test}
 use Rattle.script_tree.specs.declared.transaction.Change.{Change}
-use Rattle.object_tables.specs.Slots.{Slot, Slots, by_bytes, put, rows_of, IsFiled, IsFiledSlot, put_for, puts_for, with_puts, remade, remade_slot, KeepKeys}
+use Rattle.object_tables.specs.Slots.{Slot, Slots, by_bytes, replaced, rows_of, IsFiled, IsFiledSlot, put_for, puts_for, with_puts, remade, remade_slot, KeepKeys}
 
 -- above the key k are all keys of the puts
 abbrev AreAbove : List ℕ → Slots → Type 0
@@ -35,7 +35,7 @@ past : (ps : Slots) (e : List ℕ × Slot) (es : Slots) → AreAbove e.0 ps → 
 past [] e es a = refl
 past (p ∷ ps) e es a =
     let g : by_bytes p.0 e.0 ≡ Greater = nat_list_cmp_total.antisymm p.0 e.0 ∙ ap ordering_reverse a.0 in
-    ap (put p.0 p.1) (past ps e es a.1) ∙ rw g refl
+    ap (replaced p.0 p.1) (past ps e es a.1) ∙ rw g refl
 
 one_made : (f : Row → Slot) (tests : List Test) (q : List ℕ) (s : Slot) (es : Slots) (ps : Slots) → AreAbove q ps
     → with_puts (put_for f tests q s ps) ((q, s) ∷ es) ≡ (q, remade_slot f tests s) ∷ with_puts ps es
@@ -43,7 +43,7 @@ one_made f tests q None es ps a = past ps (q, None) es a
 one_made f tests q (Some row) es ps a = by (meets tests row) refl
   where
     by : (b : Bool) → meets tests row ≡ b → with_puts (put_for f tests q (Some row) ps) ((q, Some row) ∷ es) ≡ (q, remade_slot f tests (Some row)) ∷ with_puts ps es
-    by true e = rw e (ap (put q (f row)) (past ps (q, Some row) es a) ∙ rw (tied_itself nat_list_cmp_total q) refl)
+    by true e = rw e (ap (replaced q (f row)) (past ps (q, Some row) es a) ∙ rw (tied_itself nat_list_cmp_total q) refl)
     by false e = rw e (past ps (q, Some row) es a)
 
 pub makes : (f : Row → Slot) (tests : List Test) (es : Slots) → IsStrictlySortedBy by_bytes (keys_of es) → with_puts (puts_for f tests es) es ≡ remade f tests es
@@ -104,6 +104,6 @@ filed_left tests ((q, Some row) ∷ es) f = (by (meets tests row) refl, filed_le
     by true e = rw e tt
     by false e = rw e f.0
 
-pub with_puts-push : (ps : Slots) (p : List ℕ × Slot) (es : Slots) → with_puts (ps ++ p ∷ []) es ≡ with_puts ps (put p.0 p.1 es)
+pub with_puts-push : (ps : Slots) (p : List ℕ × Slot) (es : Slots) → with_puts (ps ++ p ∷ []) es ≡ with_puts ps (replaced p.0 p.1 es)
 with_puts-push [] p es = refl
-with_puts-push (x ∷ ps) p es = ap (put x.0 x.1) (with_puts-push ps p es)
+with_puts-push (x ∷ ps) p es = ap (replaced x.0 x.1) (with_puts-push ps p es)

@@ -7,10 +7,11 @@ ghost use Rattle.script_tree.specs.Transactions.{key, column, meets};
 ghost use Rattle.object_tables.specs.Slots.{by_bytes, IsFiled};
 ghost use Rattle.object_tables.specs.Ranges.{spans, IsLower, IsUpper, HasAll};
 
+use crate::table::Slot;
 use script_tree::comparison::Comparison;
 use script_tree::text::Text;
 use script_tree::transaction::Test;
-use script_tree::value::{Node, Values};
+use script_tree::value::Node;
 use std::cmp::Ordering;
 use std::collections::BTreeMap;
 use std::collections::btree_map::Range;
@@ -101,10 +102,7 @@ fn has_room(lower: Bound<&Text>, upper: Bound<&Text>) -> bool
 
 /// Entries among which are all whose rows pass all tests: those of the range that the tests of the
 /// key give.
-pub fn candidates<'a>(
-    slots: &'a BTreeMap<Text, Option<Values>>,
-    tests: &[Test],
-) -> Range<'a, Text, Option<Values>>
+pub fn candidates<'a>(slots: &'a BTreeMap<Text, Slot>, tests: &[Test]) -> Range<'a, Text, Slot>
     requires { IsFiled slots.now.entries }
     ensures all { HasAll tests.now slots.now.entries result }
     ensures fits { length result < 2 ^ 63 }

@@ -5,6 +5,7 @@ ghost use Rattle.script_tree.specs.Transactions.{column, meets, row_count, selec
 ghost use Rattle.object_tables.specs.Slots.{rows_of, puts_for, IsFiled};
 
 use crate::ranges::candidates;
+use crate::table::Slot;
 use script_tree::comparison::Comparison;
 use script_tree::text::Text;
 use script_tree::transaction::{Change, Test};
@@ -53,7 +54,7 @@ pub fn meets_all(tests: &[Test], row: &[Value]) -> bool
 }
 
 /// How many rows pass all tests.
-pub fn count(slots: &BTreeMap<Text, Option<Values>>, tests: &[Test]) -> i64
+pub fn count(slots: &BTreeMap<Text, Slot>, tests: &[Test]) -> i64
     requires { IsFiled slots.now.entries }
     ensures { result ≡ row_count tests.now (rows_of slots.now.entries) }
 {
@@ -94,7 +95,7 @@ fn columns_of(alloc: Global, row: &[Value], columns: &[u32]) -> Result<Value, Al
 /// Columns of the rows that pass all tests.
 pub fn select(
     alloc: Global,
-    slots: &BTreeMap<Text, Option<Values>>,
+    slots: &BTreeMap<Text, Slot>,
     columns: &[u32],
     tests: &[Test],
 ) -> Result<Vec<Value>, AllocError>
@@ -129,10 +130,10 @@ fn change(row: &Values, changes: &[Change]) -> Result<Values, AllocError>
 /// What is put for the rows that pass all tests: these rows with some changes made.
 pub fn changed_rows(
     alloc: Global,
-    slots: &BTreeMap<Text, Option<Values>>,
+    slots: &BTreeMap<Text, Slot>,
     changes: &[Change],
     tests: &[Test],
-) -> Result<Vec<(Text, Option<Values>)>, AllocError>
+) -> Result<Vec<(Text, Slot)>, AllocError>
     requires { IsFiled slots.now.entries }
     ensures { IfOk result (λ puts. puts.items ≡ puts_for (λ row. Some (changed_row changes.now row)) tests.now slots.now.entries) }
 {
@@ -150,9 +151,9 @@ pub fn changed_rows(
 /// What is put for the rows that pass all tests, to take them out: nothing at their keys.
 pub fn taken_rows(
     alloc: Global,
-    slots: &BTreeMap<Text, Option<Values>>,
+    slots: &BTreeMap<Text, Slot>,
     tests: &[Test],
-) -> Result<Vec<(Text, Option<Values>)>, AllocError>
+) -> Result<Vec<(Text, Slot)>, AllocError>
     requires { IsFiled slots.now.entries }
     ensures { IfOk result (λ puts. puts.items ≡ puts_for (λ row. None) tests.now slots.now.entries) }
 {

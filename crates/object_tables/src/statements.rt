@@ -4,10 +4,10 @@ ghost use Rattle.script_tree.specs.Datum.{text, list, data_of};
 ghost use Rattle.basis.specs.Lists.{with_nth};
 ghost use Rattle.script_tree.specs.Transactions.{key, table_at, with_row, row_count, updated_rows, other_rows, selected_columns, meeting_rows, after_statement};
 ghost use Rattle.object_tables.specs.Slots.{rows_of, with_puts, IsText, KeepKeys, Fits};
-ghost use Rattle.object_tables.specs.Journal.{slots_at, undone, CanUndo, AllFiled};
+ghost use Rattle.object_tables.specs.Journal.{slots_at, undone, AllFiled};
 
-use crate::journal::{Undo, put};
-use crate::table::Slots;
+use crate::journal::{Undo, put, replace};
+use crate::table::{Slot, Slots};
 use script_tree::text::Text;
 use script_tree::transaction::{Change, Statement, Test};
 use script_tree::value::{Node, Value, Values};
@@ -43,12 +43,10 @@ pub fn insert(
     row: &Values,
 ) -> Result<bool, AllocError>
     requires within { table < vec_len tables.old }
-    requires can { CanUndo journal.old.items tables.old.items }
     requires filed { AllFiled tables.old.items }
     requires keyed { IsText (key row.now) }
     ensures done { IfOk result (λ done. option_map (λ rows. with_nth table rows (map rows_of tables.old.items)) (with_row row.now (table_at table (map rows_of tables.old.items))) ≡ (if done then Some (map rows_of tables.new.items) else None)) }
     ensures filed { OnOk result (AllFiled tables.new.items) }
-    ensures can { CanUndo journal.new.items tables.new.items }
     ensures undone { undone journal.new.items tables.new.items ≡ undone journal.old.items tables.old.items }
     ensures len { vec_len tables.new ≡ vec_len tables.old }
 {
@@ -57,32 +55,30 @@ pub fn insert(
         return Ok(false);
     }
     let copy = row.clone()?;
-    put(tables, journal, table, key, Some(copy))?;
+    put(tables, journal, table, key, copy)?;
     Ok(true)
 }
 
-/// Puts all of these, the last one first.
-fn put_all(
+/// Puts all of these slots at their keys, the last one first.
+fn replace_all(
     tables: &mut Vec<Slots>,
     journal: &mut Vec<Undo>,
     table: usize,
-    mut puts: Vec<(Text, Option<Values>)>,
+    mut puts: Vec<(Text, Slot)>,
 ) -> Result<(), AllocError>
     requires within { table < vec_len tables.old }
-    requires can { CanUndo journal.old.items tables.old.items }
     ensures ok { OnOk result (tables.new.items ≡ slice_set tables.old.items table (with_puts puts.items (slots_at table tables.old.items))) }
-    ensures can { CanUndo journal.new.items tables.new.items }
     ensures undone { undone journal.new.items tables.new.items ≡ undone journal.old.items tables.old.items }
     ensures len { vec_len tables.new ≡ vec_len tables.old }
 {
     while let Some((key, slot)) = puts.pop() {
-        put(tables, journal, table, key, slot)?;
+        replace(tables, journal, table, key, slot)?;
     }
     Ok(())
 }
 
 /// How many there are.
-fn count_of(puts: &Vec<(Text, Option<Values>)>) -> i64
+fn count_of(puts: &Vec<(Text, Slot)>) -> i64
     ensures { result ≡ pos (length puts.now.items) }
 {
     puts.len() as i64
@@ -99,19 +95,17 @@ pub fn update(
     tests: &[Test],
 ) -> Result<i64, AllocError>
     requires within { table < vec_len tables.old }
-    requires can { CanUndo journal.old.items tables.old.items }
     requires filed { AllFiled tables.old.items }
     requires keys { KeepKeys changes.now }
     ensures count { IfOk result (λ n. n ≡ row_count tests.now (table_at table (map rows_of tables.old.items))) }
     ensures done { OnOk result (map rows_of tables.new.items ≡ with_nth table (updated_rows changes.now tests.now (table_at table (map rows_of tables.old.items))) (map rows_of tables.old.items)) }
     ensures filed { OnOk result (AllFiled tables.new.items) }
-    ensures can { CanUndo journal.new.items tables.new.items }
     ensures undone { undone journal.new.items tables.new.items ≡ undone journal.old.items tables.old.items }
     ensures len { vec_len tables.new ≡ vec_len tables.old }
 {
     let puts = tables[table].changed_rows(alloc, changes, tests)?;
     let n = count_of(&puts);
-    put_all(tables, journal, table, puts)?;
+    replace_all(tables, journal, table, puts)?;
     Ok(n)
 }
 
@@ -125,18 +119,16 @@ pub fn delete(
     tests: &[Test],
 ) -> Result<i64, AllocError>
     requires within { table < vec_len tables.old }
-    requires can { CanUndo journal.old.items tables.old.items }
     requires filed { AllFiled tables.old.items }
     ensures count { IfOk result (λ n. n ≡ row_count tests.now (table_at table (map rows_of tables.old.items))) }
     ensures done { OnOk result (map rows_of tables.new.items ≡ with_nth table (other_rows tests.now (table_at table (map rows_of tables.old.items))) (map rows_of tables.old.items)) }
     ensures filed { OnOk result (AllFiled tables.new.items) }
-    ensures can { CanUndo journal.new.items tables.new.items }
     ensures undone { undone journal.new.items tables.new.items ≡ undone journal.old.items tables.old.items }
     ensures len { vec_len tables.new ≡ vec_len tables.old }
 {
     let puts = tables[table].taken_rows(alloc, tests)?;
     let n = count_of(&puts);
-    put_all(tables, journal, table, puts)?;
+    replace_all(tables, journal, table, puts)?;
     Ok(n)
 }
 
@@ -175,11 +167,9 @@ pub fn run(
     statement: &Statement,
 ) -> Result<Option<Value>, AllocError>
     requires fits { Fits (vec_len tables.old) statement.now }
-    requires can { CanUndo journal.old.items tables.old.items }
     requires filed { AllFiled tables.old.items }
     ensures done { IfOk result (λ answer. after_statement statement.now (map rows_of tables.old.items) ≡ option_map (λ value. (map rows_of tables.new.items, value)) answer) }
     ensures filed { OnOk result (AllFiled tables.new.items) }
-    ensures can { CanUndo journal.new.items tables.new.items }
     ensures undone { undone journal.new.items tables.new.items ≡ undone journal.old.items tables.old.items }
     ensures len { vec_len tables.new ≡ vec_len tables.old }
 {

@@ -1,7 +1,7 @@
 ghost use Rattle.std.specs.Prelude.{◌≡◌, ◌<◌, ◌≤◌, [], length, map, take, IfOk, OnOk, OnErr, vec_len, Some, None, replicate, IsTrue, ◌↔◌};
 ghost use Rattle.script_tree.specs.Transactions.{after_statements, after_transaction};
 ghost use Rattle.object_tables.specs.Slots.{rows_of, AllFit};
-ghost use Rattle.object_tables.specs.Journal.{undone, CanUndo, AllFiled};
+ghost use Rattle.object_tables.specs.Journal.{undone, AllFiled, AreWhole};
 ghost use Rattle.object_tables.specs.Outcomes.{IsOutcome, IsRun, answer_of};
 
 use crate::fitting::all_fit;
@@ -32,7 +32,7 @@ impl Model for Tables {
     ghost use Rattle.script_tree.specs.Datum.{Datum};
     ghost use Rattle.script_tree.specs.DatumCode.{coded_data};
     ghost use Rattle.object_tables.specs.Slots.{rows_of};
-    ghost use Rattle.object_tables.specs.Journal.{AllFiled};
+    ghost use Rattle.object_tables.specs.Journal.{AllFiled, AreWhole};
 
     ghost Value = { List (List (List Datum)) };
 
@@ -40,7 +40,7 @@ impl Model for Tables {
 
     ghost view = { λ a. map rows_of a.tables.items };
 
-    ghost invariant = { λ a. AllFiled a.tables.items };
+    ghost invariant = { λ a. AllFiled a.tables.items × AreWhole a.tables.items };
 }
 
 /// Runs statements in order, up to one that aborts.
@@ -51,11 +51,9 @@ fn run_all(
     statements: &[Statement],
 ) -> Result<Outcome, AllocError>
     requires fits { AllFit (vec_len tables.old) statements.now }
-    requires can { CanUndo journal.old.items tables.old.items }
     requires filed { AllFiled tables.old.items }
     ensures done { IfOk result (λ outcome. IsRun statements.now (map rows_of tables.old.items) outcome (map rows_of tables.new.items)) }
     ensures filed { OnOk result (AllFiled tables.new.items) }
-    ensures can { CanUndo journal.new.items tables.new.items }
     ensures undone { undone journal.new.items tables.new.items ≡ undone journal.old.items tables.old.items }
 {
     let mut answers = Vec::new(alloc);
@@ -76,8 +74,10 @@ fn transact_on(
 ) -> Result<Outcome, AllocError>
     requires fits { AllFit (vec_len tables.old) statements.now }
     requires filed { AllFiled tables.old.items }
+    requires whole { AreWhole tables.old.items }
     ensures done { IfOk result (λ outcome. IsOutcome statements.now (map rows_of tables.old.items) outcome (map rows_of tables.new.items)) }
     ensures filed { AllFiled tables.new.items }
+    ensures whole { AreWhole tables.new.items }
     ensures err { OnErr result (tables.new.items ≡ tables.old.items) }
 {
     let mut journal = Vec::new(alloc);

@@ -1,11 +1,13 @@
 -- One table of all.
-use Rattle.std.proofs.Common.{◌≡◌, ◌<◌, ◌≤◌, ℕ, zero, suc, List, [], ◌∷◌, Option, length, get_or, set, map, replicate, ◌++◌, ◌+◌, refl, ap, ◌∙◌, arith}
+use Rattle.std.proofs.Common.{◌≡◌, ◌<◌, ◌≤◌, ℕ, zero, suc, List, [], ◌∷◌, Option, length, get_or, set, map, take, sym, ◌++◌, ◌+◌, refl, ap, ◌∙◌, arith}
 use Rattle.std.specs.List.Sorted.{IsStrictlySortedBy}
 use Rattle.std.specs.Map.{keys_of}
+use Rattle.std.proofs.lemmas.List.{take_more, take_all, map-append}
 use Rattle.basis.specs.Lists.{with_nth}
 use Rattle.script_tree.specs.Transactions.{table_at}
 use Rattle.object_tables.specs.Slots.{Slot, Slots, by_bytes, restored, rows_of, IsFiled}
 use Rattle.object_tables.specs.Journal.{restored_at, settled_at, AllFiled, AreWhole}
+use Rattle.object_tables.specs.TableSets.{no_rows}
 use Rattle.object_tables.proofs.PutBack.{rows_settled, filed_settled}
 
 pub back_in : (ts : List Slots) (t : ℕ) (k : List ℕ) (before : Option Slot) (es : Slots) → t < length ts → restored k before es ≡ get_or ts t []
@@ -45,20 +47,29 @@ there [] t es h e = absurd (omega arith)
 there (x ∷ ts) zero es h e = e
 there (x ∷ ts) (suc t) es h e = there ts t es (omega arith) e
 
-pub filed_empty : (n : ℕ) → AllFiled (replicate n [])
-filed_empty zero = tt
-filed_empty (suc n) = (tt, filed_empty n)
+-- ---- tables without rows
 
-pub rows_empty : (n : ℕ) → map rows_of (replicate n []) ≡ replicate n []
-rows_empty zero = refl
-rows_empty (suc n) = ap (λ ys. [] ∷ ys) (rows_empty n)
+abbrev pub empty_slots : List ℕ → List Slots
+empty_slots widths = map (λ width. []) widths
 
-pub replicate_more : (n : ℕ) (ts : List Slots) → ts ≡ replicate n [] → ts ++ [] ∷ [] ≡ replicate (n + 1) []
-replicate_more n ts e = rw e (by n)
-  where
-    by : (n : ℕ) → replicate {A = Slots} n [] ++ [] ∷ [] ≡ replicate (n + 1) []
-    by zero = refl
-    by (suc n) = let e : suc (n + 1) ≡ suc n + 1 = omega arith in ap (λ ys. [] ∷ ys) (by n) ∙ ap (λ (k : ℕ). replicate {A = Slots} k []) e
+pub one_more_empty : (widths : List ℕ) (i : ℕ) (ts us : List Slots) (es : Slots) → i < length widths → ts ≡ empty_slots (take i widths) → es ≡ [] → us ≡ ts ++ es ∷ []
+    → us ≡ empty_slots (take (i + 1) widths)
+one_more_empty widths i ts us es h t e u = rw (u, t, e, take_more widths i 0 h) (sym (map-append (λ width. []) (take i widths) (get_or widths i 0 ∷ [])))
+
+pub all_empty : (widths items : List ℕ) (i : ℕ) (ts : List Slots) → ts ≡ empty_slots (take i items) → length items ≤ i → items ≡ widths → ts ≡ empty_slots widths
+all_empty widths items i ts t h e = t ∙ ap empty_slots (take_all i items h ∙ e)
+
+pub filed_empty : (widths : List ℕ) → AllFiled (empty_slots widths)
+filed_empty [] = tt
+filed_empty (w ∷ widths) = (tt, filed_empty widths)
+
+pub whole_empty : (widths : List ℕ) → AreWhole (empty_slots widths)
+whole_empty [] = tt
+whole_empty (w ∷ widths) = (tt, whole_empty widths)
+
+pub rows_empty : (widths : List ℕ) → map rows_of (empty_slots widths) ≡ no_rows widths
+rows_empty [] = refl
+rows_empty (w ∷ widths) = ap (λ ys. [] ∷ ys) (rows_empty widths)
 
 pub filed_here : (ts : List Slots) (t : ℕ) (es : Slots) → AllFiled ts → t < length ts → es ≡ get_or ts t es → IsFiled es
 filed_here ts t es f h e = rw (there ts t es h e) (filed_at ts t f)
@@ -73,10 +84,6 @@ pub nothing_past : (ts : List Slots) (t : ℕ) → length ts ≤ t → get_or ts
 nothing_past [] t h = refl
 nothing_past (x ∷ ts) zero h = absurd (omega arith)
 nothing_past (x ∷ ts) (suc t) h = nothing_past ts t (omega arith)
-
-pub whole_empty : (n : ℕ) → AreWhole (replicate n [])
-whole_empty zero = tt
-whole_empty (suc n) = (tt, whole_empty n)
 
 pub nothing_in_order : (ts : List Slots) (t : ℕ) → length ts ≤ t → IsStrictlySortedBy by_bytes (keys_of (get_or ts t []))
 unfolding IsStrictlySortedBy

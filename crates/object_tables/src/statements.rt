@@ -3,7 +3,7 @@ ghost use Rattle.std.specs.Option.{option_map};
 ghost use Rattle.script_tree.specs.Datum.{text, list, data_of};
 ghost use Rattle.basis.specs.Lists.{with_nth};
 ghost use Rattle.script_tree.specs.Transactions.{key, table_at, with_row, row_count, updated_rows, other_rows, selected_columns, meeting_rows, after_statement};
-ghost use Rattle.object_tables.specs.Slots.{rows_of, with_puts, IsText, KeepKeys, Fits};
+ghost use Rattle.object_tables.specs.Slots.{rows_of, with_puts, IsText, KeepKeys, IsRunnable};
 ghost use Rattle.object_tables.specs.Journal.{slots_at, undone, AllFiled};
 
 use crate::journal::{Undo, put, replace};
@@ -166,7 +166,7 @@ pub fn run(
     journal: &mut Vec<Undo>,
     statement: &Statement,
 ) -> Result<Option<Value>, AllocError>
-    requires fits { Fits (vec_len tables.old) statement.now }
+    requires fits { IsRunnable (vec_len tables.old) statement.now }
     requires filed { AllFiled tables.old.items }
     ensures done { IfOk result (λ answer. after_statement statement.now (map rows_of tables.old.items) ≡ option_map (λ value. (map rows_of tables.new.items, value)) answer) }
     ensures filed { OnOk result (AllFiled tables.new.items) }

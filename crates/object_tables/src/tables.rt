@@ -1,13 +1,16 @@
 ghost use Rattle.std.specs.Prelude.{◌≡◌, ◌<◌, ◌≤◌, [], length, map, take, IfOk, OnOk, OnErr, vec_len, Some, None, replicate, IsTrue, ◌↔◌};
 ghost use Rattle.script_tree.specs.Transactions.{after_statements, after_transaction};
-ghost use Rattle.object_tables.specs.Slots.{rows_of, AllFit};
+ghost use Rattle.object_tables.specs.Slots.{rows_of, AreRunnable};
 ghost use Rattle.object_tables.specs.Journal.{undone, AllFiled, AreWhole};
+ghost use Rattle.script_tree.specs.Fit.{AreTables, table_widths};
+ghost use Rattle.object_tables.specs.Fits.{FitsTransaction};
+ghost use Rattle.object_tables.specs.TableSets.{no_rows};
 ghost use Rattle.object_tables.specs.Outcomes.{IsOutcome, IsRun, answer_of};
 
-use crate::fitting::all_fit;
 use crate::journal::{Undo, settle, take_back};
 use crate::statements;
 use crate::table::Slots;
+use script_tree::syntax::declaration::Declaration;
 use script_tree::transaction::{Statement, Statements};
 use script_tree::value::Values;
 use std::alloc::{AllocError, Global};
@@ -20,27 +23,26 @@ pub enum Outcome {
     Aborted(usize),
 }
 
-/// The tables of a program. Contracts see each as its rows, in the order of their keys.
+/// The tables of a program. Contracts see how many columns each has, and its rows in the order of their
+/// keys. They fit the widths, and no operation changes those.
 #[derive(Drop)]
 pub struct Tables {
+    widths: Vec<usize>,
     tables: Vec<Slots>,
 }
 
 impl Model for Tables {
-    ghost use Rattle.std.specs.Prelude.{List, map};
-    ghost use Rattle.std.specs.Coded.{coded_list};
-    ghost use Rattle.script_tree.specs.Datum.{Datum};
-    ghost use Rattle.script_tree.specs.DatumCode.{coded_data};
-    ghost use Rattle.object_tables.specs.Slots.{rows_of};
-    ghost use Rattle.object_tables.specs.Journal.{AllFiled, AreWhole};
+    ghost use Rattle.object_tables.specs.TableSets.{TableSet, coded_table_set};
 
-    ghost Value = { List (List (List Datum)) };
+    ghost Value = { TableSet };
 
-    ghost coded = { coded_list (coded_list coded_data) };
+    ghost coded = { coded_table_set };
 
-    ghost view = { λ a. map rows_of a.tables.items };
+    ghost use Rattle.object_tables.specs.TablesView.{tables_in, AreKept};
 
-    ghost invariant = { λ a. AllFiled a.tables.items × AreWhole a.tables.items };
+    ghost view = { tables_in };
+
+    ghost invariant = { AreKept };
 }
 
 /// Runs statements in order, up to one that aborts.
@@ -50,7 +52,7 @@ fn run_all(
     journal: &mut Vec<Undo>,
     statements: &[Statement],
 ) -> Result<Outcome, AllocError>
-    requires fits { AllFit (vec_len tables.old) statements.now }
+    requires fits { AreRunnable (vec_len tables.old) statements.now }
     requires filed { AllFiled tables.old.items }
     ensures done { IfOk result (λ outcome. IsRun statements.now (map rows_of tables.old.items) outcome (map rows_of tables.new.items)) }
     ensures filed { OnOk result (AllFiled tables.new.items) }
@@ -72,7 +74,7 @@ fn transact_on(
     tables: &mut Vec<Slots>,
     statements: &[Statement],
 ) -> Result<Outcome, AllocError>
-    requires fits { AllFit (vec_len tables.old) statements.now }
+    requires fits { AreRunnable (vec_len tables.old) statements.now }
     requires filed { AllFiled tables.old.items }
     requires whole { AreWhole tables.old.items }
     ensures done { IfOk result (λ outcome. IsOutcome statements.now (map rows_of tables.old.items) outcome (map rows_of tables.new.items)) }
@@ -98,24 +100,25 @@ fn transact_on(
 }
 
 impl Tables {
-    /// So many empty tables.
-    #[tactic(auto, using(crate::proofs::Places::filed_empty, crate::proofs::Places::rows_empty, crate::proofs::Places::replicate_more))]
-    pub fn new(alloc: Global, count: usize) -> Result<Tables, AllocError>
-        ensures { IfOk result (λ tables. tables ≡ replicate count []) }
+    /// The tables that a program declares, without rows.
+    pub fn new(alloc: Global, declarations: &[Declaration]) -> Result<Tables, AllocError>
+        ensures widths { IfOk result (λ tables. tables.widths ≡ table_widths declarations.now) }
+        ensures rows { IfOk result (λ tables. tables.tables ≡ no_rows tables.widths) }
     {
-        let mut tables = Vec::new(alloc);
-        for _ in 0..count {
+        let widths = declared_widths(alloc, declarations)?;
+        let mut tables = Vec::with_capacity(alloc, widths.len())?;
+        for _ in &widths {
             tables.push(Slots::new(alloc))?;
         }
-        Ok(Tables { tables })
+        Ok(Tables { widths, tables })
     }
 
-    /// Whether the statements are of these tables, insert no row without a text as its key, and change
-    /// no key.
-    pub fn fit(&self, statements: &Statements) -> bool
-        ensures { IsTrue result ↔ AllFit (length self.now) statements.now }
+    /// How many columns each table has.
+    pub fn widths(&self) -> &[usize]
+        ensures widths { result.now ≡ self.now.widths }
+        ensures fit { AreTables self.now.widths self.now.tables }
     {
-        all_fit(self.tables.len(), statements.as_slice())
+        self.widths.as_slice()
     }
 
     /// Runs a transaction. After one that aborts, and after want of memory, the tables are as before.
@@ -125,11 +128,27 @@ impl Tables {
         alloc: Global,
         statements: &Statements,
     ) -> Result<Outcome, AllocError>
-        requires { AllFit (length self.old) statements.now }
-        ensures done { IfOk result (λ outcome. IsOutcome statements.now self.old outcome self.new) }
-        ensures transaction { IfOk result (λ outcome. after_transaction statements.now self.old ≡ (self.new, answer_of outcome)) }
+        requires { FitsTransaction self.old.widths statements.now }
+        ensures done { IfOk result (λ outcome. IsOutcome statements.now self.old.tables outcome self.new.tables) }
+        ensures transaction { IfOk result (λ outcome. after_transaction statements.now self.old.tables ≡ (self.new.tables, answer_of outcome)) }
+        ensures widths { self.new.widths ≡ self.old.widths }
         ensures err { OnErr result (self.new ≡ self.old) }
     {
         transact_on(alloc, &mut self.tables, statements.as_slice())
     }
+}
+
+/// How many columns each table has that is declared.
+fn declared_widths(alloc: Global, declarations: &[Declaration]) -> Result<Vec<usize>, AllocError>
+    ensures { IfOk result (λ widths. widths.items ≡ table_widths declarations.now) }
+{
+    let mut widths = Vec::new(alloc);
+    for declaration in declarations {
+        match declaration {
+            Declaration::Table { columns, .. } => widths.push(columns.len())?,
+            Declaration::Store { .. } | Declaration::Function { .. } | Declaration::Page { .. } =>
+                {}
+        }
+    }
+    Ok(widths)
 }

@@ -12,7 +12,7 @@ use Rattle.script_tree.specs.declared.transaction.Test.{Test}
 use Rattle.script_tree.specs.declared.transaction.Change.{Change}
 use Rattle.script_tree.specs.declared.transaction.Statement.{Statement}
 use Rattle.script_tree.specs.declared.transaction.Statement.TheVariants.{Insert, Select, Update, Delete, Expect}
-use Rattle.object_tables.specs.Fits.{FitChanges, FitsStatement, FitStatements, FitsTransaction}
+use Rattle.object_tables.specs.Fits.{FitChanges, FitsRow, FitsStatement, FitStatements, FitsTransaction}
 use Rattle.object_tables.specs.Outcomes.{IsOutcome}
 use Rattle.object_tables.specs.declared.tables.Outcome.{Outcome}
 use Rattle.object_tables.specs.declared.tables.Outcome.TheVariants.{Committed, Aborted}
@@ -137,3 +137,33 @@ pub result_kept : {E : Type 0} (widths : List ℕ) (ss : List Statement) (old ne
     → IfOk r (λ o. IsOutcome ss (map rows_of old) o (map rows_of new)) → OnErr r (new ≡ old) → AreTables widths (map rows_of new)
 result_kept widths ss old new (Ok o) f h d e = outcome_kept widths ss (map rows_of old) (map rows_of new) o f h d
 result_kept widths ss old new (Err x) f h d e = rw e h
+
+-- ---- one table's rows, and one row more
+
+pub tables_each : (widths seen : List ℕ) (ts : List Slots) (t n : ℕ) → widths ≡ seen → AreTables widths (map rows_of ts) → t < length seen → n ≡ length ts → t < n
+tables_each widths seen ts t n w h l e =
+    let a : length widths ≡ length (map rows_of ts) = as_many widths (map rows_of ts) h in
+    let b : length widths ≡ length seen = ap length w in
+    let c : length (map rows_of ts) ≡ length ts = rows_each ts in
+    omega arith
+
+pub place_of : (widths : List ℕ) (t : ℕ) (row : Row) → FitsRow widths t row → t < length widths
+place_of widths t row f = nth_within widths t f.0 f.1
+
+row_inserted : (widths : List ℕ) (t : ℕ) (row : Row) (old new : List Table) → FitsRow widths t row → AreTables widths old
+    → option_map (λ rows. with_nth t rows old) (with_row row (table_at t old)) ≡ Some new → AreTables widths new
+row_inserted widths t row old new f h e = by (with_row row (table_at t old)) refl
+  where
+    by : (o : Option Table) → with_row row (table_at t old) ≡ o → AreTables widths new
+    by None p = let g : ◌≡◌ {A = Option (List Table)} None (Some new) = rw p at e in absurd (none_is_not g)
+    by (Some rows) p =
+        let g : Some (with_nth t rows old) ≡ Some new = rw p at e in
+        let there : InOrder f.0 (table_at t old) = in_order f.0 (table_at t old) (table_there widths old t f.0 h f.1) in
+        subst (AreTables widths) (some_is g) (tables_with widths old t f.0 rows h f.1 (is_table f.0 rows (inserted_in_order f.0 row (table_at t old) rows f.2 there p)))
+
+pub row_kept : {E : Type 0} (widths : List ℕ) (t : ℕ) (row : Row) (old new : List Slots) (r : Result Bool E) → FitsRow widths t row → AreTables widths (map rows_of old)
+    → IfOk r (λ done. option_map (λ rows. with_nth t rows (map rows_of old)) (with_row row (table_at t (map rows_of old))) ≡ (if done then Some (map rows_of new) else None))
+    → (r ≡ Ok false → new ≡ old) → OnErr r (new ≡ old) → AreTables widths (map rows_of new)
+row_kept widths t row old new (Ok true) f h d n e = row_inserted widths t row (map rows_of old) (map rows_of new) f h d
+row_kept widths t row old new (Ok false) f h d n e = rw (n refl) h
+row_kept widths t row old new (Err x) f h d n e = rw e h

@@ -8,9 +8,10 @@ use Rattle.std.specs.Map.{keys_of}
 use Rattle.std.specs.BTreeMap.{is_at}
 use Rattle.std.specs.List.Sorted.{IsStrictlySortedBy}
 use Rattle.std.proofs.lemmas.Map.Keys.{sorted_head, sorted_tail}
+use Rattle.script_tree.specs.Transactions.{Row}
 use Rattle.object_tables.specs.declared.journal.Undo.{Undo}
-use Rattle.object_tables.specs.Slots.{Slot, Slots, by_bytes, slot_at, restored, settled, is_empty}
-use Rattle.object_tables.specs.Journal.{slots_at, restored_at, settled_at, undone, is_noted, IsWholeBut, AreWholeBut, AreWhole}
+use Rattle.object_tables.specs.Slots.{Slot, Slots, by_bytes, slot_at, put, restored, settled, is_empty}
+use Rattle.object_tables.specs.Journal.{slots_at, put_at, restored_at, settled_at, undone, is_noted, IsWholeBut, AreWholeBut, AreWhole}
 use Rattle.object_tables.proofs.Insert.{IsBelow, below_too}
 
 -- ---- booleans
@@ -141,3 +142,22 @@ noted_less us i u ts new l e o n h =
 
 pub none_noted : (us : List Undo) (i : ℕ) (ts : List Slots) → length us ≤ i → AreWholeBut (is_noted (drop i us)) ts → AreWhole ts
 none_noted us i ts l h = subst (λ (vs : List Undo). AreWholeBut (is_noted vs) ts) (drop_all i us l) h
+
+-- ---- a row that is put
+
+whole_put : (may : List ℕ → Bool) (k : List ℕ) (row : Row) (es : Slots) → IsWholeBut may es → IsWholeBut may (put k (Some row) es)
+whole_put may k row [] h = (refl, tt)
+whole_put may k row (e ∷ es) h = by (by_bytes k e.0) refl (whole_put may k row es h.1)
+  where
+    by : (o : Ordering) → by_bytes k e.0 ≡ o → IsWholeBut may (put k (Some row) es) → IsWholeBut may (put k (Some row) (e ∷ es))
+    by Less p ih = rw p (refl, h)
+    by Equal p ih = rw p (refl, h.1)
+    by Greater p ih = rw p (h.0, ih)
+
+put_whole : (may : ℕ → List ℕ → Bool) (ts : List Slots) (t : ℕ) (k : List ℕ) (row : Row) → AreWholeBut may ts → AreWholeBut may (put_at t k (Some row) ts)
+put_whole may [] t k row h = tt
+put_whole may (es ∷ ts) zero k row h = (whole_put (may 0) k row es h.0, h.1)
+put_whole may (es ∷ ts) (suc t) k row h = (h.0, put_whole (λ i. may (suc i)) ts t k row h.1)
+
+pub whole_with : (ts us : List Slots) (t : ℕ) (k : List ℕ) (row : Row) → us ≡ put_at t k (Some row) ts → AreWhole ts → AreWhole us
+whole_with ts us t k row e h = rw e (put_whole (λ t k. false) ts t k row h)

@@ -1,12 +1,17 @@
 -- When statements fit tables of these widths, the width of a table being how many columns it has.
 use Rattle.std.specs.Prelude.{◌≡◌, ◌<◌, ℕ, List, [], ◌∷◌, length, Some}
 use Rattle.basis.specs.Lists.{nth}
-use Rattle.script_tree.specs.Datum.{IsWithinLimits}
+use Rattle.script_tree.specs.Datum.{Datum, IsWithinLimits}
 use Rattle.script_tree.specs.Fit.{IsRow}
+use Rattle.script_tree.specs.Transactions.{Row}
 use Rattle.script_tree.specs.declared.transaction.Test.{Test}
 use Rattle.script_tree.specs.declared.transaction.Change.{Change}
 use Rattle.script_tree.specs.declared.transaction.Statement.{Statement}
 use Rattle.script_tree.specs.declared.transaction.Statement.TheVariants.{Insert, Select, Update, Delete, Expect}
+
+-- it is a row of the table at this number
+abbrev pub FitsRow : List ℕ → ℕ → Row → Type 0
+FitsRow widths t row = (width : ℕ) × (nth widths t ≡ Some width) × IsRow width row
 
 -- each is one of the columns
 abbrev pub FitColumns : ℕ → List ℕ → Type 0
@@ -49,3 +54,7 @@ FitStatements widths (s ∷ ss) = FitsStatement widths s × FitStatements widths
 -- a transaction has a statement
 abbrev pub FitsTransaction : List ℕ → List Statement → Type 0
 FitsTransaction widths ss = (0 < length ss) × FitStatements widths ss
+
+abbrev pub AreWithinLimits : List Datum → Type 0
+AreWithinLimits [] = Unit {0}
+AreWithinLimits (d ∷ ds) = IsWithinLimits d × AreWithinLimits ds

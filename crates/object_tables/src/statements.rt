@@ -1,12 +1,12 @@
-ghost use Rattle.std.specs.Prelude.{◌≡◌, ◌<◌, map, IfOk, OnOk, Some, None, vec_len, slice_set, if◌then◌else◌, pos, length};
+ghost use Rattle.std.specs.Prelude.{◌≡◌, ◌<◌, map, IfOk, OnOk, OnErr, Ok, false, Some, None, vec_len, slice_set, if◌then◌else◌, pos, length};
 ghost use Rattle.std.specs.Option.{option_map};
 ghost use Rattle.script_tree.specs.Datum.{text, list, data_of};
 ghost use Rattle.basis.specs.Lists.{with_nth};
 ghost use Rattle.script_tree.specs.Transactions.{key, table_at, with_row, row_count, updated_rows, other_rows, selected_columns, meeting_rows, after_statement};
 ghost use Rattle.object_tables.specs.Slots.{rows_of, with_puts, IsText, KeepKeys, IsRunnable};
-ghost use Rattle.object_tables.specs.Journal.{slots_at, undone, AllFiled};
+ghost use Rattle.object_tables.specs.Journal.{slots_at, undone, AllFiled, AreWhole};
 
-use crate::journal::{Undo, put, replace};
+use crate::journal::{Undo, put, put_in, replace};
 use crate::table::{Slot, Slots};
 use script_tree::text::Text;
 use script_tree::transaction::{Change, Statement, Test};
@@ -56,6 +56,25 @@ pub fn insert(
     }
     let copy = row.clone()?;
     put(tables, journal, table, key, copy)?;
+    Ok(true)
+}
+
+/// Inserts a row that no transaction takes back, unless its key is there.
+pub fn insert_in(tables: &mut Vec<Slots>, table: usize, row: Values) -> Result<bool, AllocError>
+    requires within { table < vec_len tables.old }
+    requires filed { AllFiled tables.old.items }
+    requires keyed { IsText (key row) }
+    ensures done { IfOk result (λ done. option_map (λ rows. with_nth table rows (map rows_of tables.old.items)) (with_row row (table_at table (map rows_of tables.old.items))) ≡ (if done then Some (map rows_of tables.new.items) else None)) }
+    ensures refused { result ≡ Ok false → tables.new.items ≡ tables.old.items }
+    ensures filed { AllFiled tables.new.items }
+    ensures whole { AreWhole tables.old.items → AreWhole tables.new.items }
+    ensures err { OnErr result (tables.new.items ≡ tables.old.items) }
+{
+    let key = key_of(&row)?;
+    if tables[table].has_row(&key) {
+        return Ok(false);
+    }
+    put_in(tables, table, key, row)?;
     Ok(true)
 }
 

@@ -1,18 +1,22 @@
-ghost use Rattle.std.specs.Prelude.{◌≡◌, ◌<◌, ◌≤◌, [], length, map, take, IfOk, OnOk, OnErr, vec_len, Some, None, replicate, IsTrue, ◌↔◌};
-ghost use Rattle.script_tree.specs.Transactions.{after_statements, after_transaction};
+ghost use Rattle.std.specs.Prelude.{◌≡◌, ◌<◌, ◌≤◌, [], length, map, take, IfOk, OnOk, OnErr, vec_len, Ok, Some, None, if◌then◌else◌, false, IsTrue, ◌↔◌};
+ghost use Rattle.script_tree.specs.Datum.{null};
+ghost use Rattle.script_tree.specs.declared.transaction.Statement.TheVariants.{Insert};
+ghost use Rattle.script_tree.specs.Transactions.{table_at, after_statement, after_statements, after_transaction};
 ghost use Rattle.object_tables.specs.Slots.{rows_of, AreRunnable};
 ghost use Rattle.object_tables.specs.Journal.{undone, AllFiled, AreWhole};
 ghost use Rattle.script_tree.specs.Fit.{AreTables, table_widths};
-ghost use Rattle.object_tables.specs.Fits.{FitsTransaction};
+ghost use Rattle.object_tables.specs.Fits.{FitsRow, FitsTransaction};
 ghost use Rattle.object_tables.specs.TableSets.{no_rows};
 ghost use Rattle.object_tables.specs.Outcomes.{IsOutcome, IsRun, answer_of};
 
+use crate::fitting::{fits_row, fits_transaction};
 use crate::journal::{Undo, settle, take_back};
-use crate::statements;
+use crate::rows::Rows;
+use crate::statements::{self, insert_in};
 use crate::table::Slots;
 use script_tree::syntax::declaration::Declaration;
 use script_tree::transaction::{Statement, Statements};
-use script_tree::value::Values;
+use script_tree::value::{Value, Values};
 use std::alloc::{AllocError, Global};
 use std::marker::Model;
 
@@ -121,6 +125,39 @@ impl Tables {
         self.widths.as_slice()
     }
 
+    /// Whether a transaction fits the tables.
+    pub fn fit(&self, statements: &Statements) -> bool
+        ensures { IsTrue result ↔ FitsTransaction self.now.widths statements.now }
+    {
+        fits_transaction(self.widths.as_slice(), statements.as_slice())
+    }
+
+    /// Whether it is a row of the table at a number.
+    pub fn fits_row(&self, table: u32, row: &[Value]) -> bool
+        ensures { IsTrue result ↔ FitsRow self.now.widths table row.now }
+    {
+        fits_row(self.widths.as_slice(), table, row)
+    }
+
+    /// The rows of a table, in the order of their keys.
+    pub fn rows(&self, table: u32) -> Rows<'_>
+        requires { table < length self.now.widths }
+        ensures { result ≡ table_at table self.now.tables }
+    {
+        self.tables[table as usize].rows()
+    }
+
+    /// Adds a row to a table; `false` where its key is there.
+    pub fn insert_row(&mut self, table: u32, row: Values) -> Result<bool, AllocError>
+        requires { FitsRow self.old.widths table row }
+        ensures done { IfOk result (λ done. after_statement (Insert table row) self.old.tables ≡ (if done then Some (self.new.tables, null) else None)) }
+        ensures refused { result ≡ Ok false → self.new ≡ self.old }
+        ensures widths { self.new.widths ≡ self.old.widths }
+        ensures err { OnErr result (self.new ≡ self.old) }
+    {
+        insert_in(&mut self.tables, table as usize, row)
+    }
+
     /// Runs a transaction. After one that aborts, and after want of memory, the tables are as before.
     #[tactic(auto, using(crate::proofs::Runs::answered))]
     pub fn transact(
@@ -135,6 +172,17 @@ impl Tables {
         ensures err { OnErr result (self.new ≡ self.old) }
     {
         transact_on(alloc, &mut self.tables, statements.as_slice())
+    }
+}
+
+impl Clone for Tables {
+    ghost is_clone = { λ tables copy. copy ≡ tables };
+
+    fn clone(&self) -> Result<Tables, AllocError> {
+        Ok(Tables {
+            widths: self.widths.clone()?,
+            tables: self.tables.clone()?,
+        })
     }
 }
 

@@ -27,9 +27,9 @@ use Rattle.script_meaning.specs.declared.run.Stop.TheVariants.{Wants as wants, F
 use Rattle.script_meaning.specs.declared.run.Mark.TheVariants.{Issued as issued}
 use Rattle.script_meaning.specs.Variables.{Variables, value_in, declared, assigned, bound}
 use Rattle.script_fit.specs.FitsOperation.{FitsOperation}
-use Rattle.script_fit.specs.FitsTransaction.{FitTests, FitChanges}
+use Rattle.script_fit.specs.FitsTransaction.{FitTests, FitChanges, AreWithinLimits}
 use Rattle.script_asks.proofs.Values.{IsFine, text_within, member_within, checked_fine, binary_fine, unary_fine, indexed_fine}
-use Rattle.script_asks.proofs.Operations.{AreWithin, Fitting, IsFineCall, HasStore, built_in_fine, FitsUnchecked, FitUnchecked, transacts}
+use Rattle.script_asks.proofs.Operations.{Fitting, IsFineCall, HasStore, built_in_fine, FitsUnchecked, FitUnchecked, transacts}
 use Rattle.script_asks.proofs.Tables.{width_at, column_there, not_the_key, some_columns, columns_there}
 use Rattle.script_asks.proofs.Sound.{AreColumns, IsKnown, IsSound, AreSound, AreArguments, IsSoundQuery, AreSoundQueries, AreSoundTests, AreSoundSets, IsSoundStatement, IsSoundElse, AreSoundStatements, AreSoundBodies}
 
@@ -65,7 +65,7 @@ assigned_kept (y ∷ vs) x d h l = by (assigned_kept vs x d h.1 l) (bytes_eq x y
     by ih true = (l, h.1)
     by ih false = (h.0, ih)
 
-bound_kept : (xs : List Name) (ds : List Datum) → AreWithin ds → AreKept (bound xs ds)
+bound_kept : (xs : List Name) (ds : List Datum) → AreWithinLimits ds → AreKept (bound xs ds)
 bound_kept [] ds h = tt
 bound_kept (x ∷ xs) [] h = tt
 bound_kept (x ∷ xs) (d ∷ ds) h = (h.0, bound_kept xs ds h.1)
@@ -178,7 +178,7 @@ module _ (w : Setting) (short : IsRequestWithinLimits w.request) (bodies : AreSo
   flow_value (on vs) h = refl
   flow_value (back d) h = h
 
-  entered_well : (later : Later) → IsWell later → (depth : ℕ) (g : DeclaredFunction) → AreSoundStatements w.program (statements_of g.body) → (ds : List Datum) → AreWithin ds
+  entered_well : (later : Later) → IsWell later → (depth : ℕ) (g : DeclaredFunction) → AreSoundStatements w.program (statements_of g.body) → (ds : List Datum) → AreWithinLimits ds
       → Gives IsWithinLimits (entered later depth g ds)
   entered_well later well depth g s ds h = by (depth == MOST_CALL_DEPTH)
     where
@@ -193,7 +193,7 @@ module _ (w : Setting) (short : IsRequestWithinLimits w.request) (bodies : AreSo
   own_is None None g e = absurd cc
 
   called_well : (later : Later) → IsWell later → (depth : ℕ) (f : List ℕ) (c : Callee) → callee_in w.program f ≡ c → (store : List ℕ) → HasStore w.program (names_store c) store
-      → (ds : List Datum) → AreWithin ds → Gives IsWithinLimits (called w later depth c store ds)
+      → (ds : List Datum) → AreWithinLimits ds → Gives IsWithinLimits (called w later depth c store ds)
   called_well later well depth f (own g) e store s ds h =
       then IsWithinLimits (charge (taking ds)) (entered later depth g ds) (charged (taking ds))
       (entered_well later well depth g (bodies f g (own_is (function_in w.program f) _ g e)) ds h)
@@ -220,7 +220,7 @@ module _ (w : Setting) (short : IsRequestWithinLimits w.request) (bodies : AreSo
       )
 
   abbrev AreAll : Expressions → List Datum → Type 0
-  AreAll es ds = AreWithin ds × (length ds ≡ how_many es)
+  AreAll es ds = AreWithinLimits ds × (length ds ≡ how_many es)
 
   abbrev AreQueries : Queries → List Unchecked → Type 0
   AreQueries qs us = FitUnchecked w.program us × (qs ≢ no_query → us ≢ [])
@@ -255,7 +255,7 @@ module _ (w : Setting) (short : IsRequestWithinLimits w.request) (bodies : AreSo
           bind IsWithinLimits IsWithinLimits (eval w later depth vs b) _ (eval_well b s.1) (λ y l. noded (x ∷ y ∷ []) _ (indexed_fine x y k)))
       eval_well (list at es) s = bind (AreAll es) IsWithinLimits (eval_all w later depth vs es) _ (all_well es s) (λ ds k. noded ds _ (checked_fine (v.list (v.data_of ds))))
       eval_well (call at f es) s =
-          bind AreWithin IsWithinLimits _ _ (arguments_well (names_store (callee_in w.program f)) es s)
+          bind AreWithinLimits IsWithinLimits _ _ (arguments_well (names_store (callee_in w.program f)) es s)
           (λ ds k. called_well later well depth f (callee_in w.program f) refl (store_name es) (store_there (names_store (callee_in w.program f)) es s) ds k)
       eval_well (transact at qs) s =
           bind (AreQueries qs) IsWithinLimits (operands_of_all w later depth vs qs) _ (queries_well qs s.1) (λ us k.
@@ -269,13 +269,13 @@ module _ (w : Setting) (short : IsRequestWithinLimits w.request) (bodies : AreSo
           bind (AreAll es) (AreAll (expression e es)) (eval_all w later depth vs es) _ (all_well es s.1) (λ ds l p. ((k, l.0), ap suc l.1)))
 
       arguments_well : (b : Bool) (es : Expressions) → AreArguments w.program b es
-          → Gives AreWithin (cond b (eval_others w later depth vs es) (eval_all w later depth vs es))
+          → Gives AreWithinLimits (cond b (eval_others w later depth vs es) (eval_all w later depth vs es))
       arguments_well true no_expression s = absurd s
-      arguments_well true (expression e es) s = weaker (AreAll es) AreWithin (eval_all w later depth vs es) (λ ds k. k.0) (all_well es s.1)
+      arguments_well true (expression e es) s = weaker (AreAll es) AreWithinLimits (eval_all w later depth vs es) (λ ds k. k.0) (all_well es s.1)
       arguments_well false no_expression s = λ p. tt
       arguments_well false (expression e es) s =
-          bind IsWithinLimits AreWithin (eval w later depth vs e) _ (eval_well e s.0) (λ d k.
-          bind (AreAll es) AreWithin (eval_all w later depth vs es) _ (all_well es s.1) (λ ds l p. (k, l.0)))
+          bind IsWithinLimits AreWithinLimits (eval w later depth vs e) _ (eval_well e s.0) (λ d k.
+          bind (AreAll es) AreWithinLimits (eval_all w later depth vs es) _ (all_well es s.1) (λ ds l p. (k, l.0)))
 
       query_well : (q : Query) → IsSoundQuery w.program q → Gives (FitsUnchecked w.program) (operands_of w later depth vs q)
       query_well (insert at t es) s =
@@ -334,7 +334,7 @@ module _ (w : Setting) (short : IsRequestWithinLimits w.request) (bodies : AreSo
   scoped_well vs m h = bind IsKeptFlow IsKeptFlow m (λ flow. give (left_as vs flow)) h (λ flow k p. left_kept vs flow k)
 
   turns_well : (whole : Datum) (x : List ℕ) (body : Variables → Run Flow) → ((us : Variables) → AreKept us → Gives IsKeptFlow (body us)) → (vs : Variables) → AreKept vs
-      → (ds : List Datum) → AreWithin ds → Gives IsKeptFlow (turns whole x body vs ds)
+      → (ds : List Datum) → AreWithinLimits ds → Gives IsKeptFlow (turns whole x body vs ds)
   turns_well whole x body h vs kept [] a =
       bind Anything IsKeptFlow (decide_by whole (v.bool false)) (λ _. give (on vs)) (decided whole (v.bool false)) (λ _ _ p. kept)
   turns_well whole x body h vs kept (d ∷ ds) a =
@@ -343,10 +343,10 @@ module _ (w : Setting) (short : IsRequestWithinLimits w.request) (bodies : AreSo
       (scoped_well vs (body (declared vs x d)) (h (declared vs x d) (declared_kept vs x d kept a.0))) (λ flow k.
       then_on_well flow (λ us. turns whole x body us ds) k (λ us l. turns_well whole x body h us l ds a.1)))
 
-  each_within : (ds : Data) → IsWithinLimits (v.list ds) → AreWithin (v.members ds)
+  each_within : (ds : Data) → IsWithinLimits (v.list ds) → AreWithinLimits (v.members ds)
   each_within ds h = by (v.members ds) (λ i d e. member_within ds i d h e)
     where
-      by : (xs : List Datum) → ((i : ℕ) (d : Datum) → slice_get xs i ≡ Some d → IsWithinLimits d) → AreWithin xs
+      by : (xs : List Datum) → ((i : ℕ) (d : Datum) → slice_get xs i ≡ Some d → IsWithinLimits d) → AreWithinLimits xs
       by [] g = tt
       by (x ∷ xs) g = (g 0 x refl, by xs (λ i d e. g (suc i) d e))
 

@@ -21,19 +21,14 @@ use Rattle.script_meaning.specs.Operations as o
 use Rattle.script_meaning.specs.Operators.{printed, escaped_bytes}
 use Rattle.script_meaning.specs.Results.{◌>>=◌}
 use Rattle.script_fit.specs.FitsOperation.{FitsOperation}
-use Rattle.script_fit.specs.FitsTransaction.{FitColumns, FitTests, FitChanges, FitsStatement, FitStatements}
+use Rattle.script_fit.specs.FitsTransaction.{FitColumns, FitTests, FitChanges, FitsStatement, FitStatements, AreWithinLimits}
 use Rattle.script_asks.proofs.Values.{IsFine, fine_after, checked_fine, length_fine, sliced_fine, kind_within, number_of_within, request_text, built_fine}
 
--- each value is within the limits
-abbrev pub AreWithin : List Datum → Type 0
-AreWithin [] = Unit {0}
-AreWithin (d ∷ ds) = IsWithinLimits d × AreWithin ds
-
-first_within : (ds : List Datum) → AreWithin ds → IsWithinLimits (first ds)
+first_within : (ds : List Datum) → AreWithinLimits ds → IsWithinLimits (first ds)
 first_within [] h = refl
 first_within (d ∷ ds) h = h.0
 
-second_within : (ds : List Datum) → AreWithin ds → IsWithinLimits (second ds)
+second_within : (ds : List Datum) → AreWithinLimits ds → IsWithinLimits (second ds)
 second_within [] h = refl
 second_within (d ∷ ds) h = first_within ds h.1
 
@@ -82,7 +77,7 @@ module _ (program : Program) where
   HasStore true s = declares_store program.declarations s ≡ true
   HasStore false s = Unit {0}
 
-  pub built_in_fine : (q : Request) (store : List ℕ) (b : Builtin) (ds : List Datum) → IsRequestWithinLimits q → HasStore (takes_store b) store → AreWithin ds
+  pub built_in_fine : (q : Request) (store : List ℕ) (b : Builtin) (ds : List Datum) → IsRequestWithinLimits q → HasStore (takes_store b) store → AreWithinLimits ds
       → IsFineCall (built_in q store b ds)
   built_in_fine q store Len ds l s h = length_fine (first ds)
   built_in_fine q store Str ds l s h = fine_after (printed (first ds)) _ (λ bs. checked_fine (text bs))
@@ -111,7 +106,7 @@ module _ (program : Program) where
 
   -- a statement whose values weren't looked at
   abbrev pub FitsUnchecked : Unchecked → Type 0
-  FitsUnchecked (u.insert t ds) = OfTable t (λ width. length ds ≡ width) × AreWithin ds
+  FitsUnchecked (u.insert t ds) = OfTable t (λ width. length ds ≡ width) × AreWithinLimits ds
   FitsUnchecked (u.select t columns tests) = OfTable t (λ width. (0 < length columns) × FitColumns width columns × FitTests width tests)
   FitsUnchecked (u.update t changes tests) = OfTable t (λ width. (0 < length changes) × FitChanges width changes × FitTests width tests)
   FitsUnchecked (u.delete t tests) = OfTable t (λ width. FitTests width tests)
@@ -121,7 +116,7 @@ module _ (program : Program) where
   FitUnchecked [] = Unit {0}
   FitUnchecked (s ∷ ss) = FitsUnchecked s × FitUnchecked ss
 
-  values_at : (ds : List Datum) → AreWithin ds → (i : ℕ) (d : Datum) → nth ds i ≡ Some d → IsWithinLimits d
+  values_at : (ds : List Datum) → AreWithinLimits ds → (i : ℕ) (d : Datum) → nth ds i ≡ Some d → IsWithinLimits d
   values_at [] h i d e = absurd (none_is_not e)
   values_at (x ∷ ds) h zero d e = subst IsWithinLimits (some_is e) h.0
   values_at (x ∷ ds) h (suc i) d e = values_at ds h.1 i d e

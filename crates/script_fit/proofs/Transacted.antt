@@ -57,7 +57,8 @@ after_one widths (Delete t tests) tables a f =
     tables_with widths tables t f.0 _ a f.1 (table_of_rows f.0 _ (rows_left f.0 tests (table_at t tables) old))
 after_one widths (Expect n t tests) tables a f = counted widths tables (int_eq n (row_count tests (table_at t tables))) a
 
-abbrev LeavesAll : List ℕ → Option (List Table × List Datum) → Type 0
+-- what statements leave
+abbrev pub LeavesAll : List ℕ → Option (List Table × List Datum) → Type 0
 LeavesAll widths None = Unit {0}
 LeavesAll widths (Some r) = AreTables widths r.0
 
@@ -65,7 +66,7 @@ went_on : (widths : List ℕ) (d : Datum) (o : Option (List Table × List Datum)
 went_on widths d None h = tt
 went_on widths d (Some r) h = h
 
-after_all : (widths : List ℕ) (ss : List Statement) (tables : List Table) → AreTables widths tables → FitStatements widths ss → LeavesAll widths (after_statements ss tables)
+pub after_all : (widths : List ℕ) (ss : List Statement) (tables : List Table) → AreTables widths tables → FitStatements widths ss → LeavesAll widths (after_statements ss tables)
 after_all widths [] tables a f = a
 after_all widths (s ∷ ss) tables a f = by (after_statement s tables) (after_one widths s tables a f.0) (λ ts b. after_all widths ss ts b f.1)
   where

@@ -1,7 +1,7 @@
 -- When statements fit tables of these widths, the width of a table being how many columns it has.
 use Rattle.std.specs.Prelude.{◌≡◌, ◌<◌, ℕ, List, [], ◌∷◌, length, Some}
 use Rattle.basis.specs.Lists.{nth}
-use Rattle.script_tree.specs.Datum.{IsWithinLimits}
+use Rattle.script_tree.specs.Datum.{Datum, IsWithinLimits}
 use Rattle.script_tree.specs.Fit.{IsRow}
 use Rattle.script_tree.specs.Transactions.{Row}
 use Rattle.script_tree.specs.declared.transaction.Test.{Test}
@@ -54,3 +54,7 @@ FitStatements widths (s ∷ ss) = FitsStatement widths s × FitStatements widths
 -- a transaction has a statement
 abbrev pub FitsTransaction : List ℕ → List Statement → Type 0
 FitsTransaction widths ss = (0 < length ss) × FitStatements widths ss
+
+abbrev pub AreWithinLimits : List Datum → Type 0
+AreWithinLimits [] = Unit {0}
+AreWithinLimits (d ∷ ds) = IsWithinLimits d × AreWithinLimits ds

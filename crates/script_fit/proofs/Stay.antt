@@ -22,7 +22,7 @@ use Rattle.script_fit.proofs.Transacted.{transacted}
 same_bytes : (a b : List ℕ) → bytes_eq a b ≡ true → a ≡ b
 same_bytes a b e = (bytes_eq-Decides a b).0 e
 
-same_object : (a b : Object) → is_same a b ≡ true → a ≡ b
+pub same_object : (a b : Object) → is_same a b ≡ true → a ≡ b
 same_object (Register a) (Register b) e = ap Register (same_bytes a b e)
 same_object (Store a) (Store b) e = ap Store (same_bytes a b e)
 same_object Tables Tables e = refl

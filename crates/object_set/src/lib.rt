@@ -1,0 +1,6 @@
+//! All objects of a program: its registers, its stores, its tables, the clock and the dice.
+#![tactic(auto)]
+
+pub mod set;
+
+pub use set::{ObjectSet, Refused};

@@ -1,0 +1,277 @@
+ghost use Rattle.std.specs.Prelude.{◌≡◌, ◌≤ℤ◌, pos, true, IfOk, OnErr};
+ghost use Rattle.script_tree.specs.Fit.{Fit};
+ghost use Rattle.script_tree.specs.Objects.{is_nothing, is_reading, is_roll, reading, none};
+ghost use Rattle.script_tree.specs.Programs.{Program as AnyProgram, program_of};
+ghost use Rattle.script_tree.specs.declared.operation.Choice.{Choice as AnyChoice};
+ghost use Rattle.script_tree.specs.declared.operation.Choice.TheVariants.{Number};
+ghost use Rattle.script_tree.specs.declared.operation.Act.TheVariants.{Now, Roll};
+ghost use Rattle.script_tree.specs.declared.operation.Object.TheVariants.{Register as AnyRegister, Store as AnyStore, Tables as AllTables, Clock as TheClock, Dice as TheDice};
+ghost use Rattle.script_fit.specs.FitsOperation.{FitsRegister, FitsStore, FitsTables, FitsClock, FitsDice};
+ghost use Rattle.object_cells.specs.Stores.{has_store};
+ghost use Rattle.object_set.specs.Applied.{FitsSet, Does, IsApplied, op_of, takes};
+ghost use Rattle.object_set.specs.ObjectSets.{IsSetOf, IsEmptySet, objects_of};
+
+use basis::OrMemory;
+use object_cells::{Registers, Store, Stores};
+use object_tables::tables::{Outcome, Tables};
+use script_tree::operation::{Act, Choice, Object, Op};
+use script_tree::syntax::declaration::Declaration;
+use script_tree::text::Text;
+use script_tree::value::Value;
+use std::alloc::{AllocError, Global};
+use std::marker::Model;
+
+/// The choice isn't one that the object takes.
+#[derive(Drop)]
+pub struct Refused;
+
+/// What all objects of a program hold. Each holds what it may, and no operation makes or removes a
+/// store or a table.
+#[derive(Drop)]
+pub struct ObjectSet {
+    alloc: Global,
+    registers: Registers,
+    stores: Stores,
+    tables: Tables,
+    clock: i64,
+}
+
+impl Model for ObjectSet {
+    ghost use Rattle.object_set.specs.ObjectSets.{HeldObjects, coded_objects};
+
+    ghost Value = { HeldObjects };
+
+    ghost coded = { coded_objects };
+
+    ghost use Rattle.object_set.specs.ObjectSetView.{objects_in, IsKeptIn};
+
+    ghost view = { objects_in };
+
+    ghost invariant = { IsKeptIn };
+}
+
+impl ObjectSet {
+    /// The objects that a program declares, where nothing is stored.
+    pub fn new(alloc: Global, declarations: &[Declaration]) -> Result<ObjectSet, AllocError>
+        ensures declared { IfOk result (IsSetOf (program_of declarations.now)) }
+        ensures empty { IfOk result IsEmptySet }
+    {
+        Ok(ObjectSet {
+            alloc,
+            registers: Registers::new(alloc),
+            stores: Stores::new(alloc, declarations)?,
+            tables: Tables::new(alloc, declarations)?,
+            clock: 0,
+        })
+    }
+
+    /// The registers.
+    pub fn registers(&self) -> &Registers
+        ensures { result.now ≡ self.now.registers }
+    {
+        &self.registers
+    }
+
+    /// The tables.
+    pub fn tables(&self) -> &Tables
+        ensures { result.now ≡ self.now.tables }
+    {
+        &self.tables
+    }
+
+    /// The clock's last reading.
+    pub fn clock(&self) -> i64
+        ensures reading { result ≡ self.now.clock }
+        ensures not_negative { pos 0 ≤ℤ result }
+    {
+        self.clock
+    }
+
+    /// Does an operation with its choice, and gives its answer. A choice that the object doesn't take
+    /// is refused.
+    pub fn apply(&mut self, op: &Op, choice: Choice) -> Result<Value, OrMemory<Refused>>
+        requires { FitsSet self.old op.now }
+        ensures { IsApplied op.now choice self.old self.new result }
+    {
+        if !self.takes(op, choice) {
+            return Err(OrMemory::Other(Refused));
+        }
+        match &op.object {
+            Object::Register(name) => Ok(self.on_register(name, &op.act)?),
+            Object::Store(name) => Ok(self.on_store(name, &op.act)?),
+            Object::Tables => Ok(self.on_tables(&op.act)?),
+            Object::Clock => Ok(self.on_clock(&op.act, choice)),
+            Object::Dice => Ok(self.on_dice(&op.act, choice)),
+        }
+    }
+
+    /// Whether the object takes the choice.
+    pub fn takes(&self, op: &Op, choice: Choice) -> bool
+        requires { FitsSet self.now op.now }
+        ensures { result ≡ takes op.now choice self.now }
+    {
+        match &op.act {
+            Act::Read
+            | Act::Write(_)
+            | Act::Get(_)
+            | Act::Put(_, _)
+            | Act::Remove(_)
+            | Act::Transact(_) => is_nothing(choice),
+            Act::Now => is_reading(choice, self.clock),
+            Act::Roll(bound) => is_roll(choice, *bound),
+        }
+    }
+
+    fn on_register(&mut self, name: &Text, act: &Act) -> Result<Value, AllocError>
+        requires { FitsRegister name.now act.now }
+        ensures done { (choice : AnyChoice) →
+            IfOk result (Does (op_of (AnyRegister name.now) act.now) choice self.old self.new) }
+        ensures err { OnErr result (self.new ≡ self.old) }
+    {
+        match act {
+            Act::Read => self.registers.get(name),
+            Act::Write(value) => {
+                self.registers.put(name.clone()?, value.clone()?)?;
+                Ok(Value::null())
+            }
+            Act::Get(_)
+            | Act::Put(_, _)
+            | Act::Remove(_)
+            | Act::Transact(_)
+            | Act::Now
+            | Act::Roll(_) => unreachable!(),
+        }
+    }
+
+    fn on_store(&mut self, name: &Text, act: &Act) -> Result<Value, AllocError>
+        requires there { has_store self.old.stores name.now ≡ true }
+        requires fits { FitsStore act.now }
+        ensures done { (choice : AnyChoice) →
+            IfOk result (Does (op_of (AnyStore name.now) act.now) choice self.old self.new) }
+        ensures err { OnErr result (self.new ≡ self.old) }
+    {
+        match act {
+            Act::Get(key) => self.stores.get(name, key),
+            Act::Put(key, value) => {
+                self.stores.put(name, key.clone()?, value.clone()?)?;
+                Ok(Value::null())
+            }
+            Act::Remove(key) => {
+                self.stores.remove(name, key);
+                Ok(Value::null())
+            }
+            Act::Read | Act::Write(_) | Act::Transact(_) | Act::Now | Act::Roll(_) => {
+                unreachable!()
+            }
+        }
+    }
+
+    fn on_tables(&mut self, act: &Act) -> Result<Value, AllocError>
+        requires { FitsTables self.old.tables.widths act.now }
+        ensures done { (choice : AnyChoice) →
+            IfOk result (Does (op_of AllTables act.now) choice self.old self.new) }
+        ensures err { OnErr result (self.new ≡ self.old) }
+    {
+        match act {
+            Act::Transact(statements) => {
+                match self.tables.transact(self.alloc, statements)? {
+                    Outcome::Committed(answers) => Ok(Value::list(answers)),
+                    Outcome::Aborted(_) => Ok(Value::null()),
+                }
+            }
+            Act::Read
+            | Act::Write(_)
+            | Act::Get(_)
+            | Act::Put(_, _)
+            | Act::Remove(_)
+            | Act::Now
+            | Act::Roll(_) => unreachable!(),
+        }
+    }
+
+    fn on_clock(&mut self, act: &Act, choice: Choice) -> Value
+        requires fits { FitsClock act.now }
+        requires taken { takes (op_of TheClock act.now) choice self.old ≡ true }
+        ensures { Does (op_of TheClock act.now) choice self.old self.new result }
+    {
+        match act {
+            Act::Now => self.read_clock(choice),
+            Act::Read
+            | Act::Write(_)
+            | Act::Get(_)
+            | Act::Put(_, _)
+            | Act::Remove(_)
+            | Act::Transact(_)
+            | Act::Roll(_) => unreachable!(),
+        }
+    }
+
+    fn read_clock(&mut self, choice: Choice) -> Value
+        requires { takes (op_of TheClock Now) choice self.old ≡ true }
+        ensures { Does (op_of TheClock Now) choice self.old self.new result }
+    {
+        match choice {
+            Choice::Number(time) => {
+                self.clock = time;
+                Value::number(time)
+            }
+            Choice::Nothing => unreachable!(),
+        }
+    }
+
+    fn on_dice(&self, act: &Act, choice: Choice) -> Value
+        requires fits { FitsDice act.now }
+        requires taken { takes (op_of TheDice act.now) choice self.now ≡ true }
+        ensures { Does (op_of TheDice act.now) choice self.now self.now result }
+    {
+        match act {
+            Act::Roll(bound) => self.roll(*bound, choice),
+            Act::Read
+            | Act::Write(_)
+            | Act::Get(_)
+            | Act::Put(_, _)
+            | Act::Remove(_)
+            | Act::Transact(_)
+            | Act::Now => unreachable!(),
+        }
+    }
+
+    fn roll(&self, bound: i64, choice: Choice) -> Value
+        requires { takes (op_of TheDice (Roll bound)) choice self.now ≡ true }
+        ensures { Does (op_of TheDice (Roll bound)) choice self.now self.now result }
+    {
+        match choice {
+            Choice::Number(number) => Value::number(number),
+            Choice::Nothing => unreachable!(),
+        }
+    }
+}
+
+fn is_nothing(choice: Choice) -> bool
+    ensures { result ≡ is_nothing choice }
+{
+    match choice {
+        Choice::Nothing => true,
+        Choice::Number(_) => false,
+    }
+}
+
+/// Whether it is a reading of a clock that read this last.
+fn is_reading(choice: Choice, last: i64) -> bool
+    ensures { result ≡ is_reading choice (reading last) }
+{
+    match choice {
+        Choice::Number(time) => last <= time,
+        Choice::Nothing => false,
+    }
+}
+
+/// Whether it is a roll below this bound.
+fn is_roll(choice: Choice, bound: i64) -> bool
+    ensures { result ≡ is_roll bound choice none }
+{
+    match choice {
+        Choice::Number(number) => 0 <= number && number < bound,
+        Choice::Nothing => false,
+    }
+}

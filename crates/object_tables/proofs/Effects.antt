@@ -4,14 +4,14 @@ use Rattle.std.specs.Option.{option_map}
 use Rattle.std.specs.Map.{keys_of}
 use Rattle.std.specs.List.Sorted.{IsStrictlySortedBy}
 use Rattle.std.proofs.lemmas.Map.Lookups.{exact_bytes}
-use Rattle.script_tree.specs.Datum.{text}
+use Rattle.script_tree.specs.Datum.{text, number}
 use Rattle.basis.specs.Lists.{with_nth}
 use Rattle.script_tree.specs.Transactions.{Row, key, table_at, with_row, changed_row, updated_rows, other_rows, Table, meets, meeting_rows, row_count}
 use Rattle.script_tree.specs.declared.transaction.Test.{Test}
 use Rattle.script_tree.specs.declared.transaction.Change.{Change}
 use Rattle.object_tables.specs.Slots.{Slot, Slots, by_bytes, slot_at, put, replaced, rows_of, has_row, puts_for, put_for, with_puts, KeepKeys}
 use Rattle.script_tree.specs.declared.transaction.Statement.TheVariants.{Update, Delete}
-use Rattle.object_tables.specs.Outcomes.{Counts}
+use Rattle.object_tables.specs.Outcomes.{Runs}
 use Rattle.object_tables.specs.Journal.{put_at, replaced_at, AllFiled}
 use Rattle.object_tables.proofs.Insert.{inserts, filed_put}
 use Rattle.object_tables.proofs.Places.{rows_there, rows_set, filed_at, filed_set}
@@ -90,11 +90,11 @@ counted ts t f tests ps p = rw (p, rows_there ts t) (ap pos (all_counted f tests
 
 pub updates : (ts us : List Slots) (t : ℕ) (changes : List Change) (tests : List Test) (ps : Slots) (n : ℤ) → InOrder ts t
     → ps ≡ puts_for (λ row. Some (changed_row changes row)) tests (get_or ts t []) → us ≡ set ts t (with_puts ps (get_or ts t [])) → n ≡ pos (length ps)
-    → Counts (Update t changes tests) (map rows_of ts) (map rows_of us) n
+    → Runs (Update t changes tests) (map rows_of ts) (map rows_of us) (Some (number n))
 updates ts us t changes tests ps n o p u e =
     rw (update_done ts us t changes tests ps o p u, e, counted ts t (λ row. Some (changed_row changes row)) tests ps p) refl
 
 pub deletes : (ts us : List Slots) (t : ℕ) (tests : List Test) (ps : Slots) (n : ℤ) → InOrder ts t
     → ps ≡ puts_for (λ row. None) tests (get_or ts t []) → us ≡ set ts t (with_puts ps (get_or ts t [])) → n ≡ pos (length ps)
-    → Counts (Delete t tests) (map rows_of ts) (map rows_of us) n
+    → Runs (Delete t tests) (map rows_of ts) (map rows_of us) (Some (number n))
 deletes ts us t tests ps n o p u e = rw (delete_done ts us t tests ps o p u, e, counted ts t (λ row. None) tests ps p) refl

@@ -128,13 +128,13 @@ pub can_run : (widths : List ℕ) (ts : List Slots) (ss : List Statement) (n : �
     → AreRunnable n ss
 can_run widths ts ss n h f e = rw (e ∙ sym (rows_each ts) ∙ sym (as_many widths (map rows_of ts) h)) (all_run widths ss f.1)
 
-outcome_kept : (widths : List ℕ) (ss : List Statement) (old new : List Table) (o : Outcome) → FitsTransaction widths ss → AreTables widths old → IsOutcome ss old o new
+outcome_kept : (widths : List ℕ) (ss : List Statement) (old new : List Table) (o : Outcome) → FitsTransaction widths ss → AreTables widths old → IsOutcome ss old new o
     → AreTables widths new
 outcome_kept widths ss old new (Committed answers) f h e = statements_kept widths ss old new _ f.1 h e
 outcome_kept widths ss old new (Aborted i) f h e = subst (AreTables widths) (sym e.1) h
 
 pub result_kept : {E : Type 0} (widths : List ℕ) (ss : List Statement) (old new : List Slots) (r : Result Outcome E) → FitsTransaction widths ss → AreTables widths (map rows_of old)
-    → IfOk r (λ o. IsOutcome ss (map rows_of old) o (map rows_of new)) → OnErr r (new ≡ old) → AreTables widths (map rows_of new)
+    → IfOk r (IsOutcome ss (map rows_of old) (map rows_of new)) → OnErr r (new ≡ old) → AreTables widths (map rows_of new)
 result_kept widths ss old new (Ok o) f h d e = outcome_kept widths ss (map rows_of old) (map rows_of new) o f h d
 result_kept widths ss old new (Err x) f h d e = rw e h
 

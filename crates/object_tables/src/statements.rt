@@ -5,8 +5,8 @@ ghost use Rattle.basis.specs.Lists.{with_nth};
 ghost use Rattle.script_tree.specs.Transactions.{key, table_at, with_row, row_count, updated_rows, other_rows, selected_columns, meeting_rows, after_statement};
 ghost use Rattle.object_tables.specs.Slots.{rows_of, with_puts, IsText, KeepKeys, IsRunnable};
 ghost use Rattle.object_tables.specs.Journal.{with_puts_at, AllFiled, AreWhole};
-ghost use Rattle.object_tables.specs.Storages.{slots_in, rows_in, before};
-ghost use Rattle.object_tables.specs.Outcomes.{IsInserted, Runs, Counts};
+ghost use Rattle.object_tables.specs.Storages.{slots_in, rows_in, before, ReplacesAll, Inserts, Does, Counts, Shows};
+ghost use Rattle.object_tables.specs.Outcomes.{IsInserted};
 ghost use Rattle.script_tree.specs.declared.transaction.Statement.TheVariants.{Select, Update, Delete};
 
 use crate::journal::{Storage, put, put_in, replace};
@@ -43,7 +43,7 @@ pub fn insert(storage: &mut Storage, table: usize, row: &Values) -> Result<bool,
     requires within { table < vec_len storage.old.tables }
     requires filed { AllFiled (slots_in storage.old) }
     requires keyed { IsText (key row.now) }
-    ensures done { IfOk result (IsInserted table row.now (rows_in storage.old) (rows_in storage.new)) }
+    ensures done { IfOk result (Inserts table row.now storage.old storage.new) }
     ensures filed { OnOk result (AllFiled (slots_in storage.new)) }
     ensures before { before storage.new ≡ before storage.old }
     ensures len { vec_len storage.new.tables ≡ vec_len storage.old.tables }
@@ -82,7 +82,7 @@ fn replace_all(
     mut puts: Vec<(Text, Slot)>,
 ) -> Result<(), AllocError>
     requires within { table < vec_len storage.old.tables }
-    ensures ok { OnOk result (slots_in storage.new ≡ with_puts_at table puts.items (slots_in storage.old)) }
+    ensures ok { OnOk result (ReplacesAll table puts.items storage.old storage.new) }
     ensures before { before storage.new ≡ before storage.old }
     ensures len { vec_len storage.new.tables ≡ vec_len storage.old.tables }
 {
@@ -111,7 +111,7 @@ pub fn update(
     requires within { table < vec_len storage.old.tables }
     requires filed { AllFiled (slots_in storage.old) }
     requires keys { KeepKeys changes.now }
-    ensures done { IfOk result (Counts (Update table changes.now tests.now) (rows_in storage.old) (rows_in storage.new)) }
+    ensures done { IfOk result (Counts (Update table changes.now tests.now) storage.old storage.new) }
     ensures filed { OnOk result (AllFiled (slots_in storage.new)) }
     ensures before { before storage.new ≡ before storage.old }
     ensures len { vec_len storage.new.tables ≡ vec_len storage.old.tables }
@@ -132,7 +132,7 @@ pub fn delete(
 ) -> Result<i64, AllocError>
     requires within { table < vec_len storage.old.tables }
     requires filed { AllFiled (slots_in storage.old) }
-    ensures done { IfOk result (Counts (Delete table tests.now) (rows_in storage.old) (rows_in storage.new)) }
+    ensures done { IfOk result (Counts (Delete table tests.now) storage.old storage.new) }
     ensures filed { OnOk result (AllFiled (slots_in storage.new)) }
     ensures before { before storage.new ≡ before storage.old }
     ensures len { vec_len storage.new.tables ≡ vec_len storage.old.tables }
@@ -154,7 +154,7 @@ pub fn select(
 ) -> Result<Value, AllocError>
     requires within { table < vec_len storage.now.tables }
     requires filed { AllFiled (slots_in storage.now) }
-    ensures { IfOk result (λ rows. Runs (Select table columns.now tests.now) (rows_in storage.now) (rows_in storage.now) (Some rows)) }
+    ensures { IfOk result (Shows (Select table columns.now tests.now) storage.now) }
 {
     let rows = storage.tables[table].select(alloc, columns, tests)?;
     Ok(Value::list(Values::from_vec(rows)?))
@@ -178,7 +178,7 @@ pub fn run(
 ) -> Result<Option<Value>, AllocError>
     requires fits { IsRunnable (vec_len storage.old.tables) statement.now }
     requires filed { AllFiled (slots_in storage.old) }
-    ensures done { IfOk result (Runs statement.now (rows_in storage.old) (rows_in storage.new)) }
+    ensures done { IfOk result (Does statement.now storage.old storage.new) }
     ensures filed { OnOk result (AllFiled (slots_in storage.new)) }
     ensures before { before storage.new ≡ before storage.old }
     ensures len { vec_len storage.new.tables ≡ vec_len storage.old.tables }

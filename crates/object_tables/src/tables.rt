@@ -28,8 +28,8 @@ pub enum Outcome {
     Aborted(usize),
 }
 
-/// The tables of a program. Contracts see how many columns each has, and its rows in the order of their
-/// keys. They fit the widths, and no operation changes those.
+/// The tables of a program. Contracts see how many columns each has, and its rows in the order of
+/// their keys. They fit the widths, and no operation changes those.
 #[derive(Drop)]
 pub struct Tables {
     widths: Vec<usize>,
@@ -58,7 +58,7 @@ fn run_all(
 ) -> Result<Outcome, AllocError>
     requires fits { AreRunnable (vec_len storage.old.tables) statements.now }
     requires filed { AllFiled (slots_in storage.old) }
-    ensures done { IfOk result (λ o. IsRun statements.now (rows_in storage.old) o (rows_in storage.new)) }
+    ensures done { IfOk result (IsRun statements.now (rows_in storage.old) (rows_in storage.new)) }
     ensures filed { OnOk result (AllFiled (slots_in storage.new)) }
     ensures before { before storage.new ≡ before storage.old }
 {
@@ -82,7 +82,7 @@ fn transact_on(
     requires filed { AllFiled (slots_in storage.old) }
     requires whole { AreWhole (slots_in storage.old) }
     requires journal { storage.old.journal.items ≡ [] }
-    ensures done { IfOk result (λ o. IsOutcome statements.now (rows_in storage.old) o (rows_in storage.new)) }
+    ensures done { IfOk result (IsOutcome statements.now (rows_in storage.old) (rows_in storage.new)) }
     ensures filed { AllFiled (slots_in storage.new) }
     ensures whole { AreWhole (slots_in storage.new) }
     ensures journal { storage.new.journal.items ≡ [] }
@@ -172,8 +172,8 @@ impl Tables {
         statements: &Statements,
     ) -> Result<Outcome, AllocError>
         requires { FitsTransaction self.old.widths statements.now }
-        ensures done { IfOk result (λ o. IsOutcome statements.now self.old.tables o self.new.tables) }
-        ensures answer { IfOk result (λ o. IsAnswer statements.now self.old.tables o self.new.tables) }
+        ensures done { IfOk result (IsOutcome statements.now self.old.tables self.new.tables) }
+        ensures answer { IfOk result (IsAnswer statements.now self.old.tables self.new.tables) }
         ensures widths { self.new.widths ≡ self.old.widths }
         ensures err { OnErr result (self.new ≡ self.old) }
     {

@@ -1,15 +1,17 @@
 -- What the statements make of all tables.
-use Rattle.std.proofs.Common.{◌≡◌, ◌<◌, ℕ, zero, suc, List, [], ◌∷◌, ◌++◌, Some, None, Bool, true, false, pos, length, get_or, set, map, refl, ap, ◌∙◌, arith}
+use Rattle.std.proofs.Common.{◌≡◌, ℤ, ◌<◌, ℕ, zero, suc, List, [], ◌∷◌, ◌++◌, Some, None, Bool, true, false, pos, length, get_or, set, map, refl, ap, ◌∙◌, arith}
 use Rattle.std.specs.Option.{option_map}
 use Rattle.std.specs.Map.{keys_of}
 use Rattle.std.specs.List.Sorted.{IsStrictlySortedBy}
 use Rattle.std.proofs.lemmas.Map.Lookups.{exact_bytes}
-use Rattle.script_tree.specs.Datum.{text}
+use Rattle.script_tree.specs.Datum.{text, number}
 use Rattle.basis.specs.Lists.{with_nth}
 use Rattle.script_tree.specs.Transactions.{Row, key, table_at, with_row, changed_row, updated_rows, other_rows, Table, meets, meeting_rows, row_count}
 use Rattle.script_tree.specs.declared.transaction.Test.{Test}
 use Rattle.script_tree.specs.declared.transaction.Change.{Change}
 use Rattle.object_tables.specs.Slots.{Slot, Slots, by_bytes, slot_at, put, replaced, rows_of, has_row, puts_for, put_for, with_puts, KeepKeys}
+use Rattle.script_tree.specs.declared.transaction.Statement.TheVariants.{Update, Delete}
+use Rattle.object_tables.specs.Outcomes.{Runs}
 use Rattle.object_tables.specs.Journal.{put_at, replaced_at, AllFiled}
 use Rattle.object_tables.proofs.Insert.{inserts, filed_put}
 use Rattle.object_tables.proofs.Places.{rows_there, rows_set, filed_at, filed_set}
@@ -45,7 +47,7 @@ pub one_replaced : (ts us : List Slots) (t : ℕ) (ps qs : Slots) (k : List ℕ)
 one_replaced ts us t ps qs k s h u q =
     rw (u, q, with_puts-push ps (k, s) (get_or ts t [])) (replaced_twice ts t k s ps h)
 
-pub update_done : (ts us : List Slots) (t : ℕ) (changes : List Change) (tests : List Test) (ps : Slots) → InOrder ts t
+update_done : (ts us : List Slots) (t : ℕ) (changes : List Change) (tests : List Test) (ps : Slots) → InOrder ts t
     → ps ≡ puts_for (λ row. Some (changed_row changes row)) tests (get_or ts t []) → us ≡ set ts t (with_puts ps (get_or ts t []))
     → map rows_of us ≡ with_nth t (updated_rows changes tests (table_at t (map rows_of ts))) (map rows_of ts)
 update_done ts us t changes tests ps o p u =
@@ -57,7 +59,7 @@ update_filed ts us t changes tests ps h o f p u =
     rw (u, p, makes (λ row. Some (changed_row changes row)) tests (get_or ts t []) o)
     (filed_set ts t _ f (filed_updated changes tests (get_or ts t []) h (filed_at ts t f)))
 
-pub delete_done : (ts us : List Slots) (t : ℕ) (tests : List Test) (ps : Slots) → InOrder ts t
+delete_done : (ts us : List Slots) (t : ℕ) (tests : List Test) (ps : Slots) → InOrder ts t
     → ps ≡ puts_for (λ row. None) tests (get_or ts t []) → us ≡ set ts t (with_puts ps (get_or ts t []))
     → map rows_of us ≡ with_nth t (other_rows tests (table_at t (map rows_of ts))) (map rows_of ts)
 delete_done ts us t tests ps o p u =
@@ -82,6 +84,17 @@ all_counted f tests [] = refl
 all_counted f tests ((k, None) ∷ es) = all_counted f tests es
 all_counted f tests ((k, Some row) ∷ es) = one_counted f tests k row (puts_for f tests es) (rows_of es) (all_counted f tests es)
 
-pub counted : (ts : List Slots) (t : ℕ) (f : Row → Slot) (tests : List Test) (ps : Slots) → ps ≡ puts_for f tests (get_or ts t [])
+counted : (ts : List Slots) (t : ℕ) (f : Row → Slot) (tests : List Test) (ps : Slots) → ps ≡ puts_for f tests (get_or ts t [])
     → pos (length ps) ≡ row_count tests (table_at t (map rows_of ts))
 counted ts t f tests ps p = rw (p, rows_there ts t) (ap pos (all_counted f tests (get_or ts t [])))
+
+pub updates : (ts us : List Slots) (t : ℕ) (changes : List Change) (tests : List Test) (ps : Slots) (n : ℤ) → InOrder ts t
+    → ps ≡ puts_for (λ row. Some (changed_row changes row)) tests (get_or ts t []) → us ≡ set ts t (with_puts ps (get_or ts t [])) → n ≡ pos (length ps)
+    → Runs (Update t changes tests) (map rows_of ts) (map rows_of us) (Some (number n))
+updates ts us t changes tests ps n o p u e =
+    rw (update_done ts us t changes tests ps o p u, e, counted ts t (λ row. Some (changed_row changes row)) tests ps p) refl
+
+pub deletes : (ts us : List Slots) (t : ℕ) (tests : List Test) (ps : Slots) (n : ℤ) → InOrder ts t
+    → ps ≡ puts_for (λ row. None) tests (get_or ts t []) → us ≡ set ts t (with_puts ps (get_or ts t [])) → n ≡ pos (length ps)
+    → Runs (Delete t tests) (map rows_of ts) (map rows_of us) (Some (number n))
+deletes ts us t tests ps n o p u e = rw (delete_done ts us t tests ps o p u, e, counted ts t (λ row. None) tests ps p) refl

@@ -13,7 +13,7 @@ use Rattle.script_tree.specs.declared.transaction.Change.{Change}
 use Rattle.script_tree.specs.declared.transaction.Statement.{Statement}
 use Rattle.script_tree.specs.declared.transaction.Statement.TheVariants.{Insert, Select, Update, Delete, Expect}
 use Rattle.script_fit.specs.FitsTransaction.{FitChanges, FitsRow, FitsStatement, FitStatements, FitsTransaction}
-use Rattle.object_tables.specs.Outcomes.{IsOutcome}
+use Rattle.object_tables.specs.Outcomes.{IsOutcome, IsInserted, with_row_at}
 use Rattle.object_tables.specs.declared.tables.Outcome.{Outcome}
 use Rattle.object_tables.specs.declared.tables.Outcome.TheVariants.{Committed, Aborted}
 use Rattle.object_tables.specs.Slots.{Slots, IsText, KeepKeys, IsRunnable, AreRunnable, rows_of}
@@ -61,13 +61,13 @@ pub can_run : (widths : List ℕ) (ts : List Slots) (ss : List Statement) (n : �
     → AreRunnable n ss
 can_run widths ts ss n h f e = rw (e ∙ sym (rows_each ts) ∙ sym (as_many widths (map rows_of ts) h)) (all_run widths ss f.1)
 
-outcome_kept : (widths : List ℕ) (ss : List Statement) (old new : List Table) (o : Outcome) → FitsTransaction widths ss → AreTables widths old → IsOutcome ss old o new
+outcome_kept : (widths : List ℕ) (ss : List Statement) (old new : List Table) (o : Outcome) → FitsTransaction widths ss → AreTables widths old → IsOutcome ss old new o
     → AreTables widths new
 outcome_kept widths ss old new (Committed answers) f h e = statements_kept widths ss old new _ f.1 h e
 outcome_kept widths ss old new (Aborted i) f h e = subst (AreTables widths) (sym e.1) h
 
 pub result_kept : {E : Type 0} (widths : List ℕ) (ss : List Statement) (old new : List Slots) (r : Result Outcome E) → FitsTransaction widths ss → AreTables widths (map rows_of old)
-    → IfOk r (λ o. IsOutcome ss (map rows_of old) o (map rows_of new)) → OnErr r (new ≡ old) → AreTables widths (map rows_of new)
+    → IfOk r (IsOutcome ss (map rows_of old) (map rows_of new)) → OnErr r (new ≡ old) → AreTables widths (map rows_of new)
 result_kept widths ss old new (Ok o) f h d e = outcome_kept widths ss (map rows_of old) (map rows_of new) o f h d
 result_kept widths ss old new (Err x) f h d e = rw e h
 
@@ -83,8 +83,7 @@ tables_each widths seen ts t n w h l e =
 pub place_of : (widths : List ℕ) (t : ℕ) (row : Row) → FitsRow widths t row → t < length widths
 place_of widths t row f = nth_within widths t f.0 f.1
 
-row_inserted : (widths : List ℕ) (t : ℕ) (row : Row) (old new : List Table) → FitsRow widths t row → AreTables widths old
-    → option_map (λ rows. with_nth t rows old) (with_row row (table_at t old)) ≡ Some new → AreTables widths new
+row_inserted : (widths : List ℕ) (t : ℕ) (row : Row) (old new : List Table) → FitsRow widths t row → AreTables widths old → with_row_at t row old ≡ Some new → AreTables widths new
 row_inserted widths t row old new f h e = by (with_row row (table_at t old)) refl
   where
     by : (o : Option Table) → with_row row (table_at t old) ≡ o → AreTables widths new
@@ -95,8 +94,7 @@ row_inserted widths t row old new f h e = by (with_row row (table_at t old)) ref
         subst (AreTables widths) (some_is g) (tables_with widths old t f.0 rows h f.1 (table_of_rows f.0 rows (rows_with f.0 row (table_at t old) rows f.2 there p)))
 
 pub row_kept : {E : Type 0} (widths : List ℕ) (t : ℕ) (row : Row) (old new : List Slots) (r : Result Bool E) → FitsRow widths t row → AreTables widths (map rows_of old)
-    → IfOk r (λ done. option_map (λ rows. with_nth t rows (map rows_of old)) (with_row row (table_at t (map rows_of old))) ≡ (if done then Some (map rows_of new) else None))
-    → (r ≡ Ok false → new ≡ old) → OnErr r (new ≡ old) → AreTables widths (map rows_of new)
-row_kept widths t row old new (Ok true) f h d n e = row_inserted widths t row (map rows_of old) (map rows_of new) f h d
-row_kept widths t row old new (Ok false) f h d n e = rw (n refl) h
-row_kept widths t row old new (Err x) f h d n e = rw e h
+    → IfOk r (IsInserted t row (map rows_of old) (map rows_of new)) → OnErr r (new ≡ old) → AreTables widths (map rows_of new)
+row_kept widths t row old new (Ok true) f h d e = row_inserted widths t row (map rows_of old) (map rows_of new) f h d
+row_kept widths t row old new (Ok false) f h d e = rw d.1 h
+row_kept widths t row old new (Err x) f h d e = rw e h

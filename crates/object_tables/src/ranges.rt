@@ -1,11 +1,11 @@
-ghost use Rattle.std.specs.Prelude.{◌≡◌, MatchOption, ⊤, ◌∷◌, [], length, ◌<◌, ◌^◌};
+ghost use Rattle.std.specs.Prelude.{◌≡◌, IfSome, ◌∷◌, [], length, ◌<◌, ◌^◌};
 ghost use Rattle.std.specs.Range.Bound.{bound_map};
 ghost use Rattle.std.specs.BTreeMap.Range.{is_from_start, is_past_end, range_contains};
 ghost use Rattle.script_tree.specs.Datum.{text};
 ghost use Rattle.script_tree.specs.Order.{compares};
 ghost use Rattle.script_tree.specs.Transactions.{key, column, meets};
 ghost use Rattle.object_tables.specs.Slots.{by_bytes, IsFiled};
-ghost use Rattle.object_tables.specs.Ranges.{spans, IsLower, IsUpper, HasAll};
+ghost use Rattle.object_tables.specs.Ranges.{IsOfKey, spans, IsLower, IsUpper, HasAll};
 
 use crate::table::Slot;
 use script_tree::comparison::Comparison;
@@ -19,7 +19,7 @@ use std::ops::Bound;
 
 /// The text that a test of the key compares with, where it is one.
 fn key_text(test: &Test) -> Option<&Text>
-    ensures { MatchOption result ⊤ (λ bytes. (test.now.column ≡ 0) × (test.now.value ≡ text bytes.now)) }
+    ensures { IfSome result (λ bytes. IsOfKey test.now bytes.now) }
 {
     if test.column != 0 {
         return None;
@@ -88,10 +88,10 @@ fn upper_bound(tests: &[Test]) -> Bound<&Text>
 }
 
 /// Whether there is room for a key.
-fn has_room(lower: Bound<&Text>, upper: Bound<&Text>) -> bool
-    ensures { result ≡ spans (bound_map (λ x. x.now) lower.entry) (bound_map (λ x. x.now) upper.entry) }
+fn has_room(from: Bound<&Text>, to: Bound<&Text>) -> bool
+    ensures { result ≡ spans (bound_map (λ x. x.now) from.entry) (bound_map (λ x. x.now) to.entry) }
 {
-    match (lower, upper) {
+    match (from, to) {
         (Bound::Included(a), Bound::Included(b)) => a.cmp(b) != Ordering::Greater,
         (Bound::Included(a), Bound::Excluded(b)) => a.cmp(b) == Ordering::Less,
         (Bound::Excluded(a), Bound::Included(b)) => a.cmp(b) == Ordering::Less,

@@ -2,7 +2,7 @@ ghost use Rattle.std.specs.Prelude.{◌≡◌, ◌<◌, ◌^◌, length, pos, ma
 ghost use Rattle.script_tree.specs.Order.{compares};
 ghost use Rattle.script_tree.specs.Datum.{null};
 ghost use Rattle.script_tree.specs.Transactions.{column, meets, row_count, selected_columns, meeting_rows, changed_row};
-ghost use Rattle.object_tables.specs.Slots.{rows_of, puts_for, IsFiled};
+ghost use Rattle.object_tables.specs.Slots.{rows_of, selected, update_puts, delete_puts, IsFiled};
 
 use crate::ranges::candidates;
 use crate::table::Slot;
@@ -100,7 +100,7 @@ pub fn select(
     tests: &[Test],
 ) -> Result<Vec<Value>, AllocError>
     requires { IsFiled slots.now.entries }
-    ensures { IfOk result (λ rows. rows.items ≡ map (selected_columns columns.now) (meeting_rows tests.now (rows_of slots.now.entries))) }
+    ensures { IfOk result (λ rows. rows.items ≡ selected columns.now tests.now (rows_of slots.now.entries)) }
 {
     let mut rows = Vec::new(alloc);
     for (_, slot) in candidates(slots, tests) {
@@ -135,7 +135,7 @@ pub fn changed_rows(
     tests: &[Test],
 ) -> Result<Vec<(Text, Slot)>, AllocError>
     requires { IsFiled slots.now.entries }
-    ensures { IfOk result (λ puts. puts.items ≡ puts_for (λ row. Some (changed_row changes.now row)) tests.now slots.now.entries) }
+    ensures { IfOk result (λ puts. puts.items ≡ update_puts changes.now tests.now slots.now.entries) }
 {
     let mut puts = Vec::new(alloc);
     for (key, slot) in candidates(slots, tests) {
@@ -155,7 +155,7 @@ pub fn taken_rows(
     tests: &[Test],
 ) -> Result<Vec<(Text, Slot)>, AllocError>
     requires { IsFiled slots.now.entries }
-    ensures { IfOk result (λ puts. puts.items ≡ puts_for (λ row. None) tests.now slots.now.entries) }
+    ensures { IfOk result (λ puts. puts.items ≡ delete_puts tests.now slots.now.entries) }
 {
     let mut puts = Vec::new(alloc);
     for (key, slot) in candidates(slots, tests) {

@@ -4,9 +4,12 @@ ghost use Rattle.script_tree.specs.Datum.{text, list, data_of};
 ghost use Rattle.basis.specs.Lists.{with_nth};
 ghost use Rattle.script_tree.specs.Transactions.{key, table_at, with_row, row_count, updated_rows, other_rows, selected_columns, meeting_rows, after_statement};
 ghost use Rattle.object_tables.specs.Slots.{rows_of, with_puts, IsText, KeepKeys, IsRunnable};
-ghost use Rattle.object_tables.specs.Journal.{slots_at, undone, AllFiled, AreWhole};
+ghost use Rattle.object_tables.specs.Journal.{with_puts_at, AllFiled, AreWhole};
+ghost use Rattle.object_tables.specs.Storages.{slots_in, rows_in, before, ReplacesAll, Inserts, Does, Counts, Shows};
+ghost use Rattle.object_tables.specs.Outcomes.{IsInserted};
+ghost use Rattle.script_tree.specs.declared.transaction.Statement.TheVariants.{Select, Update, Delete};
 
-use crate::journal::{Undo, put, put_in, replace};
+use crate::journal::{Storage, put, put_in, replace};
 use crate::table::{Slot, Slots};
 use script_tree::text::Text;
 use script_tree::transaction::{Change, Statement, Test};
@@ -36,26 +39,21 @@ fn text_of(value: &Value) -> Result<Text, AllocError>
 }
 
 /// Inserts a row, unless its key is there.
-pub fn insert(
-    tables: &mut Vec<Slots>,
-    journal: &mut Vec<Undo>,
-    table: usize,
-    row: &Values,
-) -> Result<bool, AllocError>
-    requires within { table < vec_len tables.old }
-    requires filed { AllFiled tables.old.items }
+pub fn insert(storage: &mut Storage, table: usize, row: &Values) -> Result<bool, AllocError>
+    requires within { table < vec_len storage.old.tables }
+    requires filed { AllFiled (slots_in storage.old) }
     requires keyed { IsText (key row.now) }
-    ensures done { IfOk result (λ done. option_map (λ rows. with_nth table rows (map rows_of tables.old.items)) (with_row row.now (table_at table (map rows_of tables.old.items))) ≡ (if done then Some (map rows_of tables.new.items) else None)) }
-    ensures filed { OnOk result (AllFiled tables.new.items) }
-    ensures undone { undone journal.new.items tables.new.items ≡ undone journal.old.items tables.old.items }
-    ensures len { vec_len tables.new ≡ vec_len tables.old }
+    ensures done { IfOk result (Inserts table row.now storage.old storage.new) }
+    ensures filed { OnOk result (AllFiled (slots_in storage.new)) }
+    ensures before { before storage.new ≡ before storage.old }
+    ensures len { vec_len storage.new.tables ≡ vec_len storage.old.tables }
 {
     let key = key_of(row)?;
-    if tables[table].has_row(&key) {
+    if storage.tables[table].has_row(&key) {
         return Ok(false);
     }
     let copy = row.clone()?;
-    put(tables, journal, table, key, copy)?;
+    put(storage, table, key, copy)?;
     Ok(true)
 }
 
@@ -64,8 +62,7 @@ pub fn insert_in(tables: &mut Vec<Slots>, table: usize, row: Values) -> Result<b
     requires within { table < vec_len tables.old }
     requires filed { AllFiled tables.old.items }
     requires keyed { IsText (key row) }
-    ensures done { IfOk result (λ done. option_map (λ rows. with_nth table rows (map rows_of tables.old.items)) (with_row row (table_at table (map rows_of tables.old.items))) ≡ (if done then Some (map rows_of tables.new.items) else None)) }
-    ensures refused { result ≡ Ok false → tables.new.items ≡ tables.old.items }
+    ensures done { IfOk result (IsInserted table row (map rows_of tables.old.items) (map rows_of tables.new.items)) }
     ensures filed { AllFiled tables.new.items }
     ensures whole { AreWhole tables.old.items → AreWhole tables.new.items }
     ensures err { OnErr result (tables.new.items ≡ tables.old.items) }
@@ -80,18 +77,17 @@ pub fn insert_in(tables: &mut Vec<Slots>, table: usize, row: Values) -> Result<b
 
 /// Puts all of these slots at their keys, the last one first.
 fn replace_all(
-    tables: &mut Vec<Slots>,
-    journal: &mut Vec<Undo>,
+    storage: &mut Storage,
     table: usize,
     mut puts: Vec<(Text, Slot)>,
 ) -> Result<(), AllocError>
-    requires within { table < vec_len tables.old }
-    ensures ok { OnOk result (tables.new.items ≡ slice_set tables.old.items table (with_puts puts.items (slots_at table tables.old.items))) }
-    ensures undone { undone journal.new.items tables.new.items ≡ undone journal.old.items tables.old.items }
-    ensures len { vec_len tables.new ≡ vec_len tables.old }
+    requires within { table < vec_len storage.old.tables }
+    ensures ok { OnOk result (ReplacesAll table puts.items storage.old storage.new) }
+    ensures before { before storage.new ≡ before storage.old }
+    ensures len { vec_len storage.new.tables ≡ vec_len storage.old.tables }
 {
     while let Some((key, slot)) = puts.pop() {
-        replace(tables, journal, table, key, slot)?;
+        replace(storage, table, key, slot)?;
     }
     Ok(())
 }
@@ -107,24 +103,22 @@ fn count_of(puts: &Vec<(Text, Slot)>) -> i64
 #[tactic(auto, using(crate::proofs::Places::rows_there, crate::proofs::Places::filed_here))]
 pub fn update(
     alloc: Global,
-    tables: &mut Vec<Slots>,
-    journal: &mut Vec<Undo>,
+    storage: &mut Storage,
     table: usize,
     changes: &[Change],
     tests: &[Test],
 ) -> Result<i64, AllocError>
-    requires within { table < vec_len tables.old }
-    requires filed { AllFiled tables.old.items }
+    requires within { table < vec_len storage.old.tables }
+    requires filed { AllFiled (slots_in storage.old) }
     requires keys { KeepKeys changes.now }
-    ensures count { IfOk result (λ n. n ≡ row_count tests.now (table_at table (map rows_of tables.old.items))) }
-    ensures done { OnOk result (map rows_of tables.new.items ≡ with_nth table (updated_rows changes.now tests.now (table_at table (map rows_of tables.old.items))) (map rows_of tables.old.items)) }
-    ensures filed { OnOk result (AllFiled tables.new.items) }
-    ensures undone { undone journal.new.items tables.new.items ≡ undone journal.old.items tables.old.items }
-    ensures len { vec_len tables.new ≡ vec_len tables.old }
+    ensures done { IfOk result (Counts (Update table changes.now tests.now) storage.old storage.new) }
+    ensures filed { OnOk result (AllFiled (slots_in storage.new)) }
+    ensures before { before storage.new ≡ before storage.old }
+    ensures len { vec_len storage.new.tables ≡ vec_len storage.old.tables }
 {
-    let puts = tables[table].changed_rows(alloc, changes, tests)?;
+    let puts = storage.tables[table].changed_rows(alloc, changes, tests)?;
     let n = count_of(&puts);
-    replace_all(tables, journal, table, puts)?;
+    replace_all(storage, table, puts)?;
     Ok(n)
 }
 
@@ -132,22 +126,20 @@ pub fn update(
 #[tactic(auto, using(crate::proofs::Places::rows_there, crate::proofs::Places::filed_here))]
 pub fn delete(
     alloc: Global,
-    tables: &mut Vec<Slots>,
-    journal: &mut Vec<Undo>,
+    storage: &mut Storage,
     table: usize,
     tests: &[Test],
 ) -> Result<i64, AllocError>
-    requires within { table < vec_len tables.old }
-    requires filed { AllFiled tables.old.items }
-    ensures count { IfOk result (λ n. n ≡ row_count tests.now (table_at table (map rows_of tables.old.items))) }
-    ensures done { OnOk result (map rows_of tables.new.items ≡ with_nth table (other_rows tests.now (table_at table (map rows_of tables.old.items))) (map rows_of tables.old.items)) }
-    ensures filed { OnOk result (AllFiled tables.new.items) }
-    ensures undone { undone journal.new.items tables.new.items ≡ undone journal.old.items tables.old.items }
-    ensures len { vec_len tables.new ≡ vec_len tables.old }
+    requires within { table < vec_len storage.old.tables }
+    requires filed { AllFiled (slots_in storage.old) }
+    ensures done { IfOk result (Counts (Delete table tests.now) storage.old storage.new) }
+    ensures filed { OnOk result (AllFiled (slots_in storage.new)) }
+    ensures before { before storage.new ≡ before storage.old }
+    ensures len { vec_len storage.new.tables ≡ vec_len storage.old.tables }
 {
-    let puts = tables[table].taken_rows(alloc, tests)?;
+    let puts = storage.tables[table].taken_rows(alloc, tests)?;
     let n = count_of(&puts);
-    replace_all(tables, journal, table, puts)?;
+    replace_all(storage, table, puts)?;
     Ok(n)
 }
 
@@ -155,46 +147,45 @@ pub fn delete(
 #[tactic(auto, using(crate::proofs::Places::rows_there, crate::proofs::Places::filed_here))]
 pub fn select(
     alloc: Global,
-    tables: &Vec<Slots>,
+    storage: &Storage,
     table: usize,
     columns: &[u32],
     tests: &[Test],
 ) -> Result<Value, AllocError>
-    requires within { table < vec_len tables.now }
-    requires filed { AllFiled tables.now.items }
-    ensures { IfOk result (λ rows. rows ≡ list (data_of (map (selected_columns columns.now) (meeting_rows tests.now (table_at table (map rows_of tables.now.items)))))) }
+    requires within { table < vec_len storage.now.tables }
+    requires filed { AllFiled (slots_in storage.now) }
+    ensures { IfOk result (Shows (Select table columns.now tests.now) storage.now) }
 {
-    let rows = tables[table].select(alloc, columns, tests)?;
+    let rows = storage.tables[table].select(alloc, columns, tests)?;
     Ok(Value::list(Values::from_vec(rows)?))
 }
 
 /// How many rows pass all tests.
 #[tactic(auto, using(crate::proofs::Places::rows_there, crate::proofs::Places::filed_here))]
-pub fn count(tables: &Vec<Slots>, table: usize, tests: &[Test]) -> i64
-    requires within { table < vec_len tables.now }
-    requires filed { AllFiled tables.now.items }
-    ensures { result ≡ row_count tests.now (table_at table (map rows_of tables.now.items)) }
+pub fn count(storage: &Storage, table: usize, tests: &[Test]) -> i64
+    requires within { table < vec_len storage.now.tables }
+    requires filed { AllFiled (slots_in storage.now) }
+    ensures { result ≡ row_count tests.now (table_at table (rows_in storage.now)) }
 {
-    tables[table].count(tests)
+    storage.tables[table].count(tests)
 }
 
 /// Runs a statement: its answer, or nothing where it aborts.
 pub fn run(
     alloc: Global,
-    tables: &mut Vec<Slots>,
-    journal: &mut Vec<Undo>,
+    storage: &mut Storage,
     statement: &Statement,
 ) -> Result<Option<Value>, AllocError>
-    requires fits { IsRunnable (vec_len tables.old) statement.now }
-    requires filed { AllFiled tables.old.items }
-    ensures done { IfOk result (λ answer. after_statement statement.now (map rows_of tables.old.items) ≡ option_map (λ value. (map rows_of tables.new.items, value)) answer) }
-    ensures filed { OnOk result (AllFiled tables.new.items) }
-    ensures undone { undone journal.new.items tables.new.items ≡ undone journal.old.items tables.old.items }
-    ensures len { vec_len tables.new ≡ vec_len tables.old }
+    requires fits { IsRunnable (vec_len storage.old.tables) statement.now }
+    requires filed { AllFiled (slots_in storage.old) }
+    ensures done { IfOk result (Does statement.now storage.old storage.new) }
+    ensures filed { OnOk result (AllFiled (slots_in storage.new)) }
+    ensures before { before storage.new ≡ before storage.old }
+    ensures len { vec_len storage.new.tables ≡ vec_len storage.old.tables }
 {
     match statement {
         Statement::Insert { table, row } => {
-            if insert(tables, journal, *table as usize, row)? {
+            if insert(storage, *table as usize, row)? {
                 Ok(Some(Value::null()))
             } else {
                 Ok(None)
@@ -207,7 +198,7 @@ pub fn run(
         } => {
             let rows = select(
                 alloc,
-                tables,
+                storage,
                 *table as usize,
                 columns.as_slice(),
                 tests.as_slice(),
@@ -221,8 +212,7 @@ pub fn run(
         } => {
             let n = update(
                 alloc,
-                tables,
-                journal,
+                storage,
                 *table as usize,
                 changes.as_slice(),
                 tests.as_slice(),
@@ -230,7 +220,7 @@ pub fn run(
             Ok(Some(Value::number(n)))
         }
         Statement::Delete { table, tests } => {
-            let n = delete(alloc, tables, journal, *table as usize, tests.as_slice())?;
+            let n = delete(alloc, storage, *table as usize, tests.as_slice())?;
             Ok(Some(Value::number(n)))
         }
         Statement::Expect {
@@ -238,7 +228,7 @@ pub fn run(
             table,
             tests,
         } => {
-            if count(tables, *table as usize, tests.as_slice()) == *wanted {
+            if count(storage, *table as usize, tests.as_slice()) == *wanted {
                 Ok(Some(Value::null()))
             } else {
                 Ok(None)

@@ -3,14 +3,15 @@ ghost use Rattle.script_tree.specs.Datum.{null};
 ghost use Rattle.script_tree.specs.declared.transaction.Statement.TheVariants.{Insert};
 ghost use Rattle.script_tree.specs.Transactions.{table_at, after_statement, after_statements, after_transaction};
 ghost use Rattle.object_tables.specs.Slots.{rows_of, AreRunnable};
-ghost use Rattle.object_tables.specs.Journal.{undone, AllFiled, AreWhole};
+ghost use Rattle.object_tables.specs.Journal.{AllFiled, AreWhole};
+ghost use Rattle.object_tables.specs.Storages.{slots_in, rows_in, before};
 ghost use Rattle.script_tree.specs.Fit.{AreTables, table_widths};
 ghost use Rattle.script_fit.specs.FitsTransaction.{FitsRow, FitsTransaction};
 ghost use Rattle.object_tables.specs.TableSets.{no_rows};
-ghost use Rattle.object_tables.specs.Outcomes.{IsOutcome, IsRun, answer_of};
+ghost use Rattle.object_tables.specs.Outcomes.{IsOutcome, IsAnswer, IsInserted, IsRun};
 
 use crate::fitting::{fits_row, fits_transaction};
-use crate::journal::{Undo, settle, take_back};
+use crate::journal::{Storage, settle, take_back};
 use crate::rows::Rows;
 use crate::statements::{self, insert_in};
 use crate::table::Slots;
@@ -27,12 +28,12 @@ pub enum Outcome {
     Aborted(usize),
 }
 
-/// The tables of a program. Contracts see how many columns each has, and its rows in the order of their
-/// keys. They fit the widths, and no operation changes those.
+/// The tables of a program. Contracts see how many columns each has, and its rows in the order of
+/// their keys. They fit the widths, and no operation changes those.
 #[derive(Drop)]
 pub struct Tables {
     widths: Vec<usize>,
-    tables: Vec<Slots>,
+    storage: Storage,
 }
 
 impl Model for Tables {
@@ -52,19 +53,18 @@ impl Model for Tables {
 /// Runs statements in order, up to one that aborts.
 fn run_all(
     alloc: Global,
-    tables: &mut Vec<Slots>,
-    journal: &mut Vec<Undo>,
+    storage: &mut Storage,
     statements: &[Statement],
 ) -> Result<Outcome, AllocError>
-    requires fits { AreRunnable (vec_len tables.old) statements.now }
-    requires filed { AllFiled tables.old.items }
-    ensures done { IfOk result (λ outcome. IsRun statements.now (map rows_of tables.old.items) outcome (map rows_of tables.new.items)) }
-    ensures filed { OnOk result (AllFiled tables.new.items) }
-    ensures undone { undone journal.new.items tables.new.items ≡ undone journal.old.items tables.old.items }
+    requires fits { AreRunnable (vec_len storage.old.tables) statements.now }
+    requires filed { AllFiled (slots_in storage.old) }
+    ensures done { IfOk result (IsRun statements.now (rows_in storage.old) (rows_in storage.new)) }
+    ensures filed { OnOk result (AllFiled (slots_in storage.new)) }
+    ensures before { before storage.new ≡ before storage.old }
 {
     let mut answers = Vec::new(alloc);
     for (i, statement) in statements.iter().enumerate() {
-        match statements::run(alloc, tables, journal, statement)? {
+        match statements::run(alloc, storage, statement)? {
             Some(answer) => answers.push(answer)?,
             None => return Ok(Outcome::Aborted(i)),
         }
@@ -75,29 +75,30 @@ fn run_all(
 /// Runs a transaction. After one that aborts, and after want of memory, the tables are as before.
 fn transact_on(
     alloc: Global,
-    tables: &mut Vec<Slots>,
+    storage: &mut Storage,
     statements: &[Statement],
 ) -> Result<Outcome, AllocError>
-    requires fits { AreRunnable (vec_len tables.old) statements.now }
-    requires filed { AllFiled tables.old.items }
-    requires whole { AreWhole tables.old.items }
-    ensures done { IfOk result (λ outcome. IsOutcome statements.now (map rows_of tables.old.items) outcome (map rows_of tables.new.items)) }
-    ensures filed { AllFiled tables.new.items }
-    ensures whole { AreWhole tables.new.items }
-    ensures err { OnErr result (tables.new.items ≡ tables.old.items) }
+    requires fits { AreRunnable (vec_len storage.old.tables) statements.now }
+    requires filed { AllFiled (slots_in storage.old) }
+    requires whole { AreWhole (slots_in storage.old) }
+    requires journal { storage.old.journal.items ≡ [] }
+    ensures done { IfOk result (IsOutcome statements.now (rows_in storage.old) (rows_in storage.new)) }
+    ensures filed { AllFiled (slots_in storage.new) }
+    ensures whole { AreWhole (slots_in storage.new) }
+    ensures journal { storage.new.journal.items ≡ [] }
+    ensures err { OnErr result (slots_in storage.new ≡ slots_in storage.old) }
 {
-    let mut journal = Vec::new(alloc);
-    match run_all(alloc, tables, &mut journal, statements) {
+    match run_all(alloc, storage, statements) {
         Ok(Outcome::Committed(answers)) => {
-            settle(tables, journal.as_slice());
+            settle(storage);
             Ok(Outcome::Committed(answers))
         }
         Ok(Outcome::Aborted(i)) => {
-            take_back(tables, journal);
+            take_back(storage);
             Ok(Outcome::Aborted(i))
         }
         Err(error) => {
-            take_back(tables, journal);
+            take_back(storage);
             Err(error)
         }
     }
@@ -114,7 +115,13 @@ impl Tables {
         for _ in &widths {
             tables.push(Slots::new(alloc))?;
         }
-        Ok(Tables { widths, tables })
+        Ok(Tables {
+            widths,
+            storage: Storage {
+                tables,
+                journal: Vec::new(alloc),
+            },
+        })
     }
 
     /// How many columns each table has.
@@ -144,18 +151,17 @@ impl Tables {
         requires { table < length self.now.widths }
         ensures { result ≡ table_at table self.now.tables }
     {
-        self.tables[table as usize].rows()
+        self.storage.tables[table as usize].rows()
     }
 
     /// Adds a row to a table; `false` where its key is there.
     pub fn insert_row(&mut self, table: u32, row: Values) -> Result<bool, AllocError>
         requires { FitsRow self.old.widths table row }
-        ensures done { IfOk result (λ done. after_statement (Insert table row) self.old.tables ≡ (if done then Some (self.new.tables, null) else None)) }
-        ensures refused { result ≡ Ok false → self.new ≡ self.old }
+        ensures done { IfOk result (IsInserted table row self.old.tables self.new.tables) }
         ensures widths { self.new.widths ≡ self.old.widths }
         ensures err { OnErr result (self.new ≡ self.old) }
     {
-        insert_in(&mut self.tables, table as usize, row)
+        insert_in(&mut self.storage.tables, table as usize, row)
     }
 
     /// Runs a transaction. After one that aborts, and after want of memory, the tables are as before.
@@ -166,12 +172,12 @@ impl Tables {
         statements: &Statements,
     ) -> Result<Outcome, AllocError>
         requires { FitsTransaction self.old.widths statements.now }
-        ensures done { IfOk result (λ outcome. IsOutcome statements.now self.old.tables outcome self.new.tables) }
-        ensures transaction { IfOk result (λ outcome. after_transaction statements.now self.old.tables ≡ (self.new.tables, answer_of outcome)) }
+        ensures done { IfOk result (IsOutcome statements.now self.old.tables self.new.tables) }
+        ensures answer { IfOk result (IsAnswer statements.now self.old.tables self.new.tables) }
         ensures widths { self.new.widths ≡ self.old.widths }
         ensures err { OnErr result (self.new ≡ self.old) }
     {
-        transact_on(alloc, &mut self.tables, statements.as_slice())
+        transact_on(alloc, &mut self.storage, statements.as_slice())
     }
 }
 
@@ -181,7 +187,10 @@ impl Clone for Tables {
     fn clone(&self) -> Result<Tables, AllocError> {
         Ok(Tables {
             widths: self.widths.clone()?,
-            tables: self.tables.clone()?,
+            storage: Storage {
+                tables: self.storage.tables.clone()?,
+                journal: Vec::new(*self.storage.journal.allocator()),
+            },
         })
     }
 }

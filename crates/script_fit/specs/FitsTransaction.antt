@@ -26,13 +26,16 @@ FitTests width (t ∷ ts) = (t.column < width) × IsWithinLimits t.value × FitT
 -- each change gives one of the columns a value of a script, and not the key
 abbrev pub FitChanges : ℕ → List Change → Type 0
 FitChanges width [] = Unit {0}
-FitChanges width (c ∷ cs) = (0 < c.column) × (c.column < width) × IsWithinLimits c.value × FitChanges width cs
+FitChanges width (c ∷ cs) =
+    (0 < c.column) × (c.column < width) × IsWithinLimits c.value × FitChanges width cs
 
 -- a row that is inserted is one of the table; there is a column to select, and a change to make
 abbrev pub FitsWidth : ℕ → Statement → Type 0
 FitsWidth width (Insert t row) = IsRow width row
-FitsWidth width (Select t columns tests) = (0 < length columns) × FitColumns width columns × FitTests width tests
-FitsWidth width (Update t changes tests) = (0 < length changes) × FitChanges width changes × FitTests width tests
+FitsWidth width (Select t columns tests) =
+    (0 < length columns) × FitColumns width columns × FitTests width tests
+FitsWidth width (Update t changes tests) =
+    (0 < length changes) × FitChanges width changes × FitTests width tests
 FitsWidth width (Delete t tests) = FitTests width tests
 FitsWidth width (Expect n t tests) = FitTests width tests
 

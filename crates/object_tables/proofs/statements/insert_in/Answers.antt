@@ -1,4 +1,4 @@
-use Rattle.std.proofs.Common.{arith, ◌∙◌, sym}
+use Rattle.std.proofs.Common.{refl, arith, ◌∙◌, sym}
 use Rattle.object_tables.proofs.Places.{there}
 use Rattle.object_tables.proofs.Effects.{insert_refused, insert_done, insert_filed}
 use Rattle.object_tables.proofs.Whole.{whole_with}
@@ -6,9 +6,11 @@ use Rattle.object_tables.proofs.statements.insert_in.Goals as goal
 
 pub returns-then-has_row-clause-done : goal.returns-then-has_row-clause-done
 returns-then-has_row-clause-done c =
-    let i = there c.args.tables.now.items c.args.table c.index.result.now (omega arith) c.index.ensures in
-    insert_refused c.args.tables.now.items c.args.table c.args.row c.in_ok-key.key c.in_ok-key.ensures (rw i at c.has_row.ensures.ordered) c.requires.filed
-    (rw i at (sym c.has_row.ensures.is ∙ c.if-has_row.true))
+    let i = there c.args.tables.now.items c.args.table c.index.result.now (omega arith) c.index.ensures in (
+      insert_refused c.args.tables.now.items c.args.table c.args.row c.in_ok-key.key c.in_ok-key.ensures (rw i at c.has_row.ensures.ordered) c.requires.filed
+          (rw i at (sym c.has_row.ensures.is ∙ c.if-has_row.true)),
+      refl,
+    )
 
 pub returns-clause-done : goal.returns-clause-done
 returns-clause-done c =

@@ -1,4 +1,4 @@
-use Rattle.std.proofs.Common.{◌≡◌, ◌∙◌, ap, map}
+use Rattle.std.proofs.Common.{◌≡◌, ◌∙◌, ap, map, rules}
 use Rattle.object_tables.specs.Slots.{rows_of}
 use Rattle.object_tables.proofs.Keeping.{fit_empty}
 use Rattle.object_tables.proofs.Places.{empty_slots, one_more_empty, all_empty, filed_empty, whole_empty, rows_empty}
@@ -15,6 +15,7 @@ invariant_of-result c =
       fit = rw (all, rows_empty) (fit_empty c.in_ok-widths.widths.items);
       filed = rw all (filed_empty c.in_ok-widths.widths.items);
       whole = rw all (whole_empty c.in_ok-widths.widths.items);
+      journal = search rules;
     }
 
 pub returns-clause-rows : goal.returns-clause-rows

@@ -1,7 +1,7 @@
 use Rattle.std.proofs.Common.{◌∙◌}
 use Rattle.object_tables.proofs.Places.{rows_settled_at, filed_settled_at}
 use Rattle.object_tables.proofs.Whole.{noted_less, none_noted}
-use Rattle.object_tables.proofs.journal.settle.Goals as goal
+use Rattle.object_tables.proofs.journal.settle_all.Goals as goal
 
 pub loop-undo-preserved : goal.loop-undo-preserved
 loop-undo-preserved c = record {

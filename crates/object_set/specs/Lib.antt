@@ -1,3 +1,4 @@
 pub mod Applied
 pub mod ObjectSets
 pub mod ObjectSetView
+pub mod Stored

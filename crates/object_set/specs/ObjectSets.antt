@@ -1,10 +1,9 @@
 -- What a set of objects holds.
-use Rattle.std.specs.Prelude.{◌≡◌, ◌≤ℤ◌, ℕ, ℤ, pos, List, [], refl}
+use Rattle.std.specs.Prelude.{◌≡◌, ◌≤ℤ◌, ℤ, pos, [], refl}
 use Rattle.std.specs.Coded.{Coded, code_by, coded×, coded_ℤ}
 use Rattle.script_tree.specs.Fit.{AreTables, table_widths}
 use Rattle.script_tree.specs.Objects.{Objects, one, many, rows, reading, none}
 use Rattle.script_tree.specs.Programs.{Program}
-use Rattle.script_tree.specs.declared.operation.Object.{Object}
 use Rattle.script_tree.specs.declared.operation.Object.TheVariants.{Register, Store, Tables, Clock, Dice}
 use Rattle.object_cells.specs.Cells.{Held, held, coded_held, HoldsEntries}
 use Rattle.object_cells.specs.Stores.{HeldByName, held_in, coded_by_name, AreDeclared, AreEmpty, HoldEntries}

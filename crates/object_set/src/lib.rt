@@ -2,5 +2,7 @@
 #![tactic(auto)]
 
 pub mod set;
+#[cfg(test)]
+mod tests;
 
 pub use set::{ObjectSet, Refused};

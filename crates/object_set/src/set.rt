@@ -1,5 +1,7 @@
-ghost use Rattle.std.specs.Prelude.{◌≡◌, ◌≤ℤ◌, pos, true, IfOk, OnErr};
-ghost use Rattle.script_tree.specs.Fit.{Fit};
+ghost use Rattle.std.specs.Prelude.{◌≡◌, ◌≤ℤ◌, pos, true, is_some, IfOk, OnOk, OnErr};
+ghost use Rattle.std.specs.Option.{option_copied};
+ghost use Rattle.script_tree.specs.Datum.{IsWithinLimits};
+ghost use Rattle.script_tree.specs.Fit.{Fit, IsKey};
 ghost use Rattle.script_tree.specs.Objects.{is_nothing, is_reading, is_roll, reading, none};
 ghost use Rattle.script_tree.specs.Programs.{Program as AnyProgram, program_of};
 ghost use Rattle.script_tree.specs.declared.operation.Choice.{Choice as AnyChoice};
@@ -7,9 +9,13 @@ ghost use Rattle.script_tree.specs.declared.operation.Choice.TheVariants.{Number
 ghost use Rattle.script_tree.specs.declared.operation.Act.TheVariants.{Now, Roll};
 ghost use Rattle.script_tree.specs.declared.operation.Object.TheVariants.{Register as AnyRegister, Store as AnyStore, Tables as AllTables, Clock as TheClock, Dice as TheDice};
 ghost use Rattle.script_fit.specs.FitsOperation.{FitsRegister, FitsStore, FitsTables, FitsClock, FitsDice};
-ghost use Rattle.object_cells.specs.Stores.{has_store};
+ghost use Rattle.script_fit.specs.FitsTransaction.{FitsRow};
+ghost use Rattle.object_cells.specs.Cells.{held};
+ghost use Rattle.object_cells.specs.Stores.{has_store, held_in, store_of};
+ghost use Rattle.object_tables.specs.Outcomes.{answer_of};
 ghost use Rattle.object_set.specs.Applied.{FitsSet, Does, IsApplied, op_of, takes};
 ghost use Rattle.object_set.specs.ObjectSets.{IsSetOf, IsEmptySet, objects_of};
+ghost use Rattle.object_set.specs.Stored.{PutsRegister, PutsCell, InsertsRow};
 
 use basis::OrMemory;
 use object_cells::{Registers, Store, Stores};
@@ -17,7 +23,7 @@ use object_tables::tables::{Outcome, Tables};
 use script_tree::operation::{Act, Choice, Object, Op};
 use script_tree::syntax::declaration::Declaration;
 use script_tree::text::Text;
-use script_tree::value::Value;
+use script_tree::value::{Value, Values};
 use std::alloc::{AllocError, Global};
 use std::marker::Model;
 
@@ -65,11 +71,27 @@ impl ObjectSet {
         })
     }
 
+    /// Each object holds what it may, where the set is that of a program.
+    #[tactic(auto, using(crate::proofs::Kept::fit))]
+    pub fn fits(&self)
+        ensures { (program : AnyProgram) → IsSetOf program self.now →
+            Fit program (objects_of self.now) }
+    {
+        let _ = &self.clock;
+    }
+
     /// The registers.
     pub fn registers(&self) -> &Registers
         ensures { result.now ≡ self.now.registers }
     {
         &self.registers
+    }
+
+    /// The store of a name, where it is there.
+    pub fn store(&self, name: &Text) -> Option<&Store>
+        ensures { option_copied result ≡ store_of self.now.stores name.now }
+    {
+        self.stores.store(name)
     }
 
     /// The tables.
@@ -85,6 +107,46 @@ impl ObjectSet {
         ensures not_negative { pos 0 ≤ℤ result }
     {
         self.clock
+    }
+
+    /// Gives a register its value, and tells whether it had one.
+    pub fn put_register(&mut self, name: Text, value: Value) -> Result<bool, AllocError>
+        requires name_fits { IsKey name }
+        requires value_fits { IsWithinLimits value }
+        ensures had { IfOk result (λ had. had ≡ is_some (held self.old.registers name)) }
+        ensures put { OnOk result (PutsRegister name value self.old self.new) }
+        ensures err { OnErr result (self.new ≡ self.old) }
+    {
+        self.registers.put(name, value)
+    }
+
+    /// Gives a key of a store its value, and tells whether it had one.
+    pub fn put_cell(&mut self, store: &Text, key: Text, value: Value) -> Result<bool, AllocError>
+        requires there { has_store self.old.stores store.now ≡ true }
+        requires key_fits { IsKey key }
+        requires value_fits { IsWithinLimits value }
+        ensures had { IfOk result (λ had. had ≡ is_some (held_in self.old.stores store.now key)) }
+        ensures put { OnOk result (PutsCell store.now key value self.old self.new) }
+        ensures err { OnErr result (self.new ≡ self.old) }
+    {
+        self.stores.put(store, key, value)
+    }
+
+    /// Adds a row to a table; `false` where its key is there.
+    pub fn insert_row(&mut self, table: u32, row: Values) -> Result<bool, AllocError>
+        requires { FitsRow self.old.tables.widths table row }
+        ensures done { IfOk result (InsertsRow table row self.old self.new) }
+        ensures err { OnErr result (self.new ≡ self.old) }
+    {
+        self.tables.insert_row(table, row)
+    }
+
+    /// The clock read this last.
+    pub fn set_clock(&mut self, time: i64)
+        requires { pos 0 ≤ℤ time }
+        ensures { self.new ≡ record self.old { clock = time } }
+    {
+        self.clock = time;
     }
 
     /// Does an operation with its choice, and gives its answer. A choice that the object doesn't take
@@ -106,6 +168,7 @@ impl ObjectSet {
     }
 
     /// Whether the object takes the choice.
+    #[tactic(auto, unfolding(script_tree::specs::Objects::plausible))]
     pub fn takes(&self, op: &Op, choice: Choice) -> bool
         requires { FitsSet self.now op.now }
         ensures { result ≡ takes op.now choice self.now }
@@ -174,10 +237,8 @@ impl ObjectSet {
     {
         match act {
             Act::Transact(statements) => {
-                match self.tables.transact(self.alloc, statements)? {
-                    Outcome::Committed(answers) => Ok(Value::list(answers)),
-                    Outcome::Aborted(_) => Ok(Value::null()),
-                }
+                let outcome = self.tables.transact(self.alloc, statements)?;
+                Ok(answer_of(outcome))
             }
             Act::Read
             | Act::Write(_)
@@ -206,6 +267,7 @@ impl ObjectSet {
         }
     }
 
+    #[tactic(auto, using(crate::proofs::Acting::reads_clock), unfolding(script_tree::specs::Objects::plausible))]
     fn read_clock(&mut self, choice: Choice) -> Value
         requires { takes (op_of TheClock Now) choice self.old ≡ true }
         ensures { Does (op_of TheClock Now) choice self.old self.new result }
@@ -236,6 +298,7 @@ impl ObjectSet {
         }
     }
 
+    #[tactic(auto, using(crate::proofs::Acting::rolls), unfolding(script_tree::specs::Objects::plausible))]
     fn roll(&self, bound: i64, choice: Choice) -> Value
         requires { takes (op_of TheDice (Roll bound)) choice self.now ≡ true }
         ensures { Does (op_of TheDice (Roll bound)) choice self.now self.now result }
@@ -244,6 +307,30 @@ impl ObjectSet {
             Choice::Number(number) => Value::number(number),
             Choice::Nothing => unreachable!(),
         }
+    }
+}
+
+/// The answer of a transaction: those of its statements, or null where one aborted.
+fn answer_of(outcome: Outcome) -> Value
+    ensures { result ≡ answer_of outcome }
+{
+    match outcome {
+        Outcome::Committed(answers) => Value::list(answers),
+        Outcome::Aborted(_) => Value::null(),
+    }
+}
+
+impl Clone for ObjectSet {
+    ghost is_clone = { λ objects copy. copy ≡ objects };
+
+    fn clone(&self) -> Result<ObjectSet, AllocError> {
+        Ok(ObjectSet {
+            alloc: self.alloc,
+            registers: self.registers.clone()?,
+            stores: self.stores.clone()?,
+            tables: self.tables.clone()?,
+            clock: self.clock,
+        })
     }
 }
 

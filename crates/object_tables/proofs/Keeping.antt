@@ -83,7 +83,7 @@ tables_each widths seen ts t n w h l e =
 pub place_of : (widths : List ℕ) (t : ℕ) (row : Row) → FitsRow widths t row → t < length widths
 place_of widths t row f = nth_within widths t f.0 f.1
 
-row_inserted : (widths : List ℕ) (t : ℕ) (row : Row) (old new : List Table) → FitsRow widths t row → AreTables widths old → with_row_at t row old ≡ Some new → AreTables widths new
+pub row_inserted : (widths : List ℕ) (t : ℕ) (row : Row) (old new : List Table) → FitsRow widths t row → AreTables widths old → with_row_at t row old ≡ Some new → AreTables widths new
 row_inserted widths t row old new f h e = by (with_row row (table_at t old)) refl
   where
     by : (o : Option Table) → with_row row (table_at t old) ≡ o → AreTables widths new

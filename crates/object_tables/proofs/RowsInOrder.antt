@@ -1,16 +1,15 @@
 -- What statements keep of a table: its rows fit its width, in the order of their keys.
-use Rattle.std.proofs.Common.{◌≡◌, ◌<◌, ℕ, zero, suc, List, [], ◌∷◌, Option, Some, None, Bool, true, false, not, if◌then◌else◌, length, map, filter, refl, sym, ap, ◌∙◌, subst, arith}
-use Rattle.std.specs.Ordering.{is_eq, is_lt, ordering_reverse}
-use Rattle.std.specs.Option.{option_map}
+use Rattle.std.proofs.Common.{◌≡◌, ◌<◌, ℕ, zero, suc, List, [], ◌∷◌, Option, Some, None, Bool, true, false, if◌then◌else◌, map, filter, refl, sym, ap, ◌∙◌, subst, arith}
+use Rattle.std.specs.Ordering.{ordering_reverse}
 use Rattle.std.specs.declared.cmp.Ordering.{Ordering}
 use Rattle.std.specs.declared.cmp.Ordering.TheVariants.{Less, Equal, Greater}
-use Rattle.basis.specs.Lists.{nth, nth_or, with_nth}
+use Rattle.basis.specs.Lists.{nth, with_nth}
 use Rattle.basis.proofs.Options.{some_is, none_is_not}
-use Rattle.script_tree.specs.Datum.{Datum, null, IsWithinLimits}
+use Rattle.script_tree.specs.Datum.{Datum, IsWithinLimits}
 use Rattle.script_tree.specs.Order.{compare}
 use Rattle.script_tree.specs.OrderLaws.{compare_total}
 use Rattle.script_tree.specs.Fit.{IsRow, IsTable}
-use Rattle.script_tree.specs.Transactions.{Row, Table, key, meets, with_row, changed_row, updated_rows, other_rows}
+use Rattle.script_tree.specs.Transactions.{Row, Table, key, meets, with_row, changed_row, updated_rows}
 use Rattle.script_tree.specs.declared.transaction.Test.{Test}
 use Rattle.script_tree.specs.declared.transaction.Change.{Change}
 use Rattle.object_tables.specs.Fits.{FitChanges}

@@ -153,6 +153,10 @@ fn is_added(alloc: Global, tables: &mut Tables, key: &[u8]) -> Result<bool, Fail
     Ok(tables.insert_row(0, row)?)
 }
 
+fn has_rows(tables: &Tables) -> bool {
+    !tables.widths().is_empty() && tables.rows(0).next().is_some()
+}
+
 #[test]
 fn statements_answer_in_turn(rt: HostRuntime) -> Result<(), Fail> {
     let alloc = rt.alloc();
@@ -218,8 +222,8 @@ fn rows_are_added_and_read(rt: HostRuntime) -> Result<(), Fail> {
     let copy = tables.clone()?;
     let gone = steps(alloc, delete(all(alloc)), None)?;
     answers(alloc, &mut tables, gone)?;
-    assert!(rt; tables.rows(0).next().is_none());
-    assert!(rt; copy.rows(0).count() == 2);
+    assert!(rt; !has_rows(&tables));
+    assert!(rt; has_rows(&copy));
     Ok(())
 }
 

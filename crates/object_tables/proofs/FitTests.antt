@@ -1,8 +1,7 @@
 -- Tests of what fits are exact.
-use Rattle.std.proofs.Common.{◌≡◌, ◌<◌, ℕ, zero, suc, List, [], ◌∷◌, Option, Some, None, length, refl, sym, ap, subst, get_or, arith}
+use Rattle.std.proofs.Common.{◌≡◌, ℕ, zero, suc, List, [], ◌∷◌, Some, length, refl, subst}
 use Rattle.basis.specs.Lists.{nth}
 use Rattle.basis.proofs.Options.{some_is, none_is_not}
-use Rattle.basis.proofs.Places.{nth-get_or}
 use Rattle.script_tree.specs.Datum.{Datum, IsWithinLimits}
 use Rattle.script_tree.specs.Fit.{IsRow, IsRowKey}
 use Rattle.script_tree.specs.Transactions.{Row, key}

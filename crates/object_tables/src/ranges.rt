@@ -27,7 +27,7 @@ fn key_text(test: &Test) -> Option<&Text>
     let value = &test.value;
     match &value.node {
         Node::Text(text) => Some(text.as_ref()),
-        _ => None,
+        Node::Null | Node::Bool(_) | Node::Number(_) | Node::List(_) => None,
     }
 }
 
@@ -40,7 +40,7 @@ fn lower_of(test: &Test) -> Bound<&Text>
             Comparison::Equal => Bound::Included(text),
             Comparison::AtLeast => Bound::Included(text),
             Comparison::Greater => Bound::Excluded(text),
-            _ => Bound::Unbounded,
+            Comparison::Unequal | Comparison::Less | Comparison::AtMost => Bound::Unbounded,
         },
         None => Bound::Unbounded,
     }
@@ -55,7 +55,7 @@ fn upper_of(test: &Test) -> Bound<&Text>
             Comparison::Equal => Bound::Included(text),
             Comparison::AtMost => Bound::Included(text),
             Comparison::Less => Bound::Excluded(text),
-            _ => Bound::Unbounded,
+            Comparison::Unequal | Comparison::Greater | Comparison::AtLeast => Bound::Unbounded,
         },
         None => Bound::Unbounded,
     }
@@ -96,7 +96,7 @@ fn has_room(from: Bound<&Text>, to: Bound<&Text>) -> bool
         (Bound::Included(a), Bound::Excluded(b)) => a.cmp(b) == Ordering::Less,
         (Bound::Excluded(a), Bound::Included(b)) => a.cmp(b) == Ordering::Less,
         (Bound::Excluded(a), Bound::Excluded(b)) => a.cmp(b) == Ordering::Less,
-        _ => true,
+        (Bound::Unbounded, _) | (_, Bound::Unbounded) => true,
     }
 }
 

@@ -29,7 +29,7 @@ impl<'a> Model for Rows<'a> {
 }
 
 impl<'a> Rows<'a> {
-    pub fn new(slots: Iter<'a, Text, Slot>) -> Rows<'a>
+    pub(crate) fn new(slots: Iter<'a, Text, Slot>) -> Rows<'a>
         ensures { result ≡ rows_of slots.entry }
     {
         Rows { slots }

@@ -23,7 +23,7 @@ fn key_of(row: &Values) -> Result<Text, AllocError>
 {
     match row.as_slice().first() {
         Some(value) => text_of(value),
-        None => Err(AllocError),
+        None => unreachable!(),
     }
 }
 
@@ -33,8 +33,8 @@ fn text_of(value: &Value) -> Result<Text, AllocError>
     ensures { IfOk result (λ bytes. value.now ≡ text bytes) }
 {
     match &value.node {
-        Node::Text(text) => Text::from_shared(text.clone()?),
-        _ => Err(AllocError),
+        Node::Text(text) => text.as_ref().clone(),
+        Node::Null | Node::Bool(_) | Node::Number(_) | Node::List(_) => unreachable!(),
     }
 }
 
@@ -117,9 +117,9 @@ pub fn update(
     ensures len { vec_len storage.new.tables ≡ vec_len storage.old.tables }
 {
     let puts = storage.tables[table].changed_rows(alloc, changes, tests)?;
-    let n = count_of(&puts);
+    let changed = count_of(&puts);
     replace_all(storage, table, puts)?;
-    Ok(n)
+    Ok(changed)
 }
 
 /// Takes the rows out that pass all tests, and says how many.
@@ -138,9 +138,9 @@ pub fn delete(
     ensures len { vec_len storage.new.tables ≡ vec_len storage.old.tables }
 {
     let puts = storage.tables[table].taken_rows(alloc, tests)?;
-    let n = count_of(&puts);
+    let removed = count_of(&puts);
     replace_all(storage, table, puts)?;
-    Ok(n)
+    Ok(removed)
 }
 
 /// Columns of the rows that pass all tests, as a list of lists.

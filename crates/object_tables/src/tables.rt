@@ -21,7 +21,8 @@ use script_tree::value::{Value, Values};
 use std::alloc::{AllocError, Global};
 use std::marker::Model;
 
-/// What a transaction came to: the answers of its statements, or the place of the one that aborted.
+/// What a transaction came to: the answers of its statements, or the place of the first one that
+/// aborted.
 #[derive(Drop)]
 pub enum Outcome {
     Committed(Values),
@@ -72,7 +73,7 @@ fn run_all(
     Ok(Outcome::Committed(Values::from_vec(answers)?))
 }
 
-/// Runs a transaction. After one that aborts, and after want of memory, the tables are as before.
+/// Runs a transaction. Where a statement aborts, or memory is wanted, the tables stay as before.
 fn transact_on(
     alloc: Global,
     storage: &mut Storage,
@@ -139,7 +140,7 @@ impl Tables {
         fits_transaction(self.widths.as_slice(), statements.as_slice())
     }
 
-    /// Whether it is a row of the table at a number.
+    /// Whether it is a row of the table with this number, as `insert_row` wants it.
     pub fn fits_row(&self, table: u32, row: &[Value]) -> bool
         ensures { IsTrue result ↔ FitsRow self.now.widths table row.now }
     {
@@ -154,7 +155,7 @@ impl Tables {
         self.storage.tables[table as usize].rows()
     }
 
-    /// Adds a row to a table; `false` where its key is there.
+    /// Adds a row to a table, outside any transaction; `false` where its key is there.
     pub fn insert_row(&mut self, table: u32, row: Values) -> Result<bool, AllocError>
         requires { FitsRow self.old.widths table row }
         ensures done { IfOk result (IsInserted table row self.old.tables self.new.tables) }
@@ -164,7 +165,7 @@ impl Tables {
         insert_in(&mut self.storage.tables, table as usize, row)
     }
 
-    /// Runs a transaction. After one that aborts, and after want of memory, the tables are as before.
+    /// Runs a transaction. Where a statement aborts, or memory is wanted, the tables stay as before.
     #[tactic(auto, using(crate::proofs::Runs::answered))]
     pub fn transact(
         &mut self,

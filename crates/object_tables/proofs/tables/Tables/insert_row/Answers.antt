@@ -1,4 +1,4 @@
-use Rattle.std.proofs.Common.{◌≡◌, ◌<◌, ◌∙◌, ap, vec_len, length, sym, arith}
+use Rattle.std.proofs.Common.{◌≡◌, ap, vec_len, arith}
 use Rattle.object_tables.specs.TableSets.{TableSet}
 use Rattle.script_fit.specs.FitsTransaction.{FitsRow}
 use Rattle.object_tables.proofs.Keeping.{tables_each, row_kept, place_of}

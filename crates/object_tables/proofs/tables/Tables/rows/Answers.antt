@@ -1,4 +1,4 @@
-use Rattle.std.proofs.Common.{◌≡◌, ◌<◌, ◌∙◌, ap, vec_len, length, sym, refl, arith}
+use Rattle.std.proofs.Common.{◌<◌, ◌∙◌, ap, vec_len, length, sym, refl, arith}
 use Rattle.script_tree.specs.Transactions.{table_at}
 use Rattle.object_tables.specs.TableSets.{TableSet}
 use Rattle.object_tables.proofs.Keeping.{tables_each}

@@ -1,4 +1,4 @@
-use Rattle.std.proofs.Common.{◌≡◌, ap, sym, vec_len, length, arith}
+use Rattle.std.proofs.Common.{◌≡◌, ap, vec_len, length, arith}
 use Rattle.object_tables.specs.TableSets.{TableSet}
 use Rattle.script_fit.specs.FitsTransaction.{FitsTransaction}
 use Rattle.object_tables.proofs.Keeping.{can_run, result_kept}

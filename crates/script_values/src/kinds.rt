@@ -1,4 +1,4 @@
-ghost use Rattle.std.specs.Prelude.{◌≡◌};
+ghost use Rattle.std.specs.Prelude.{◌≡◌, MatchOption};
 ghost use Rattle.basis.specs.UnlessMemory.{Answers};
 ghost use Rattle.script_meaning.specs.Kinds.{bool_in, number_in, text_in, list_in};
 
@@ -43,9 +43,22 @@ pub fn text_in(value: &Value) -> Result<&Arc<Text>, Faulted>
 pub fn list_in(value: &Value) -> Result<&Values, Faulted>
     ensures { Answers (λ values. values.now) (list_in value.now) result }
 {
+    match as_list(value) {
+        Some(values) => Ok(values),
+        None => wrong_kind(),
+    }
+}
+
+/// The list that a value is, where it is one.
+pub fn as_list(value: &Value) -> Option<&Values>
+    ensures {
+        MatchOption result (list_in value.now ≡ Err ScriptFault.WrongKind)
+            (λ values. list_in value.now ≡ Ok values.now)
+    }
+{
     match &value.node {
-        Node::List(values) => Ok(values),
-        Node::Null | Node::Bool(_) | Node::Number(_) | Node::Text(_) => wrong_kind(),
+        Node::List(values) => Some(values),
+        Node::Null | Node::Bool(_) | Node::Number(_) | Node::Text(_) => None,
     }
 }
 

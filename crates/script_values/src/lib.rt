@@ -17,7 +17,7 @@ mod transactions;
 
 pub use builtins::{Called, call_of};
 pub use faults::Faulted;
-pub use kinds::{bool_in, list_in};
+pub use kinds::{as_list, bool_in};
 pub use lists::listed;
 pub use operations::status_in;
 pub use operators::{binary, indexed, unary};

@@ -1,0 +1,6 @@
+mod Assigned
+mod Blocks
+mod Endings
+mod Enters
+mod Lighter
+mod Parts

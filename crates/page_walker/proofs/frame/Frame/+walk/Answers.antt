@@ -1,0 +1,174 @@
+use Rattle.std.proofs.Common.{◌≡◌, ap, sym, refl, ◌∙◌, subst, map, arith}
+use Rattle.std.proofs.lemmas.Result.{err_from_is_err_and}
+use Rattle.script_tree.specs.Declarations.{callee_in}
+use Rattle.script_tree.specs.ExpressionView.{condition_of, assignment_of}
+use Rattle.script_tree.specs.ExpressionWeight.{query_list_weight, condition_list_weight, assignment_list_weight}
+use Rattle.script_tree.specs.Programs.{program_of}
+use Rattle.script_tree.specs.SyntaxLists.{statements_of}
+use Rattle.script_meaning.specs.Evaluate.{on, back}
+use Rattle.script_meaning.specs.Run.{goes}
+use Rattle.page_walker.specs.Flows.{flow_of}
+use Rattle.page_walker.specs.Found.{function_of}
+use Rattle.page_walker.specs.Frames.{call_at}
+use Rattle.page_walker.specs.Gives.{GivesValue}
+use Rattle.page_walker.specs.Nodes.{block_nodes}
+use Rattle.page_walker.proofs.Blocks.{while_turn, while_out}
+use Rattle.page_walker.proofs.Enters.{fewer, one_less, none_left, inside, inside_stops}
+use Rattle.page_walker.proofs.Lighter.{operand_lighter, query_lighter, condition_lighter, assignment_lighter, statement_lighter}
+use Rattle.page_walker.proofs.frame.Frame.+walk.Goals as goal
+
+pub eval_node-returns-in-Call : goal.eval_node-returns-in-Call
+eval_node-returns-in-Call t c = rw c.in-Call.is (c.eval_call.ensures c.args.at)
+
+pub eval_node-returns-in-List : goal.eval_node-returns-in-List
+eval_node-returns-in-List t c = rw c.in-List.is (c.eval_list.ensures c.args.at)
+
+pub eval_node-returns-in-Transact : goal.eval_node-returns-in-Transact
+eval_node-returns-in-Transact t c = rw c.in-Transact.is (c.eval_transact.ensures c.args.at)
+
+pub eval_node-returns-in-Unary : goal.eval_node-returns-in-Unary
+eval_node-returns-in-Unary t c = rw (c.in-Unary.is, ← c.deref-in-Unary.ensures) (c.eval_unary.ensures c.args.at)
+
+pub eval_node-returns-in-Binary : goal.eval_node-returns-in-Binary
+eval_node-returns-in-Binary t c = rw (c.in-Binary.is, ← c.deref-in-Binary.ensures, ← c.deref-in-Binary-2.ensures) (c.eval_binary.ensures c.args.at)
+
+pub eval_node-returns-in-And : goal.eval_node-returns-in-And
+eval_node-returns-in-And t c = rw (c.in-And.is, ← c.deref-in-And.ensures, ← c.deref-in-And-2.ensures) (c.eval_and.ensures c.args.at)
+
+pub eval_node-returns-in-Or : goal.eval_node-returns-in-Or
+eval_node-returns-in-Or t c = rw (c.in-Or.is, ← c.deref-in-Or.ensures, ← c.deref-in-Or-2.ensures) (c.eval_or.ensures c.args.at)
+
+pub eval_node-returns-in-Index : goal.eval_node-returns-in-Index
+eval_node-returns-in-Index t c = rw (c.in-Index.is, ← c.deref-in-Index.ensures, ← c.deref-in-Index-2.ensures) (c.eval_index.ensures c.args.at)
+
+pub exec_node-returns-in-Let : goal.exec_node-returns-in-Let
+exec_node-returns-in-Let t c = rw c.in-Let.is (c.exec_let.ensures c.args.at)
+
+pub exec_node-returns-in-Set : goal.exec_node-returns-in-Set
+exec_node-returns-in-Set t c = rw c.in-Set.is (c.exec_set.ensures c.args.at)
+
+pub exec_node-returns-in-If : goal.exec_node-returns-in-If
+exec_node-returns-in-If t c = rw c.in-If.is (c.exec_if.ensures c.args.at)
+
+pub exec_node-returns-in-While : goal.exec_node-returns-in-While
+exec_node-returns-in-While t c = rw c.in-While.is (c.exec_while.ensures c.args.at)
+
+pub exec_node-returns-in-For : goal.exec_node-returns-in-For
+exec_node-returns-in-For t c = rw c.in-For.is (c.exec_for.ensures c.args.at)
+
+pub exec_node-returns-in-Echo : goal.exec_node-returns-in-Echo
+exec_node-returns-in-Echo t c = rw c.in-Echo.is (c.exec_echo.ensures c.args.at)
+
+pub exec_node-returns-in-Status : goal.exec_node-returns-in-Status
+exec_node-returns-in-Status t c = rw c.in-Status.is (c.exec_status.ensures c.args.at)
+
+pub exec_node-returns-in-Return : goal.exec_node-returns-in-Return
+exec_node-returns-in-Return t c = rw c.in-Return.is (c.exec_return.ensures c.args.at)
+
+pub exec_node-returns-in-Do : goal.exec_node-returns-in-Do
+exec_node-returns-in-Do t c = rw c.in-Do.is (c.exec_do.ensures c.args.at)
+
+pub all_operands-operands-requires : goal.all_operands-operands-requires
+all_operands-operands-requires t c =
+    let items = c.as_slice-query-items.result.now in
+    let lighter = query_lighter items c.loop-query.query-index c.query-item.result c.loop-query-test.true c.query-item.is in
+    let same : query_list_weight items ≡ query_list_weight c.args.queries.now = ap query_list_weight c.as_slice-query-items.ensures in
+    omega (arith, lighter, same, c.decreases)
+
+pub block-exec-requires : goal.block-exec-requires
+block-exec-requires t c =
+    let items = c.as_slice-statement-items.result.now in
+    let lighter = statement_lighter items c.loop-statement.statement-index c.statement-item.result c.loop-statement-test.true c.statement-item.is in
+    let same : block_nodes items ≡ block_nodes c.args.body.now = ap block_nodes c.as_slice-statement-items.ensures in
+    omega (arith, lighter, same, c.decreases)
+
+pub changes-eval-requires : goal.changes-eval-requires
+changes-eval-requires t c =
+    let items = c.as_slice-assignment-items.result.now in
+    let lighter = assignment_lighter items c.loop-assignment.assignment-index c.assignment-item.result c.loop-assignment-test.true c.assignment-item.is in
+    let same : assignment_list_weight (map assignment_of items) ≡ assignment_list_weight (map assignment_of c.args.assignments.now) = ap (λ as'. assignment_list_weight (map assignment_of as')) c.as_slice-assignment-items.ensures in
+    omega (arith, lighter, same, c.decreases)
+
+pub tests-eval-requires : goal.tests-eval-requires
+tests-eval-requires t c =
+    let items = c.as_slice-condition-items.result.now in
+    let lighter = condition_lighter items c.loop-condition.condition-index c.condition-item.result c.loop-condition-test.true c.condition-item.is in
+    let same : condition_list_weight (map condition_of items) ≡ condition_list_weight (map condition_of c.args.conditions.now) = ap (λ cs. condition_list_weight (map condition_of cs)) c.as_slice-condition-items.ensures in
+    omega (arith, lighter, same, c.decreases)
+
+pub eval_all-eval-requires : goal.eval_all-eval-requires
+eval_all-eval-requires t c =
+    let items = c.args.operands.now in
+    let lighter = operand_lighter items c.loop-operand.operand-index c.operand-item.result c.loop-operand-test.true c.operand-item.is in
+    omega (arith, lighter, c.decreases)
+
+pub enter-returns-then-self-eq0 : goal.enter-returns-then-self-eq0
+enter-returns-then-self-eq0 t c =
+    rw c.fault-then-self-eq0.ensures
+    (none_left c.args.self.now.walker.now c.args.self.now.depth (function_of c.args.function) c.args.values.items c.args.run.now c.if-self-eq-MOST_CALL_DEPTH.false c.args.self.now.fuel c.if-self-eq0.true)
+
+pub enter-block-requires : goal.enter-block-requires
+enter-block-requires t c =
+    (omega (arith, one_less c.args.self.now.walker.now.program c.args.self.now.fuel (block_nodes c.args.function.body.now) c.if-self-eq0.false c.requires, c.decreases), tt)
+
+pub enter-returns-in_err-block : goal.enter-returns-in_err-block
+enter-returns-in_err-block t c =
+    let q = err_from_is_err_and c.from_residual-in_err-block.result c.from_residual-in_err-block.ensures.1 in
+    rw (q.1, q.2)
+    (inside_stops c.args.self.now.walker.now c.args.self.now.depth (function_of c.args.function) c.args.values.items c.args.run.now c.if-self-eq-MOST_CALL_DEPTH.false c.args.self.now.fuel
+    c.in_ok-variables.variables c.in_err-block.field-0.0 c.block.new.run _ c.if-self-eq0.false c.in_ok-variables.ensures refl c.in_err-block.ensures)
+
+pub enter-returns-in-On : goal.enter-returns-in-On
+enter-returns-in-On t c =
+    inside c.args.self.now.walker.now c.args.self.now.depth (function_of c.args.function) c.args.values.items c.args.run.now c.if-self-eq-MOST_CALL_DEPTH.false c.args.self.now.fuel
+    c.in_ok-variables.variables (goes (on c.block.new.variables) c.block.new.run) c.if-self-eq0.false c.in_ok-variables.ensures
+    (c.in_ok-block.ensures ∙ ap (λ f. goes (flow_of c.block.new.variables f) c.block.new.run) c.in-On.is)
+    ∙ ap (λ v. goes v c.block.new.run) (sym c.null.ensures)
+
+pub enter-returns : goal.enter-returns
+enter-returns t c =
+    inside c.args.self.now.walker.now c.args.self.now.depth (function_of c.args.function) c.args.values.items c.args.run.now c.if-self-eq-MOST_CALL_DEPTH.false c.args.self.now.fuel
+    c.in_ok-variables.variables (goes (back c.in-Back.value) c.block.new.run) c.if-self-eq0.false c.in_ok-variables.ensures
+    (c.in_ok-block.ensures ∙ ap (λ f. goes (flow_of c.block.new.variables f) c.block.new.run) c.in-Back.is)
+
+pub exec_while-eval-requires : goal.exec_while-eval-requires
+exec_while-eval-requires t c =
+    (omega (arith, fewer c.args.self.now.walker.now.program c.loop-value.left c.args.self.now.fuel c.loop-value.invariant.within, c.decreases), tt)
+
+pub exec_while-scoped-requires : goal.exec_while-scoped-requires
+exec_while-scoped-requires t c =
+    (omega (arith, fewer c.args.self.now.walker.now.program c.loop-value.left c.args.self.now.fuel c.loop-value.invariant.within, c.decreases), tt)
+
+pub exec_while-loop-value-preserved : goal.exec_while-loop-value-preserved
+exec_while-loop-value-preserved t c = record {
+  within = omega (arith, c.loop-value.invariant.within);
+  told = λ at.
+      sym (while_turn c.args.self.now.walker.now c.loop-value.left c.args.self.now.depth at c.args.e.now (statements_of c.args.body.now)
+      c.loop-value.variables c.scoped.new.variables c.loop-value.run c.eval.new.run c.decide.new.self c.scoped.new.run c.in_ok-value.value (omega arith)
+      c.in_ok-value.ensures
+      (c.in_ok-decide.ensures ∙ ap (λ b. goes b c.decide.new.self) c.if-not-branch.false)
+      (c.in_ok-scoped.ensures ∙ ap (λ f. goes (flow_of c.scoped.new.variables f) c.scoped.new.run) c.in-On.is))
+      ∙ c.loop-value.invariant.told at;
+}
+
+pub exec_while-returns-then-left-eq0 : goal.exec_while-returns-then-left-eq0
+exec_while-returns-then-left-eq0 t c =
+    λ at.
+    rw c.fault.ensures
+    (sym (c.loop-value.invariant.told at)
+        ∙ while_out c.args.self.now.walker.now c.loop-value.left c.args.self.now.depth at c.args.e.now (statements_of c.args.body.now)
+        c.loop-value.variables c.scoped.new.variables c.loop-value.run c.eval.new.run c.decide.new.self c.scoped.new.run c.in_ok-value.value c.if-left-eq0.true
+        c.in_ok-value.ensures
+        (c.in_ok-decide.ensures ∙ ap (λ b. goes b c.decide.new.self) c.if-not-branch.false)
+        (c.in_ok-scoped.ensures ∙ ap (λ f. goes (flow_of c.scoped.new.variables f) c.scoped.new.run) c.in-On.is))
+
+pub exec_for-returns-in-Some : goal.exec_for-returns-in-Some
+exec_for-returns-in-Some t c = λ at. rw (c.in_ok-whole.ensures, c.in-Some.ensures, ← c.as_slice.ensures) (c.turns.ensures c.in_ok-whole.whole)
+
+pub eval_call-returns-in-Builtin : goal.eval_call-returns-in-Builtin
+eval_call-returns-in-Builtin t c =
+    let p = c.args.run.now in
+    let f = c.args.self.now in
+    let name = c.args.name.now in
+    let same = c.in-Builtin.ensures.callee ∙ ap (λ ds. callee_in (program_of ds) name) c.declarations.ensures.declarations in
+    λ at. subst (λ callee. GivesValue c.call_builtin.result c.call_builtin.new.run (call_at f c.args.variables.now callee c.args.operands.now p)) same c.call_builtin.ensures

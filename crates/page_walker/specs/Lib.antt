@@ -1,0 +1,10 @@
+pub mod Flows
+pub mod Found
+pub mod Frames
+pub mod Gives
+pub mod Nodes
+pub mod RunView
+pub mod Statuses
+pub mod VariablesView
+pub mod WalkerSteps
+pub mod WalkerView

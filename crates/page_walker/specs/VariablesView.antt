@@ -1,0 +1,6 @@
+-- The variables that the code keeps.
+use Rattle.script_meaning.specs.Variables.{Variables}
+use Rattle.page_walker.specs.declared.variables.Variables.TheInside.{Inside}
+
+abbrev pub variables_of : Inside → Variables
+variables_of vs = vs.variables.items

@@ -1,0 +1,359 @@
+ghost use Rattle.std.specs.Prelude.{◌≡◌, ℕ, Bool};
+ghost use Rattle.script_tree.specs.Declarations.{own, built, unknown};
+ghost use Rattle.script_tree.specs.ExpressionView.{expression_of};
+ghost use Rattle.script_tree.specs.Syntax.{unary, binary, and_, or_, index as indexed, call};
+ghost use Rattle.script_tree.specs.Syntax.{list as listed, transact, expression, Expressions as Several};
+ghost use Rattle.script_tree.specs.SyntaxLists.{expressions_of, queries_of};
+ghost use Rattle.script_meaning.specs.Evaluate.{store_name};
+ghost use Rattle.page_walker.specs.Found.{function_of, IsInProgram};
+ghost use Rattle.page_walker.specs.Frames.{value_at, values_at, arguments_at, call_at, entered_at};
+ghost use Rattle.page_walker.specs.Gives.{Gives, GivesValue};
+
+use crate::declared::{Callee, FoundFunction, callee_named};
+use crate::frame::{Flow, Frame};
+use crate::run::{Run, Stopped};
+use crate::variables::Variables;
+use script_tree::fault::ScriptFault;
+use script_tree::limits::MOST_CALL_DEPTH;
+use script_tree::syntax::builtin::Builtin;
+use script_tree::syntax::expression::{Expression, ExpressionNode, Expressions, Queries};
+use script_tree::syntax::operator::{BinaryOperator, UnaryOperator};
+use script_tree::text::Text;
+use script_tree::value::Value;
+
+impl Frame<'_> {
+    /// The value of an expression.
+    #[cycle(walk)]
+    pub fn eval(
+        &self,
+        variables: &Variables,
+        run: &mut Run,
+        e: &Expression,
+    ) -> Result<Value, Stopped>
+        ensures { GivesValue result run.new (value_at self.now variables.now e.now run.old) }
+    {
+        self.eval_node(variables, run, e.at, &e.node)
+    }
+
+    #[cycle(walk)]
+    fn eval_node(
+        &self,
+        variables: &Variables,
+        run: &mut Run,
+        at: usize,
+        node: &ExpressionNode,
+    ) -> Result<Value, Stopped>
+        ensures { GivesValue result run.new
+            (value_at self.now variables.now (expression_of at node.now) run.old) }
+    {
+        match node {
+            ExpressionNode::Number(n) => run.seen(Value::number(*n)),
+            ExpressionNode::Text(text) => run.seen(Value::shared_text(text.clone()?)),
+            ExpressionNode::Bool(b) => run.seen(Value::bool(*b)),
+            ExpressionNode::Null => run.seen(Value::null()),
+            ExpressionNode::Bracket(e) => self.eval(variables, run, e),
+            ExpressionNode::Variable(name) => run.seen(variables.value(name)?),
+            ExpressionNode::Call(name, operands) => self.eval_call(variables, run, name, operands),
+            ExpressionNode::List(members) => self.eval_list(variables, run, members),
+            ExpressionNode::Transact(queries) => self.eval_transact(variables, run, queries),
+            ExpressionNode::Unary(operator, e) => self.eval_unary(variables, run, *operator, e),
+            ExpressionNode::Binary(operator, a, b) => {
+                self.eval_binary(variables, run, *operator, a, b)
+            }
+            ExpressionNode::And(a, b) => self.eval_and(variables, run, a, b),
+            ExpressionNode::Or(a, b) => self.eval_or(variables, run, a, b),
+            ExpressionNode::Index(whole, place) => self.eval_index(variables, run, whole, place),
+        }
+    }
+
+    #[cycle(walk)]
+    fn eval_unary(
+        &self,
+        variables: &Variables,
+        run: &mut Run,
+        operator: UnaryOperator,
+        e: &Expression,
+    ) -> Result<Value, Stopped>
+        ensures { (at : ℕ) → GivesValue result run.new
+            (value_at self.now variables.now (unary at operator e.now) run.old) }
+    {
+        let operand = self.eval(variables, run, e)?;
+        run.node(script_values::unary(operator, &operand))
+    }
+
+    #[cycle(walk)]
+    fn eval_binary(
+        &self,
+        variables: &Variables,
+        run: &mut Run,
+        operator: BinaryOperator,
+        a: &Expression,
+        b: &Expression,
+    ) -> Result<Value, Stopped>
+        ensures { (at : ℕ) → GivesValue result run.new
+            (value_at self.now variables.now (binary at operator a.now b.now) run.old) }
+    {
+        let left = self.eval(variables, run, a)?;
+        let right = self.eval(variables, run, b)?;
+        run.node(script_values::binary(self.alloc, operator, &left, &right))
+    }
+
+    #[cycle(walk)]
+    fn eval_and(
+        &self,
+        variables: &Variables,
+        run: &mut Run,
+        a: &Expression,
+        b: &Expression,
+    ) -> Result<Value, Stopped>
+        ensures { (at : ℕ) → GivesValue result run.new
+            (value_at self.now variables.now (and_ at a.now b.now) run.old) }
+    {
+        let left = self.eval(variables, run, a)?;
+        if run.decide(&left)? {
+            self.eval(variables, run, b)
+        } else {
+            Ok(left)
+        }
+    }
+
+    #[cycle(walk)]
+    fn eval_or(
+        &self,
+        variables: &Variables,
+        run: &mut Run,
+        a: &Expression,
+        b: &Expression,
+    ) -> Result<Value, Stopped>
+        ensures { (at : ℕ) → GivesValue result run.new
+            (value_at self.now variables.now (or_ at a.now b.now) run.old) }
+    {
+        let left = self.eval(variables, run, a)?;
+        if run.decide(&left)? {
+            Ok(left)
+        } else {
+            self.eval(variables, run, b)
+        }
+    }
+
+    #[cycle(walk)]
+    fn eval_index(
+        &self,
+        variables: &Variables,
+        run: &mut Run,
+        a: &Expression,
+        b: &Expression,
+    ) -> Result<Value, Stopped>
+        ensures { (at : ℕ) → GivesValue result run.new
+            (value_at self.now variables.now (indexed at a.now b.now) run.old) }
+    {
+        let whole = self.eval(variables, run, a)?;
+        let place = self.eval(variables, run, b)?;
+        run.node(script_values::indexed(self.alloc, &whole, &place))
+    }
+
+    #[cycle(walk)]
+    fn eval_list(
+        &self,
+        variables: &Variables,
+        run: &mut Run,
+        members: &Expressions,
+    ) -> Result<Value, Stopped>
+        ensures { (at : ℕ) → GivesValue result run.new
+            (value_at self.now variables.now (listed at (expressions_of members.now)) run.old) }
+    {
+        let values = self.eval_all(variables, run, members.as_slice())?;
+        run.node(script_values::listed(values))
+    }
+
+    #[cycle(walk)]
+    fn eval_transact(
+        &self,
+        variables: &Variables,
+        run: &mut Run,
+        queries: &Queries,
+    ) -> Result<Value, Stopped>
+        ensures { (at : ℕ) → GivesValue result run.new
+            (value_at self.now variables.now (transact at (queries_of queries.now)) run.old) }
+    {
+        let statements = self.all_operands(variables, run, queries)?;
+        run.charge()?;
+        run.issue_unless_fault(script_values::transact_op(self.alloc, statements))
+    }
+
+    #[cycle(walk)]
+    fn eval_call(
+        &self,
+        variables: &Variables,
+        run: &mut Run,
+        name: &Text,
+        operands: &Expressions,
+    ) -> Result<Value, Stopped>
+        ensures { (at : ℕ) → GivesValue result run.new
+            (value_at self.now variables.now (call at name.now (expressions_of operands.now))
+            run.old) }
+    {
+        match callee_named(self.walker.declarations(), name) {
+            Callee::Own(function) => self.call_own(variables, run, function, operands),
+            Callee::Builtin(builtin) => self.call_builtin(variables, run, builtin, operands),
+            Callee::Unknown => self.call_unknown(variables, run, operands),
+        }
+    }
+
+    /// A call of a function of the program.
+    #[cycle(walk)]
+    fn call_own(
+        &self,
+        variables: &Variables,
+        run: &mut Run,
+        function: FoundFunction,
+        operands: &Expressions,
+    ) -> Result<Value, Stopped>
+        requires { IsInProgram self.now.walker.now.program function }
+        ensures { GivesValue result run.new
+            (call_at self.now variables.now (own (function_of function.entry)) operands.now run.old) }
+    {
+        let values = self.eval_all(variables, run, operands.as_slice())?;
+        run.charge()?;
+        self.enter(run, function, values)
+    }
+
+    #[cycle(walk)]
+    fn enter(
+        &self,
+        run: &mut Run,
+        function: FoundFunction,
+        values: Vec<Value>,
+    ) -> Result<Value, Stopped>
+        requires { IsInProgram self.now.walker.now.program function }
+        ensures { GivesValue result run.new
+            (entered_at self.now (function_of function.entry) values.items run.old) }
+    {
+        if self.depth == MOST_CALL_DEPTH {
+            return Err(Stopped::fault(ScriptFault::TooDeep));
+        }
+        if self.fuel == 0 {
+            return Err(Stopped::fault(ScriptFault::OutOfSteps));
+        }
+        let inner = Frame {
+            walker: self.walker,
+            alloc: self.alloc,
+            fuel: self.fuel - 1,
+            depth: self.depth + 1,
+        };
+        let mut variables = Variables::bound(self.alloc, function.parameters, values)?;
+        match inner.block(&mut variables, run, function.body)? {
+            Flow::On => Ok(Value::null()),
+            Flow::Back(value) => Ok(value),
+        }
+    }
+
+    #[cycle(walk)]
+    fn call_builtin(
+        &self,
+        variables: &Variables,
+        run: &mut Run,
+        builtin: Builtin,
+        operands: &Expressions,
+    ) -> Result<Value, Stopped>
+        ensures { GivesValue result run.new
+            (call_at self.now variables.now (built builtin) operands.now run.old) }
+    {
+        let values = self.arguments(variables, run, builtin.takes_store(), operands)?;
+        let store = store_name(operands.as_slice());
+        run.called(script_values::call_of(
+            self.alloc,
+            self.walker.request(),
+            store,
+            builtin,
+            values,
+        ))
+    }
+
+    #[cycle(walk)]
+    fn call_unknown(
+        &self,
+        variables: &Variables,
+        run: &mut Run,
+        operands: &Expressions,
+    ) -> Result<Value, Stopped>
+        ensures { GivesValue result run.new
+            (call_at self.now variables.now unknown operands.now run.old) }
+    {
+        let _values = self.eval_all(variables, run, operands.as_slice())?;
+        run.charge()?;
+        Err(Stopped::fault(ScriptFault::WrongKind))
+    }
+
+    /// The values of a call's arguments; the bare name of a store is none.
+    #[cycle(walk)]
+    fn arguments(
+        &self,
+        variables: &Variables,
+        run: &mut Run,
+        takes_store: bool,
+        operands: &Expressions,
+    ) -> Result<Vec<Value>, Stopped>
+        ensures { Gives (λ v. v.items) result run.new
+            (arguments_at self.now variables.now takes_store operands.now run.old) }
+    {
+        if takes_store {
+            match operands.as_slice().split_first() {
+                Some((_store, others)) => self.eval_all(variables, run, others),
+                None => Ok(Vec::new(self.alloc)),
+            }
+        } else {
+            self.eval_all(variables, run, operands.as_slice())
+        }
+    }
+
+    /// The values of these, in order.
+    #[cycle(walk)]
+    pub fn eval_all(
+        &self,
+        variables: &Variables,
+        run: &mut Run,
+        operands: &[Expression],
+    ) -> Result<Vec<Value>, Stopped>
+        ensures { Gives (λ v. v.items) result run.new
+            (values_at self.now variables.now operands.now run.old) }
+    {
+        let mut values = Vec::new(self.alloc);
+        for operand in operands {
+            values.push(self.eval(variables, run, operand)?)?;
+        }
+        Ok(values)
+    }
+}
+
+/// The bare name of a store that a call's arguments begin with.
+fn store_name(operands: &[Expression]) -> &[u8]
+    ensures { result.now ≡ store_name (expressions_of operands.now) }
+{
+    match operands.first() {
+        Some(first) => bare_name(&first.node),
+        None => &[],
+    }
+}
+
+fn bare_name(node: &ExpressionNode) -> &[u8]
+    ensures { (at : ℕ) (es : Several)
+        → result.now ≡ store_name (expression (expression_of at node.now) es) }
+{
+    match node {
+        ExpressionNode::Variable(name) => name.as_bytes(),
+        ExpressionNode::Number(_)
+        | ExpressionNode::Text(_)
+        | ExpressionNode::Bool(_)
+        | ExpressionNode::Null
+        | ExpressionNode::Bracket(_)
+        | ExpressionNode::Call(_, _)
+        | ExpressionNode::List(_)
+        | ExpressionNode::Transact(_)
+        | ExpressionNode::Unary(_, _)
+        | ExpressionNode::Binary(_, _, _)
+        | ExpressionNode::And(_, _)
+        | ExpressionNode::Or(_, _)
+        | ExpressionNode::Index(_, _) => &[],
+    }
+}

@@ -1,0 +1,2 @@
+pub mod CallsMade
+pub mod Queries

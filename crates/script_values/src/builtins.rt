@@ -1,0 +1,129 @@
+ghost use Rattle.std.specs.Prelude.{◌≡◌, IfOk};
+ghost use Rattle.basis.specs.UnlessMemory.{Answers};
+ghost use Rattle.script_tree.specs.Datum.{text};
+ghost use Rattle.script_meaning.specs.BuiltinCalls.{built_in, parameter, parameter_in};
+ghost use Rattle.script_meaning.specs.Operators.{length_of, sliced, part_of};
+ghost use Rattle.script_values.specs.CallsMade.{made, call_with};
+
+use crate::arguments::Arguments;
+use crate::faults::Faulted;
+use crate::kinds::{number_in, text_in, wrong_kind};
+use crate::lists::{appended, list_part};
+use crate::numbers::as_number;
+use crate::operations::{clock_op, get_op, put_op, random_op, read_op, remove_op, write_op};
+use crate::texts::{as_text, escaped, kind_of, text_part};
+use script_tree::operation::Op;
+use script_tree::request::{Parameter, Request};
+use script_tree::syntax::builtin::Builtin;
+use script_tree::text::Text;
+use script_tree::value::{Node, Value};
+use std::alloc::{AllocError, Global};
+
+/// What the call of a built-in function comes to.
+#[derive(Drop)]
+pub enum Called {
+    Value(Value),
+    /// An operation, which is still to be issued.
+    Operation(Op),
+}
+
+/// The call of a built-in function with these values, for a request. One on a store has the store's
+/// name.
+pub fn call_of(
+    alloc: Global,
+    request: &Request,
+    store: &[u8],
+    builtin: Builtin,
+    values: Vec<Value>,
+) -> Result<Called, Faulted>
+    ensures { Answers (λ c. c) (made (built_in request.now store.now builtin values.items)) result }
+{
+    let arguments = Arguments::new(values);
+    call_with(alloc, request, store, builtin, &arguments)
+}
+
+fn call_with(
+    alloc: Global,
+    request: &Request,
+    store: &[u8],
+    builtin: Builtin,
+    arguments: &Arguments,
+) -> Result<Called, Faulted>
+    ensures { Answers (λ c. c) (made (call_with request.now store.now builtin arguments.now)) result }
+{
+    let Arguments {
+        first,
+        second,
+        third,
+    } = arguments;
+    match builtin {
+        Builtin::Len => Ok(Called::Value(length_of(first)?)),
+        Builtin::Str => Ok(Called::Value(as_text(alloc, first)?)),
+        Builtin::Escape => Ok(Called::Value(escaped(alloc, first)?)),
+        Builtin::Num => Ok(Called::Value(as_number(alloc, first)?)),
+        Builtin::Slice => Ok(Called::Value(sliced(alloc, first, second, third)?)),
+        Builtin::Append => Ok(Called::Value(appended(alloc, first, second)?)),
+        Builtin::Kind => Ok(Called::Value(kind_of(alloc, first)?)),
+        Builtin::Param => Ok(Called::Value(parameter_in(alloc, request, first)?)),
+        Builtin::Method => Ok(Called::Value(copy_of(alloc, request.method())?)),
+        Builtin::Path => Ok(Called::Value(copy_of(alloc, request.path())?)),
+        Builtin::Body => Ok(Called::Value(copy_of(alloc, request.body())?)),
+        Builtin::Read => Ok(Called::Operation(read_op(first)?)),
+        Builtin::Write => Ok(Called::Operation(write_op(first, second)?)),
+        Builtin::Get => Ok(Called::Operation(get_op(alloc, store, first)?)),
+        Builtin::Put => Ok(Called::Operation(put_op(alloc, store, first, second)?)),
+        Builtin::Remove => Ok(Called::Operation(remove_op(alloc, store, first)?)),
+        Builtin::Clock => Ok(Called::Operation(clock_op())),
+        Builtin::Random => Ok(Called::Operation(random_op(first)?)),
+    }
+}
+
+/// How many bytes a text has, or members a list.
+fn length_of(value: &Value) -> Result<Value, Faulted>
+    ensures { Answers (λ v. v) (length_of value.now) result }
+{
+    match &value.node {
+        Node::Text(text) => Ok(Value::number(text.as_bytes().len() as i64)),
+        Node::List(values) => Ok(Value::number(values.as_slice().len() as i64)),
+        Node::Null | Node::Bool(_) | Node::Number(_) => wrong_kind(),
+    }
+}
+
+/// The part of a list or a text between two places.
+fn sliced(alloc: Global, value: &Value, from: &Value, to: &Value) -> Result<Value, Faulted>
+    ensures { Answers (λ v. v) (sliced value.now from.now to.now) result }
+{
+    let from = number_in(from)?;
+    let to = number_in(to)?;
+    match &value.node {
+        Node::Text(text) => text_part(alloc, text, from, to),
+        Node::List(values) => list_part(alloc, values, from, to),
+        Node::Null | Node::Bool(_) | Node::Number(_) => wrong_kind(),
+    }
+}
+
+/// The request's parameter of a name.
+fn parameter_in(alloc: Global, request: &Request, name: &Value) -> Result<Value, Faulted>
+    ensures { Answers (λ v. v) (parameter_in request.now name.now) result }
+{
+    let name = text_in(name)?;
+    Ok(parameter(alloc, name.as_bytes(), request.parameters().as_slice())?)
+}
+
+/// The first of these parameters with a name, or null.
+fn parameter(alloc: Global, name: &[u8], parameters: &[Parameter]) -> Result<Value, AllocError>
+    ensures { IfOk result (λ v. v ≡ parameter name.now parameters.now) }
+{
+    for parameter in parameters {
+        if name == parameter.name.as_bytes() {
+            return copy_of(alloc, &parameter.value);
+        }
+    }
+    Ok(Value::null())
+}
+
+fn copy_of(alloc: Global, source: &Text) -> Result<Value, AllocError>
+    ensures { IfOk result (λ v. v ≡ text source.now) }
+{
+    Value::text(alloc, source.clone()?)
+}

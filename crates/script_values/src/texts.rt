@@ -1,0 +1,107 @@
+ghost use Rattle.std.specs.Prelude.{◌≡◌, ◌++◌, ◌∷◌, [], IfOk, OnOk};
+ghost use Rattle.basis.specs.UnlessMemory.{Answers};
+ghost use Rattle.script_tree.specs.Datum.{text as texted};
+ghost use Rattle.script_meaning.specs.Operators.{plus, if_within_limits, printed, as_text, part_of};
+ghost use Rattle.script_meaning.specs.Operators.{escaped, escaped_byte, escaped_bytes, kind_of};
+
+use crate::faults::{Faulted, if_within_limits};
+use crate::kinds::{text_in, wrong_kind};
+use crate::lists::part;
+use script_tree::text::Text;
+use script_tree::value::{Node, Value};
+use std::alloc::{AllocError, Global};
+use std::sync::Arc;
+
+/// The value of these bytes.
+fn text_of(alloc: Global, bytes: Vec<u8>) -> Result<Value, Faulted>
+    ensures { Answers (λ v. v) (if_within_limits (texted bytes.items)) result }
+{
+    if_within_limits(Value::text(alloc, Text::from_vec(bytes))?)
+}
+
+/// A text, and behind it a value that is to be a text.
+pub fn joined_texts(alloc: Global, text: &Text, b: &Value) -> Result<Value, Faulted>
+    ensures { Answers (λ v. v) (plus (texted text.now) b.now) result }
+{
+    let more = text_in(b)?;
+    let mut bytes = text.as_bytes().to_vec(alloc)?;
+    bytes.extend_from_slice(more.as_bytes())?;
+    text_of(alloc, bytes)
+}
+
+/// The part of a text between two places.
+pub fn text_part(alloc: Global, text: &Text, from: i64, to: i64) -> Result<Value, Faulted>
+    ensures { Answers (λ v. v) (part_of (texted text.now) from to) result }
+{
+    text_of(alloc, part(text.as_bytes(), from, to)?.to_vec(alloc)?)
+}
+
+/// The text that a value prints as.
+pub fn printed(alloc: Global, value: &Value) -> Result<Arc<Text>, Faulted>
+    ensures { Answers (λ text. text.value) (printed value.now) result }
+{
+    let bytes = match &value.node {
+        Node::Null => Vec::new(alloc),
+        Node::Bool(true) => b"true".to_vec(alloc)?,
+        Node::Bool(false) => b"false".to_vec(alloc)?,
+        Node::Number(n) => n.to_string(alloc)?.into_bytes(),
+        Node::Text(text) => return Ok(text.clone()?),
+        Node::List(_) => return wrong_kind(),
+    };
+    Ok(Arc::new(alloc, Text::from_vec(bytes))?)
+}
+
+/// The text that a value prints as, as a value.
+pub fn as_text(alloc: Global, value: &Value) -> Result<Value, Faulted>
+    ensures { Answers (λ v. v) (as_text value.now) result }
+{
+    if_within_limits(Value::shared_text(printed(alloc, value)?))
+}
+
+/// The text with what HTML reads as its own spelled out.
+pub fn escaped(alloc: Global, value: &Value) -> Result<Value, Faulted>
+    ensures { Answers (λ v. v) (escaped value.now) result }
+{
+    let bytes = escaped_bytes(alloc, text_in(value)?.as_bytes())?;
+    text_of(alloc, bytes)
+}
+
+fn escaped_bytes(alloc: Global, bytes: &[u8]) -> Result<Vec<u8>, AllocError>
+    ensures { IfOk result (λ made. made.items ≡ escaped_bytes bytes.now) }
+{
+    let mut made = Vec::with_capacity(alloc, bytes.len())?;
+    for byte in bytes {
+        escape_byte(&mut made, *byte)?;
+    }
+    Ok(made)
+}
+
+fn escape_byte(made: &mut Vec<u8>, byte: u8) -> Result<(), AllocError>
+    ensures { OnOk result (made.new.items ≡ made.old.items ++ escaped_byte byte) }
+{
+    match byte {
+        b'&' => made.extend_from_slice(b"&amp;"),
+        b'<' => made.extend_from_slice(b"&lt;"),
+        b'>' => made.extend_from_slice(b"&gt;"),
+        b'"' => made.extend_from_slice(b"&quot;"),
+        b'\'' => made.extend_from_slice(b"&#39;"),
+        _ => {
+            made.push(byte)?;
+            Ok(())
+        }
+    }
+}
+
+/// The name of a value's kind.
+pub fn kind_of(alloc: Global, value: &Value) -> Result<Value, AllocError>
+    ensures { IfOk result (λ kind. kind ≡ texted (kind_of value.now)) }
+{
+    let name = match &value.node {
+        Node::Null => b"null".to_vec(alloc)?,
+        Node::Bool(_) => b"bool".to_vec(alloc)?,
+        Node::Number(_) => b"number".to_vec(alloc)?,
+        Node::Text(_) => b"text".to_vec(alloc)?,
+        Node::List(_) => b"list".to_vec(alloc)?,
+    };
+    Value::text(alloc, Text::from_vec(name))
+}

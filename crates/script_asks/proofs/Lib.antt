@@ -1,5 +1,6 @@
 pub mod Asked
 pub mod Wanted
+pub mod RunsFurther
 pub mod Operations
 pub mod Sound
 pub mod Tables

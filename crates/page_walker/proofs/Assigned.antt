@@ -1,5 +1,5 @@
 -- Another value for a variable at a place.
-use Rattle.std.proofs.Common.{◌≡◌, ◌<◌, ℕ, zero, suc, true, List, [], ◌∷◌, ◌++◌, length, get_or, set, take, drop, refl, ap, subst, arith}
+use Rattle.std.proofs.Common.{◌≡◌, ◌<◌, ℕ, zero, suc, true, List, [], ◌∷◌, ◌++◌, length, get_or, set, take, drop, ap, subst, arith}
 use Rattle.std.specs.Str.{bytes_eq}
 use Rattle.script_tree.specs.Datum.{Datum}
 use Rattle.script_meaning.specs.Variables.{Variables, assigned}

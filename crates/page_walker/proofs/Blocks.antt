@@ -1,5 +1,5 @@
 -- How a block and a loop go on.
-use Rattle.std.proofs.Common.{◌≡◌, ◌<◌, ◌+◌, ◌-◌, ℕ, zero, suc, true, List, [], ◌∷◌, length, get_or, drop, refl, sym, ap, ◌∙◌, arith, add-one, drop-cons}
+use Rattle.std.proofs.Common.{◌≡◌, ◌<◌, ◌+◌, ◌-◌, ℕ, zero, suc, true, List, ◌∷◌, length, get_or, drop, refl, sym, ap, ◌∙◌, arith, add-one, drop-cons}
 use Rattle.script_tree.specs.Datum.{Datum}
 use Rattle.script_tree.specs.Syntax.{Expression, Statement, Statements, while_}
 use Rattle.script_tree.specs.SyntaxLists.{statements_of}

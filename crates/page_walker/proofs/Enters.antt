@@ -1,5 +1,5 @@
 -- A call of a function, in one of the runs that are left.
-use Rattle.std.proofs.Common.{◌≡◌, ◌≢◌, ◌+◌, ◌-◌, ◌*◌, ◌<◌, ◌≤◌, ℕ, zero, suc, false, List, refl, sym, ap, ◌∙◌, arith}
+use Rattle.std.proofs.Common.{◌≡◌, ◌≢◌, ◌+◌, ◌-◌, ◌*◌, ◌<◌, ◌≤◌, ℕ, zero, suc, false, List, refl, arith}
 use Rattle.std.specs.Prelude.{◌==◌}
 use Rattle.std.proofs.lemmas.Bool.Decides.{nat_tests}
 use Rattle.std.proofs.lemmas.Nat.{mul-le}
@@ -10,7 +10,7 @@ use Rattle.script_tree.specs.SyntaxLists.{statements_of}
 use Rattle.script_tree.specs.declared.fault.ScriptFault.TheVariants.{OutOfSteps}
 use Rattle.script_tree.specs.declared.limits.TheConstants.{MOST_CALL_DEPTH}
 use Rattle.script_meaning.specs.Evaluate.{Setting, Flow, block, entered, value_of}
-use Rattle.script_meaning.specs.Run.{Progress, Outcome, goes, stops, after, give}
+use Rattle.script_meaning.specs.Run.{Progress, Outcome, stops, after, give}
 use Rattle.script_meaning.specs.declared.run.Stop.TheVariants.{Fault as fault}
 use Rattle.script_meaning.specs.Variables.{Variables, bound}
 use Rattle.page_walker.specs.Frames.{later_in, nodes_left}

@@ -1,11 +1,7 @@
 -- How runs go on.
-use Rattle.std.proofs.Common.{◌≡◌, Result, Ok, Err, refl, ap, sym, ◌∙◌, subst}
-use Rattle.basis.specs.declared.or_memory.OrMemory.{OrMemory}
-use Rattle.basis.specs.declared.or_memory.OrMemory.TheVariants as values
-use Rattle.basis.specs.UnlessMemory.{Answers}
-use Rattle.script_tree.specs.declared.fault.ScriptFault.{ScriptFault}
-use Rattle.script_meaning.specs.Run.{Progress, Run, Outcome, goes, stops, after, unless_fault}
-use Rattle.page_walker.specs.Gives.{Stops, Gives, stopped_by}
+use Rattle.std.proofs.Common.{refl}
+use Rattle.script_meaning.specs.Run.{Progress, Run, Outcome, after}
+use Rattle.page_walker.specs.Gives.{Stops}
 use Rattle.page_walker.specs.declared.run.Stopped.{Stopped}
 use Rattle.page_walker.specs.declared.run.Stopped.TheVariants.{Memory, Stop}
 

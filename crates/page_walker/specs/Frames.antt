@@ -1,10 +1,10 @@
 -- What the parts of a program do in a frame.
-use Rattle.std.specs.Prelude.{ℕ, ◌+◌, ◌*◌, Bool, if◌then◌else◌, List, [], map}
+use Rattle.std.specs.Prelude.{ℕ, ◌*◌, Bool, if◌then◌else◌, List, map}
 use Rattle.script_tree.specs.Datum.{Datum}
 use Rattle.script_tree.specs.Declarations.{DeclaredFunction, NumberedTable, Callee}
-use Rattle.script_tree.specs.ExpressionView.{expression_of, query_of, condition_of, assignment_of}
+use Rattle.script_tree.specs.ExpressionView.{condition_of, assignment_of}
 use Rattle.script_tree.specs.Programs.{Program}
-use Rattle.script_tree.specs.Syntax.{Expression, Query, Statement, Condition, Assignment, Else}
+use Rattle.script_tree.specs.Syntax.{Expression, Query, Statement, Else}
 use Rattle.script_tree.specs.SyntaxLists.{expressions_of, queries_of, conditions_of, assignments_of, statements_of}
 use Rattle.script_tree.specs.declared.syntax.expression.Condition.{Condition as CodeCondition}
 use Rattle.script_tree.specs.declared.syntax.expression.Assignment.{Assignment as CodeAssignment}

@@ -9,6 +9,8 @@ mod frame;
 mod queries;
 mod run;
 mod statements;
+#[cfg(test)]
+mod tests;
 mod variables;
 mod walker;
 

@@ -156,11 +156,11 @@ exec_while-returns-then-left-eq0 t c =
     λ at.
     rw c.fault.ensures
     (sym (c.loop-value.invariant.told at)
-        ∙ while_out c.args.self.now.walker.now c.loop-value.left c.args.self.now.depth at c.args.e.now (statements_of c.args.body.now)
-        c.loop-value.variables c.scoped.new.variables c.loop-value.run c.eval.new.run c.decide.new.self c.scoped.new.run c.in_ok-value.value c.if-left-eq0.true
-        c.in_ok-value.ensures
-        (c.in_ok-decide.ensures ∙ ap (λ b. goes b c.decide.new.self) c.if-not-branch.false)
-        (c.in_ok-scoped.ensures ∙ ap (λ f. goes (flow_of c.scoped.new.variables f) c.scoped.new.run) c.in-On.is))
+    ∙ while_out c.args.self.now.walker.now c.loop-value.left c.args.self.now.depth at c.args.e.now (statements_of c.args.body.now)
+    c.loop-value.variables c.scoped.new.variables c.loop-value.run c.eval.new.run c.decide.new.self c.scoped.new.run c.in_ok-value.value c.if-left-eq0.true
+    c.in_ok-value.ensures
+    (c.in_ok-decide.ensures ∙ ap (λ b. goes b c.decide.new.self) c.if-not-branch.false)
+    (c.in_ok-scoped.ensures ∙ ap (λ f. goes (flow_of c.scoped.new.variables f) c.scoped.new.run) c.in-On.is))
 
 pub exec_for-returns-in-Some : goal.exec_for-returns-in-Some
 exec_for-returns-in-Some t c = λ at. rw (c.in_ok-whole.ensures, c.in-Some.ensures, ← c.as_slice.ensures) (c.turns.ensures c.in_ok-whole.whole)

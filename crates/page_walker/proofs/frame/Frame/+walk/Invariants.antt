@@ -1,4 +1,4 @@
-use Rattle.std.proofs.Common.{ℕ, ◌+◌, ◌*◌, ◌≡◌, ◌≤◌, ◌++◌, map, drop, length}
+use Rattle.std.proofs.Common.{ℕ, ◌+◌, ◌*◌, ◌≡◌, ◌≤◌, ◌++◌, map, drop}
 use Rattle.script_tree.specs.Datum.{Datum}
 use Rattle.script_tree.specs.ExpressionView.{expression_of, query_of, condition_of, assignment_of}
 use Rattle.script_tree.specs.ExpressionWeight.{expression_weight, query_weight, expression_list_weight, query_list_weight, condition_list_weight, assignment_list_weight}
@@ -9,7 +9,7 @@ use Rattle.script_meaning.specs.Evaluate.{exec}
 use Rattle.script_meaning.specs.Run.{after, give}
 use Rattle.script_values.specs.Queries.{unchecked_of}
 use Rattle.page_walker.specs.Found.{table_of}
-use Rattle.page_walker.specs.Frames.{later_in, nodes_left, values_at, all_operands_at, tests_at, changes_at, statement_at, block_at, turns_at}
+use Rattle.page_walker.specs.Frames.{later_in, nodes_left, values_at, all_operands_at, tests_at, changes_at, block_at, turns_at}
 use Rattle.page_walker.specs.Nodes.{statement_nodes, else_nodes, block_nodes}
 use Rattle.page_walker.proofs.frame.Frame.+walk.Given as goal
 

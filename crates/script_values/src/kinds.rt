@@ -51,10 +51,8 @@ pub fn list_in(value: &Value) -> Result<&Values, Faulted>
 
 /// The list that a value is, where it is one.
 pub fn as_list(value: &Value) -> Option<&Values>
-    ensures {
-        MatchOption result (list_in value.now ≡ Err ScriptFault.WrongKind)
-            (λ values. list_in value.now ≡ Ok values.now)
-    }
+    ensures { MatchOption result (list_in value.now ≡ Err ScriptFault.WrongKind)
+        (λ values. list_in value.now ≡ Ok values.now) }
 {
     match &value.node {
         Node::List(values) => Some(values),

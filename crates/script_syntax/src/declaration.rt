@@ -3,7 +3,9 @@ ghost use Rattle.script_grammar.specs.Machine.{parameters, begin_declaration};
 ghost use Rattle.script_syntax.specs.Gives.{Gives, Begins, word_token, names_value, declaration_value, IsFileRead};
 ghost use Rattle.script_syntax.specs.Behind.{behind_function, behind_page, behind_store, behind_table};
 
-use crate::feed::{Stop, any_word, more_names, name, path, take, unexpected, ungrammatical};
+use crate::feed::{
+    Stop, any_word, more_names, name, path, short_list, take, unexpected, ungrammatical,
+};
 use crate::statement::block;
 use script_tokens::scan::Tokens;
 use script_tokens::word::Word;
@@ -63,11 +65,11 @@ fn parameters(alloc: Global, tokens: &mut Tokens<'_>) -> Result<Names, Stop>
         Gives names_value symbols (names_value []) result tokens.old tokens.new }
     ensures shorter { OnOk result (length tokens.new.tokens < length tokens.old.tokens) }
 {
-    let mut names = Names::new(alloc);
     if tokens.stands(Word::Close) {
         tokens.skip();
-        return Ok(names);
+        return Ok(Names::new(alloc));
     }
+    let mut names: Names = short_list(alloc)?;
     names.push(name(alloc, tokens)?)?;
     more_names(alloc, tokens, names, Word::Close)
 }

@@ -4,7 +4,7 @@ ghost use Rattle.script_grammar.specs.Machine.{joined, word_joint, word_prefix, 
 ghost use Rattle.script_syntax.specs.Gives.{Gives, Begins, word_token, of_level, joint_at, prefix_at, expression_value, expressions_value};
 ghost use Rattle.script_syntax.specs.Behind.{behind_bracket, behind_list, indexed};
 
-use crate::feed::{Stop, any_word, take, unexpected, ungrammatical};
+use crate::feed::{Stop, any_word, short_list, take, unexpected, ungrammatical};
 use crate::query::transact;
 use script_grammar::joint::Joint;
 use script_tokens::scan::Tokens;
@@ -213,11 +213,11 @@ fn arguments(alloc: Global, tokens: &mut Tokens<'_>, close: Word) -> Result<Expr
         Gives expressions_value symbols (expressions_value []) result tokens.old tokens.new }
     ensures shorter { OnOk result (length tokens.new.tokens ≤ length tokens.old.tokens) }
 {
-    let mut items = Expressions::new(alloc);
     if tokens.stands(close) {
         tokens.skip();
-        return Ok(items);
+        return Ok(Expressions::new(alloc));
     }
+    let mut items: Expressions = short_list(alloc)?;
     items.push(operand(alloc, tokens, EXPRESSION)?)?;
     more_arguments(alloc, tokens, items, close)
 }

@@ -1,4 +1,4 @@
-ghost use Rattle.std.specs.Prelude.{◌≡◌, ◌<◌, ◌≤◌, ◌∷◌, [], length, OnOk, IfNone, IfSome};
+ghost use Rattle.std.specs.Prelude.{◌≡◌, ◌<◌, ◌≤◌, ◌∷◌, [], length, IfOk, OnOk, IfNone, IfSome};
 ghost use Rattle.script_tokens.specs.Feed.{fault_at};
 ghost use Rattle.script_tokens.specs.Scans.{before};
 ghost use Rattle.script_grammar.specs.Files.{ungrammatical};
@@ -6,13 +6,13 @@ ghost use Rattle.script_grammar.specs.Machine.{word, a_name, a_path, more_names}
 ghost use Rattle.script_syntax.specs.Gives.{Gives, no_value, a_name_value, names_value, word_token, BeginsNoWord};
 ghost use Rattle.basis.specs.declared.or_memory.OrMemory.TheVariants.{Other};
 
-use basis::OrMemory;
+use basis::{Items, OrMemory};
 use script_tokens::fault::{SyntaxFault, SyntaxFaultKind};
 use script_tokens::scan::Tokens;
 use script_tokens::shape::Shape;
 use script_tokens::word::Word;
 use script_tree::syntax::name::{Name, Names};
-use std::alloc::Global;
+use std::alloc::{AllocError, Global};
 
 /// Why a part of a program isn't read.
 pub type Stop = OrMemory<SyntaxFault>;
@@ -30,6 +30,14 @@ pub fn ungrammatical(at: usize) -> Stop
 {
     let kind = SyntaxFaultKind::Grammar;
     OrMemory::Other(SyntaxFault { at, kind })
+}
+
+/// An empty list with room for one item: most lists of a program have one, and a list that grows
+/// takes room for four.
+pub fn short_list<T: Drop>(alloc: Global) -> Result<Items<T>, AllocError>
+    ensures { IfOk result (λ items. items ≡ []) }
+{
+    Ok(Items::from_vec(Vec::with_capacity(alloc, 1)?))
 }
 
 /// Takes this word.

@@ -4,7 +4,7 @@ ghost use Rattle.script_syntax.specs.Gives.{Gives, Begins, word_token, expressio
 ghost use Rattle.script_syntax.specs.Behind.{behind_do, behind_echo, behind_for, behind_if, behind_let, behind_return, behind_set, behind_status, behind_while, binding, ended};
 
 use crate::expression::{EXPRESSION, operand};
-use crate::feed::{Stop, any_word, name, take, unexpected, ungrammatical};
+use crate::feed::{Stop, any_word, name, short_list, take, unexpected, ungrammatical};
 use script_tokens::scan::Tokens;
 use script_tokens::word::Word;
 use script_tree::syntax::expression::Expression;
@@ -40,7 +40,7 @@ pub fn block(alloc: Global, tokens: &mut Tokens<'_>) -> Result<Block, Stop>
     ensures shorter { OnOk result (length tokens.new.tokens < length tokens.old.tokens) }
 {
     take(tokens, Word::BraceOpen)?;
-    let mut statements = Block::new(alloc);
+    let mut statements: Block = short_list(alloc)?;
     while !tokens.stands(Word::BraceClose) {
         statements.push(statement(alloc, tokens)?)?;
     }

@@ -19,13 +19,13 @@ use Rattle.script_syntax.proofs.+expression.Goals as goal
 
 pub expression::arguments-returns-in_err-operand-clause-gives : goal.expression::arguments-returns-in_err-operand-clause-gives
 expression::arguments-returns-in_err-operand-clause-gives t c =
-    let p = err_from_is_err_and c.from_residual.result c.from_residual.ensures.1 in
+    let p = err_from_is_err_and c.from_residual-in_err-operand.result c.from_residual-in_err-operand.ensures.1 in
     rw (p.1, p.2) (fails (arguments c.args.close ∷ []) (of_expressions [] ∷ []) c.args.tokens.now (operand 6 ∷ []) [] c.args.tokens.now _
     (λ k vs. (act adds_expression ∷ more_arguments c.args.close ∷ k, of_expressions [] ∷ vs, arguments_runs c.args.close c.args.tokens.now (sym c.stands.ensures ∙ c.if-stands.false) k (of_expressions [] ∷ vs))) c.in_err-operand.ensures.gives)
 
 pub expression::arguments-returns-clause-gives : goal.expression::arguments-returns-clause-gives
 expression::arguments-returns-clause-gives t c =
-    let pushed : c.push.new.self ≡ c.in_ok-operand.field-0 ∷ [] = c.in_ok-push.ensures.ok ∙ ap (λ l. l ++ c.in_ok-operand.field-0 ∷ []) c.new-items.ensures in
+    let pushed : c.push.new.self ≡ c.in_ok-operand.field-0 ∷ [] = c.in_ok-push.ensures.ok ∙ ap (λ l. l ++ c.in_ok-operand.field-0 ∷ []) c.in_ok-items.ensures in
     follows expressions_value (arguments c.args.close ∷ []) (of_expressions [] ∷ []) c.args.tokens.now (more_arguments c.args.close ∷ []) (of_expressions c.push.new.self ∷ []) c.operand.new.tokens c.more_arguments.new.tokens c.more_arguments.result
     (λ k vs.
     arguments_runs c.args.close c.args.tokens.now (sym c.stands.ensures ∙ c.if-stands.false) k (of_expressions [] ∷ vs)

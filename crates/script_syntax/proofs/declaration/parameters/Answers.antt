@@ -8,13 +8,13 @@ use Rattle.script_syntax.proofs.declaration.parameters.Goals as goal
 
 pub returns-in_err-name-clause-gives : goal.returns-in_err-name-clause-gives
 returns-in_err-name-clause-gives c =
-    let p = err_from_is_err_and c.from_residual.result c.from_residual.ensures.1 in
+    let p = err_from_is_err_and c.from_residual-in_err-name.result c.from_residual-in_err-name.ensures.1 in
     rw (p.1, p.2) (fails (parameters ∷ []) (of_names [] ∷ []) c.args.tokens.now (a_name ∷ []) [] c.args.tokens.now _
     (λ k vs. (act adds_name ∷ more_names w.Close ∷ k, of_names [] ∷ vs, parameters_run c.args.tokens.now (sym c.stands.ensures ∙ c.if-stands.false) k (of_names [] ∷ vs))) c.in_err-name.ensures.gives)
 
 pub returns-clause-gives : goal.returns-clause-gives
 returns-clause-gives c =
-    let pushed : c.push.new.self ≡ c.in_ok-name.field-0 ∷ [] = c.in_ok-push.ensures.ok ∙ ap (λ l. l ++ c.in_ok-name.field-0 ∷ []) c.new-names.ensures in
+    let pushed : c.push.new.self ≡ c.in_ok-name.field-0 ∷ [] = c.in_ok-push.ensures.ok ∙ ap (λ l. l ++ c.in_ok-name.field-0 ∷ []) c.in_ok-names.ensures in
     follows names_value (parameters ∷ []) (of_names [] ∷ []) c.args.tokens.now (more_names w.Close ∷ []) (of_names c.push.new.self ∷ []) c.name.new.tokens c.more_names.new.tokens c.more_names.result
     (λ k vs.
     parameters_run c.args.tokens.now (sym c.stands.ensures ∙ c.if-stands.false) k (of_names [] ∷ vs)

@@ -11,7 +11,7 @@ use Rattle.script_syntax.proofs.statement.+statement.Goals as goal
 
 pub block-loop-alloc-init : goal.block-loop-alloc-init
 block-loop-alloc-init t c = record {
-  told = λ k vs. c.in_ok-take.ensures.gives (act (puts (of_statements [])) ∷ statements ∷ k) vs ∙ act_runs (puts (of_statements [])) c.take.new.tokens (statements ∷ k) vs ∙ rw c.new-statements.ensures refl;
+  told = λ k vs. c.in_ok-take.ensures.gives (act (puts (of_statements [])) ∷ statements ∷ k) vs ∙ act_runs (puts (of_statements [])) c.take.new.tokens (statements ∷ k) vs ∙ rw c.in_ok-statements.ensures refl;
   shorter = c.in_ok-take.ensures.shorter;
 }
 

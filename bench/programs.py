@@ -1,4 +1,4 @@
-"""Programs that `bench/check` and `bench/fuzz_check` make. All but those of `Careless` are valid."""
+"""Programs that `bench/check`, `bench/fuzz_check` and `bench/fuzz_replay` make. All but those of `Careless` are valid."""
 
 import random
 
@@ -260,6 +260,223 @@ class Careless(Maker):
             parts.append(f"function {self.any_name()}{self.named_block(self.random.randint(0, 2))}")
         if self.slips():
             parts.append(self.pick(["store s0;", "store get;", "table t1 (v, v);", 'page "\\x2f1" { }', "table q (k, k);"]))
+        self.random.shuffle(parts)
+        return "".join(parts).encode()
+
+
+class Running:
+    """Makes valid programs that run on: the kind of an operand is wrong so often of 100 times only.
+
+    They have the pages `/0` and `/1`, the stores `s0` and `s1`, and the tables `t0 (k)` and `t1 (k, v, w)`; they use the
+    registers, keys and parameters of `NAMES`.
+    """
+
+    NAMES = ["a", "b", "c"]
+    NUMBERS = [0, 1, 2, 3, 7, 10, 200, 255, 65535, 4294967296, 9223372036854775807]
+    TABLES = {"t0": ["k"], "t1": ["k", "v", "w"]}
+    FUNCTIONS = """function twice(x) { return x + x; }
+function deep(n) { if n < 1 { return 0; } return deep(n - 1) + 1; }
+function long(t, n) { let i = 0; while i < n { set t = t + t; set i = i + 1; } return t; }
+function nested(l, n) { for x in [1, 2, 3, 4, 5, 6] { if x <= n { set l = [l]; } } return l; }
+function none(x) { do x; }
+"""
+
+    def __init__(self, seed, percent):
+        self.random = random.Random(seed)
+        self.percent = percent
+        self.known, self.made = [], 0
+
+    def chance(self, percent):
+        return self.random.randrange(100) < percent
+
+    def pick(self, things):
+        return self.random.choice(things)
+
+    # ---- expressions of a kind
+
+    def of(self, kind, depth):
+        if self.chance(self.percent):
+            kind = self.pick(["number", "text", "truth", "list", "any"])
+        variables = [name for name, is_kind in self.known if is_kind == kind]
+        if variables and self.chance(45):
+            return self.pick(variables)
+        return getattr(self, kind)(depth - 1)
+
+    def row(self, kind, signs, depth):
+        parts = [self.of(kind, depth)]
+        for _ in range(self.random.randint(1, 3)):
+            parts += [self.pick(signs), self.of(kind, depth)]
+        return f"({' '.join(parts)})"
+
+    def number(self, depth):
+        if depth <= 0 or self.chance(40):
+            return str(self.pick(self.NUMBERS[:6] if self.chance(80) else self.NUMBERS))
+        return self.pick([
+            lambda: self.row("number", ["+", "-", "*"], depth),
+            lambda: self.row("number", ["+", "-", "*", "/", "%"], depth),
+            lambda: f"(-{self.of('number', depth)})",
+            lambda: f"len({self.of(self.pick(['text', 'list']), depth)})",
+            lambda: f"num({self.pick([self.of('text', depth), self.parameter()])})",
+            lambda: f"twice({self.of('number', depth)})",
+            lambda: f"deep({self.pick([0, 1, 5, 62, 63, 64])})",
+            lambda: f"random({self.of('number', depth)})",
+            lambda: "clock()",
+        ])()
+
+    def place(self):
+        return "0" if self.chance(70) else self.of("number", 1)
+
+    def parameter(self):
+        return f'param("{self.pick(self.NAMES)}")'
+
+    def text(self, depth):
+        if depth <= 0 or self.chance(30):
+            return f'"{self.pick(CONTENTS + self.NAMES)}"'
+        return self.pick([
+            lambda: f"({self.of('text', depth)} + {self.of('text', depth)})",
+            lambda: f"str({self.of(self.pick(['number', 'text', 'truth']), depth)})",
+            lambda: f"escape({self.of('text', depth)})",
+            lambda: f"slice({self.of('text', depth)}, 0, {self.pick([0, 1, 2, 5])})",
+            lambda: f"({self.of('text', depth)} + path())[{self.place()}]",
+            lambda: f"kind({self.of('any', depth)})",
+            lambda: f"long({self.of('text', depth)}, {self.pick([1, 3, 10, 16])})",
+            lambda: self.pick(["method()", "path()", "body()"]),
+            self.parameter,
+        ])()
+
+    def truth(self, depth):
+        if depth <= 0 or self.chance(20):
+            return self.pick(["true", "false"])
+        kind = self.pick(["number", "text"])
+        return self.pick([
+            lambda: f"({self.of(kind, depth)} {self.pick(COMPARERS)} {self.of(kind, depth)})",
+            lambda: f"({self.of('any', depth)} {self.pick(COMPARERS[:2])} {self.of('any', depth)})",
+            lambda: f"(not {self.of('truth', depth)})",
+            lambda: self.row("truth", ["and", "or"], depth),
+        ])()
+
+    def list(self, depth):
+        if depth <= 0 or self.chance(40):
+            return f"[{', '.join(self.of('any', 0) for _ in range(self.random.randrange(4)))}]"
+        return self.pick([
+            lambda: f"({self.of('list', depth)} + {self.of('list', depth)})",
+            lambda: f"append({self.of('list', depth)}, {self.of('any', depth)})",
+            lambda: f"slice({self.of('list', depth)}, 0, {self.pick([0, 1, 2])})",
+            lambda: f"nested({self.of('list', depth)}, {self.pick([1, 3, 6])})",
+        ])()
+
+    def any(self, depth):
+        if depth <= 0 or self.chance(20):
+            return self.pick(["null", "true", "[]", '""', "0", '"a"', "[null, [1]]"])
+        return self.pick([
+            lambda: self.of(self.pick(["number", "text", "truth", "list"]), depth),
+            lambda: f"append({self.of('list', depth)}, {self.of('any', depth)})[{self.place()}]",
+            lambda: f"none({self.of('any', depth)})",
+            self.operation,
+            self.operation,
+        ])()
+
+    def name(self):
+        return f'"{self.pick(self.NAMES)}"' if self.chance(80) else self.of("text", 1)
+
+    def operation(self):
+        return self.pick([
+            lambda: f"read({self.name()})",
+            lambda: f"write({self.name()}, {self.of('any', 1)})",
+            lambda: f"get({self.pick(['s0', 's1'])}, {self.name()})",
+            lambda: f"put({self.pick(['s0', 's1'])}, {self.name()}, {self.of('any', 1)})",
+            lambda: f"remove({self.pick(['s0', 's1'])}, {self.name()})",
+            self.transact,
+            self.transact,
+        ])()
+
+    def where(self, columns):
+        if self.chance(25):
+            return ""
+        tests = [f"k {self.pick(COMPARERS)} {self.name()}"] if self.chance(60) else []
+        tests += [f"{self.pick(columns)} {self.pick(COMPARERS)} {self.of('any', 1)}" for _ in range(self.random.randrange(2))]
+        return " where " + " and ".join(tests) if tests else ""
+
+    def part(self):
+        name = self.pick(["t0", "t1", "t1"])
+        columns = self.TABLES[name]
+        values = ", ".join(self.of("any", 1) for _ in columns[1:])
+        chosen = ", ".join(self.pick(columns) for _ in range(self.random.randint(1, 3)))
+        sets = ", ".join(f"{self.pick(['v', 'w'])} = {self.of('any', 1)}" for _ in range(self.random.randint(1, 2)))
+        return self.pick([
+            lambda: f"insert {name} ({self.name()}{', ' if values else ''}{values});",
+            lambda: f"select {chosen} from {name}{self.where(columns)};",
+            lambda: f"update t1 set {sets}{self.where(self.TABLES['t1'])};",
+            lambda: f"delete {name}{self.where(columns)};",
+            lambda: f"expect {self.random.randrange(3)} from {name}{self.where(columns)};",
+        ])()
+
+    def transact(self):
+        return f"transact {{ {' '.join(self.part() for _ in range(self.random.randint(1, 3)))} }}"
+
+    # ---- statements
+
+    def block(self, nesting, first=None, most=4):
+        outer = list(self.known)
+        self.known += [first] if first else []
+        text = " ".join(self.statement(nesting) for _ in range(self.random.randint(1, most)))
+        self.known = outer
+        return f"{{ {text} }}"
+
+    def new_name(self):
+        self.made += 1
+        return f"x{self.made}"
+
+    def let(self, _):
+        kind, name = self.pick(["number", "text", "truth", "list", "any"]), self.new_name()
+        text = f"let {name} = {self.of(kind, 3)};"
+        self.known.append((name, kind))
+        return text
+
+    def set(self, nesting):
+        settable = [known for known in self.known if known[1] != "counter"]
+        if not settable:
+            return self.let(nesting)
+        name, kind = self.pick(settable)
+        return f"set {name} = {self.of(kind, 3)};"
+
+    def branch(self, nesting):
+        test = self.of("truth", 2)
+        other = f" else {self.block(nesting)}" if self.chance(50) else ""
+        return f"if {test} {self.block(nesting)}{other}"
+
+    def turns(self, nesting):
+        name, value = self.new_name(), self.of("list", 2)
+        return f"for {name} in {value} {self.block(nesting, (name, 'any'))}"
+
+    def repeat(self, nesting):
+        name = self.new_name()
+        self.known.append((name, "counter"))
+        body = self.block(nesting)
+        return f"let {name} = 0; while {name} < {self.pick([0, 1, 3, 20])} {{ set {name} = {name} + 1; {body[1:]}"
+
+    def statement(self, nesting):
+        if self.random.randrange(400) == 0:
+            return self.pick(["while true { }", 'while true { do read("a"); }', 'while true { do transact { delete t0; }; }'])
+        if nesting > 0 and self.chance(30):
+            return self.pick([self.branch, self.branch, self.turns, self.repeat])(nesting - 1)
+        return self.pick([
+            self.let,
+            self.let,
+            self.set,
+            lambda _: f"echo {self.of(self.pick(['number', 'text', 'truth']), 3)};",
+            lambda _: f"echo {self.of(self.pick(['number', 'text', 'truth']), 3)};",
+            lambda _: f"do {self.operation()};",
+            lambda _: f"do {self.operation()};",
+            lambda _: f"status {self.pick([200, 201, 404, 500, 599] if self.chance(97) else [199, 204, 205, 304, 600])};",
+            lambda _: f"return {self.of('any', 1)};" if self.chance(15) else "echo 1;",
+        ])(nesting)
+
+    def program(self):
+        parts = ["store s0; store s1;\n", "table t0 (k); table t1 (k, v, w);\n", self.FUNCTIONS]
+        for number in range(2):
+            self.known = []
+            parts.append(f'page "/{number}" {self.block(3, most=12)}\n')
         self.random.shuffle(parts)
         return "".join(parts).encode()
 

@@ -1,6 +1,7 @@
 """Syntax and check of docs/language.md once more, in Python: the line that `check` must print for a text.
 
-It is written from that page alone, in another way than the program, so that the two can be compared.
+It is written from that page alone, in another way than the program, so that the two can be compared. `meaning.py` runs
+the tree that the parser makes.
 """
 
 import re
@@ -71,7 +72,14 @@ def tokens_of(text):
 
 
 class Parser:
-    """Makes a tree of tuples: their first member says what they are."""
+    """Makes a tree of tuples.
+
+    A declaration and a statement begin with their word. An expression is its sort, its place and its parts, and then:
+    of a "row" the signs between the parts, of "prefixed" its signs, of a "value" what it is. Its sort can also be
+    "indexed", "bracket" or "list"; of a "variable", a "call" and a "transact" a name, a name with arguments, or
+    statements stand in place of the parts. Those are the table, the columns that are selected or tested, the columns
+    that are set, the expressions in their order, how many values an `insert` has, their word and the comparers.
+    """
 
     def __init__(self, text):
         self.tokens, self.end = tokens_of(text)
@@ -171,15 +179,15 @@ class Parser:
         self.word(b";")
         return word, name, value
 
-    # ---- expressions: what is between operators is all that the check asks for
+    # ---- expressions
 
     def row(self, part, *signs, most=MOST):
         first = part()
-        others = []
+        others, between = [], []
         while self.peek() in signs and len(others) < most:
-            self.next += 1
+            between.append(self.word())
             others.append(part())
-        return ("many", first[1], [first, *others]) if others else first
+        return ("row", first[1], [first, *others], between) if others else first
 
     def expression(self):
         return self.row(self.conjunction, b"or")
@@ -197,11 +205,11 @@ class Parser:
         return self.row(self.prefixed, b"*", b"/", b"%")
 
     def prefixed(self):
-        at, count = self.place(), 0
-        while count < MOST and self.skips(b"not", b"-"):
-            count += 1
+        at, signs = self.place(), []
+        while len(signs) < MOST and self.peek() in (b"not", b"-"):
+            signs.append(self.word())
         inner = self.indexed()
-        return ("many", at, [inner]) if count else inner
+        return ("prefixed", at, [inner], signs) if signs else inner
 
     def indexed(self):
         first = self.atom()
@@ -209,7 +217,7 @@ class Parser:
         while len(places) < MOST and self.skips(b"["):
             places.append(self.expression())
             self.word(b"]")
-        return ("many", first[1], [first, *places]) if places else first
+        return ("indexed", first[1], [first, *places]) if places else first
 
     def atom(self):
         at = self.place()
@@ -224,27 +232,27 @@ class Parser:
         if text == b"(" and kind == "word":
             inner = self.expression()
             self.word(b")")
-            return "many", at, [inner]
+            return "bracket", at, [inner]
         if text == b"[" and kind == "word":
-            return "many", at, self.maybe_listed(self.expression, b"]")
+            return "list", at, self.maybe_listed(self.expression, b"]")
         if text == b"transact" and kind == "word":
             self.word(b"{")
             parts = [self.part()]
             while not self.skips(b"}"):
                 parts.append(self.part())
             return "transact", at, parts
-        return "many", at, []
+        constants = {b"true": True, b"false": False, b"null": None}
+        return "value", at, [], int(text) if kind == "number" else text if kind == "text" else constants[text]
 
     def part(self):
-        """The sort, the table, the columns that are named, those that are set, and the expressions; and for a row how many."""
         word = self.word(b"insert", b"select", b"update", b"delete", b"expect")
         if word == b"insert":
             table = self.name()
             self.word(b"(")
             values = self.listed(self.expression, b")")
             self.word(b";")
-            return table, [], [], values, len(values)
-        columns, sets, values = [], [], []
+            return table, [], [], values, len(values), word, []
+        columns, sets, values, comparers = [], [], [], []
         if word == b"select":
             columns = self.listed(self.name, b"from")
         elif word == b"expect":
@@ -257,20 +265,20 @@ class Parser:
             while self.skips(b","):
                 self.assigned(sets, values)
         if self.skips(b"where"):
-            self.test(columns, values)
+            self.test(columns, values, comparers)
             while self.skips(b"and"):
-                self.test(columns, values)
+                self.test(columns, values, comparers)
         self.word(b";")
-        return table, columns, sets, values, None
+        return table, columns, sets, values, None, word, comparers
 
     def assigned(self, sets, values):
         sets.append(self.name())
         self.word(b"=")
         values.append(self.expression())
 
-    def test(self, columns, values):
+    def test(self, columns, values, comparers):
         columns.append(self.name())
-        self.word(*COMPARERS)
+        comparers.append(self.word(*COMPARERS))
         values.append(self.sum())
 
 
@@ -331,7 +339,7 @@ class Checker:
             self.call(at, tree[2], tree[3], known)
         elif sort == "transact":
             for part in tree[2]:
-                self.part(*part, known)
+                self.part(*part[:5], known)
         else:
             for inner in tree[2]:
                 self.expression(inner, known)

@@ -2,18 +2,14 @@
 use Rattle.std.specs.Prelude.{ℕ, List, ◌++◌, codes}
 use Rattle.std.specs.Fmt.{decimal}
 use Rattle.script_check.specs.Least.{number_of}
+use Rattle.state_file.specs.FaultTexts.{state_fault_text}
 use Rattle.script_tokens.specs.declared.fault.SyntaxFaultKind.{SyntaxFaultKind}
 use Rattle.script_tokens.specs.declared.fault.SyntaxFaultKind.TheVariants.{NoToken, Grammar, Limit}
 use Rattle.command_inputs.specs.Roles.{role_name}
-use Rattle.command_inputs.specs.State.{fault_kind}
 use Rattle.command_inputs.specs.declared.fault.InputFault.{InputFault}
-use Rattle.command_inputs.specs.declared.fault.InputFault.TheVariants.{Absent, TooLong, Syntax, Check, NotBuilt, State, Trace}
+use Rattle.command_inputs.specs.declared.fault.InputFault.TheVariants.{Absent, TooLong, Syntax, Check, State, Trace}
 use Rattle.command_inputs.specs.declared.fault.TraceFault.{TraceFault}
 use Rattle.command_inputs.specs.declared.fault.TraceFault.TheVariants.{Unreadable, Unbalanced}
-use Rattle.command_inputs.specs.declared.state.StateFault.{StateFault}
-
-abbrev pub state_fault_text : StateFault → List ℕ
-state_fault_text fault = codes "kind " ++ decimal (fault_kind fault)
 
 abbrev pub trace_fault_text : TraceFault → List ℕ
 trace_fault_text (Unreadable at) = codes "unreadable at " ++ decimal at
@@ -31,6 +27,5 @@ fault_text (Absent role) = role_name role ++ codes ": absent"
 fault_text (TooLong role) = role_name role ++ codes ": too long"
 fault_text (Syntax fault) = codes "program: syntax " ++ decimal (syntax_number fault.kind) ++ codes " at " ++ decimal fault.at
 fault_text (Check fault) = codes "program: check " ++ decimal (number_of fault.kind) ++ codes " at " ++ decimal fault.at
-fault_text NotBuilt = codes "program: not built"
 fault_text (State fault) = codes "state: " ++ state_fault_text fault
 fault_text (Trace fault) = codes "trace: " ++ trace_fault_text fault

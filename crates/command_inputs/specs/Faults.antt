@@ -6,7 +6,7 @@ use Rattle.outside.specs.declared.fault.ShelfFault.TheVariants as shelf
 use Rattle.command_inputs.specs.declared.fault.InputError.{InputError}
 use Rattle.command_inputs.specs.declared.fault.InputError.TheVariants.{Fault, Halt as Halts}
 use Rattle.command_inputs.specs.declared.fault.InputFault.{InputFault}
-use Rattle.command_inputs.specs.declared.fault.InputFault.TheVariants.{Absent, TooLong, Syntax, Check, NotBuilt, State, Trace}
+use Rattle.command_inputs.specs.declared.fault.InputFault.TheVariants.{Absent, TooLong, Syntax, Check, State, Trace}
 use Rattle.command_inputs.specs.declared.halt.Halt.TheVariants.{Failed, Memory}
 use Rattle.command_inputs.specs.declared.role.Role.{Role}
 
@@ -22,7 +22,6 @@ IsAbsence (Absent role) = Unit {0}
 IsAbsence (TooLong role) = ⊥
 IsAbsence (Syntax fault) = ⊥
 IsAbsence (Check fault) = ⊥
-IsAbsence NotBuilt = ⊥
 IsAbsence (State fault) = ⊥
 IsAbsence (Trace fault) = ⊥
 

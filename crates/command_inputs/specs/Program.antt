@@ -1,7 +1,6 @@
 -- What a program's file is.
-use Rattle.std.specs.Prelude.{◌≡◌, ◌⊎◌, ℕ, List, Result, Ok, Err}
+use Rattle.std.specs.Prelude.{◌≡◌, ◌⊎◌, ℕ, List}
 use Rattle.script_tree.specs.Programs.{Program}
-use Rattle.script_tree.specs.StraightLine.{IsStraightLine}
 use Rattle.script_tree.specs.declared.syntax.declaration.Declaration.{Declaration}
 use Rattle.script_tokens.specs.declared.fault.SyntaxFault.{SyntaxFault}
 use Rattle.script_grammar.specs.Files.{Spells, SpellsNone}
@@ -10,7 +9,7 @@ use Rattle.script_check.specs.Validity.{IsValid}
 use Rattle.script_check.specs.declared.fault.CheckFault.{CheckFault}
 use Rattle.command_inputs.specs.Inputs.{Input}
 use Rattle.command_inputs.specs.declared.fault.InputFault.{InputFault}
-use Rattle.command_inputs.specs.declared.fault.InputFault.TheVariants.{NotBuilt, Syntax, Check}
+use Rattle.command_inputs.specs.declared.fault.InputFault.TheVariants.{Syntax, Check}
 use Rattle.command_inputs.specs.declared.role.Role.TheVariants as role
 
 -- The bytes spell a tree, and it is valid.
@@ -42,32 +41,3 @@ program_input most = record {
   spells = λ bytes program. SpellsProgram bytes program;
   has_fault = λ bytes fault. IsProgramFault bytes fault;
 }
-
--- ---- programs that can be replayed today
-
-pub record SpellsStraightLine (bytes : List ℕ) (program : Program) : Type 0 where
-  pub program_is : SpellsProgram bytes program
-  pub straight : IsStraightLine program.declarations
-
--- They spell another program.
-pub record SpellsAnother (bytes : List ℕ) (fault : InputFault) : Type 0 where
-  pub program : Program
-  pub spells : SpellsProgram bytes program
-  pub not_straight : IsStraightLine program.declarations → ⊥
-  pub fault_is : fault ≡ NotBuilt
-
-abbrev pub IsStraightLineFault : List ℕ → InputFault → Type 0
-IsStraightLineFault bytes fault = IsProgramFault bytes fault ⊎ SpellsAnother bytes fault
-
-abbrev pub straight_line_input : ℕ → Input Program
-straight_line_input most = record {
-  role = role.Program;
-  most = most;
-  spells = λ bytes program. SpellsStraightLine bytes program;
-  has_fault = λ bytes fault. IsStraightLineFault bytes fault;
-}
-
--- The program, where it can be replayed today.
-abbrev pub IsTaken : Program → Result Program InputFault → Type 0
-IsTaken program (Ok taken) = (taken ≡ program) × IsStraightLine program.declarations
-IsTaken program (Err fault) = (fault ≡ NotBuilt) × (IsStraightLine program.declarations → ⊥)

@@ -6,10 +6,10 @@ ghost use Rattle.command_inputs.specs.declared.halt.Halt.TheVariants.{Memory};
 
 use crate::halt::Halt;
 use crate::role::Role;
-use crate::state::StateFault;
 use outside::ShelfFault;
 use script_check::fault::CheckFault;
 use script_tokens::fault::{SyntaxFault, SyntaxFaultKind};
+use state_file::StateFault;
 use std::alloc::AllocError;
 use std::fmt;
 
@@ -33,8 +33,6 @@ pub enum InputFault {
     Syntax(SyntaxFault),
     /// The program's tree has this least fault.
     Check(CheckFault),
-    /// The program isn't one of those that can be replayed today.
-    NotBuilt,
     State(StateFault),
     Trace(TraceFault),
 }
@@ -104,7 +102,6 @@ impl fmt::Display for InputFault {
                 let at = fault.at;
                 write!(f, "program: check {number} at {at}")
             }
-            InputFault::NotBuilt => write!(f, "program: not built"),
             InputFault::State(fault) => write!(f, "state: {fault}"),
             InputFault::Trace(fault) => write!(f, "trace: {fault}"),
         }

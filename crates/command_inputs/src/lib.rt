@@ -9,7 +9,6 @@ pub mod program;
 pub mod role;
 pub mod schedule;
 pub mod state;
-pub mod straight_line;
 #[cfg(test)]
 mod tests;
 pub mod trace;
@@ -19,6 +18,5 @@ pub use halt::Halt;
 pub use program::read_program;
 pub use role::Role;
 pub use schedule::read_schedule;
-pub use state::{StateFault, read_state};
-pub use straight_line::read_straight_line;
+pub use state::read_state;
 pub use trace::read_trace;

@@ -10,7 +10,7 @@ use Rattle.script_tree.specs.declared.trace.TraceEvent.{TraceEvent}
 use Rattle.wire.specs.declared.limits.TheConstants.{MOST_FILE_BYTES, MOST_SCHEDULE_BYTES}
 use Rattle.replayer.specs.Laws.{ExplainsIfRead}
 use Rattle.command_inputs.specs.Inputs.{IsInput}
-use Rattle.command_inputs.specs.Program.{program_input, straight_line_input}
+use Rattle.command_inputs.specs.Program.{program_input}
 use Rattle.command_inputs.specs.Schedule.{schedule_input}
 use Rattle.command_inputs.specs.State.{state_input}
 use Rattle.command_inputs.specs.Trace.{trace_input}
@@ -36,8 +36,8 @@ pub record AreSpelled (words : List (List ℕ)) (files : Files) (program : Progr
     (trace : List TraceEvent) (schedule : Result (List Moment) ℕ) : Type 0 where
   pub names : ReplayNames
   pub asked : replay_names words ≡ Some names
-  pub program_file : IsInput (straight_line_input MOST_FILE_BYTES) (get files names.program) (Ok program)
-  pub state_file : IsInput (state_input MOST_FILE_BYTES) (get files names.state) (Ok start)
+  pub program_file : IsInput (program_input MOST_FILE_BYTES) (get files names.program) (Ok program)
+  pub state_file : IsInput (state_input program MOST_FILE_BYTES) (get files names.state) (Ok start)
   pub trace_file : IsInput (trace_input MOST_FILE_BYTES) (get files names.trace) (Ok trace)
   pub schedule_file :
       IsInput (schedule_input MOST_SCHEDULE_BYTES) (get files names.schedule) (Ok schedule)

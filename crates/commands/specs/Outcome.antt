@@ -11,7 +11,7 @@ use Rattle.wire.specs.declared.limits.TheConstants.{MOST_FILE_BYTES, MOST_SCHEDU
 use Rattle.replayer.specs.Differences.{replayed}
 use Rattle.command_inputs.specs.Faults.{IsAbsence}
 use Rattle.command_inputs.specs.Inputs.{Input, IsInput}
-use Rattle.command_inputs.specs.Program.{program_input, straight_line_input}
+use Rattle.command_inputs.specs.Program.{program_input}
 use Rattle.command_inputs.specs.Schedule.{schedule_input}
 use Rattle.command_inputs.specs.State.{state_input}
 use Rattle.command_inputs.specs.Trace.{trace_input}
@@ -55,11 +55,11 @@ WithState files names program start =
 
 abbrev pub WithProgram : Files → ReplayNames → Program → Answer → Type 0
 WithProgram files names program =
-    WithInput (state_input MOST_FILE_BYTES) (get files names.state) (WithState files names program)
+    WithInput (state_input program MOST_FILE_BYTES) (get files names.state) (WithState files names program)
 
 abbrev pub IsReplayed : Files → ReplayNames → Answer → Type 0
 IsReplayed files names =
-    WithInput (straight_line_input MOST_FILE_BYTES) (get files names.program) (WithProgram files names)
+    WithInput (program_input MOST_FILE_BYTES) (get files names.program) (WithProgram files names)
 
 -- ---- a check
 

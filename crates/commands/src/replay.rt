@@ -5,7 +5,7 @@ ghost use Rattle.commands.specs.Outcome.{IfReplayed};
 
 use crate::answer::Finding;
 use crate::words::ReplayNames;
-use command_inputs::{InputError, read_schedule, read_state, read_straight_line, read_trace};
+use command_inputs::{InputError, read_program, read_schedule, read_state, read_trace};
 use outside::Shelf;
 use replayer::replay::replay;
 use std::alloc::Global;
@@ -22,8 +22,8 @@ pub fn replay_files<F: Shelf>(
         ForSome (F.told shelf.old).files (λ files. IfReplayed files names result) }
     ensures used { UsesToRead (F.told shelf.old) (F.told shelf.new) result }
 {
-    let program = read_straight_line(alloc, shelf, names.program, MOST_FILE_BYTES)?;
-    let start = read_state(alloc, shelf, names.state, MOST_FILE_BYTES)?;
+    let program = read_program(alloc, shelf, names.program, MOST_FILE_BYTES)?;
+    let start = read_state(alloc, shelf, names.state, MOST_FILE_BYTES, &program)?;
     let trace = read_trace(alloc, shelf, names.trace, MOST_FILE_BYTES)?;
     let schedule = read_schedule(alloc, shelf, names.schedule, MOST_SCHEDULE_BYTES)?;
     match schedule {

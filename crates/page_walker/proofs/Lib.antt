@@ -4,3 +4,4 @@ mod Endings
 mod Enters
 mod Lighter
 mod Parts
+mod Within

@@ -3,16 +3,10 @@ use Rattle.std.specs.Prelude.{◌<◌}
 use Rattle.script_tree.specs.Declarations as meant
 use Rattle.script_tree.specs.Programs.{Program}
 use Rattle.page_walker.specs.Nodes.{block_nodes, nodes_below}
-use Rattle.page_walker.specs.declared.declared.FoundFunction.{FoundFunction}
-use Rattle.page_walker.specs.declared.declared.FoundTable.{FoundTable}
+use Rattle.script_index.specs.Found.{function_of}
+use Rattle.script_index.specs.declared.index.FoundFunction.{FoundFunction}
 use Rattle.page_walker.specs.declared.declared.Callee.{Callee}
 use Rattle.page_walker.specs.declared.declared.Callee.TheVariants.{Own, Builtin, Unknown}
-
-abbrev pub function_of : FoundFunction → meant.DeclaredFunction
-function_of f = record { parameters = f.parameters.now; body = f.body.now }
-
-abbrev pub table_of : FoundTable → meant.NumberedTable
-table_of t = record { number = t.number; columns = t.columns.now }
 
 abbrev pub callee_of : Callee → meant.Callee
 callee_of (Own f) = meant.own (function_of f)

@@ -1,12 +1,10 @@
 -- What the walker tells, as the definition sees it.
-use denote.Ref.{Bor}
 use Rattle.std.specs.Prelude.{◌≡◌, ◌≢◌, ℕ, List, []}
 use Rattle.script_tree.specs.Datum.{Datum}
 use Rattle.script_meaning.specs.Conduct.{conduct, Ending, Wants, Ends, Undefined, ended, start}
 use Rattle.script_tree.specs.Syntax.{Statement}
 use Rattle.script_tree.specs.SyntaxLists.{statements_of}
 use Rattle.script_tree.specs.declared.limits.TheConstants.{MOST_STEPS}
-use Rattle.script_tree.specs.Declarations.{NumberedPage}
 use Rattle.script_meaning.specs.Evaluate.{Setting, block}
 use Rattle.page_walker.specs.Frames.{later_in}
 use Rattle.page_walker.specs.declared.ending.WalkerStep.{WalkerStep}
@@ -23,9 +21,6 @@ Tells ending step = ending ≢ Undefined → ending_told step ≡ ending
 -- how the conduct with these answers ends
 abbrev pub ending_after : Setting → List Datum → Ending
 ending_after w answers = (conduct w.program w.request answers).ending
-
-abbrev pub numbered : ℕ × Bor (List Statement) → NumberedPage
-numbered p = record { number = p.0; body = p.1.now }
 
 -- how the run of this page ends
 abbrev pub page_ending : Setting → (answers : List Datum) → (page : ℕ) → List Statement → Ending

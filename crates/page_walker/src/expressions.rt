@@ -5,14 +5,16 @@ ghost use Rattle.script_tree.specs.Syntax.{unary, binary, and_, or_, index as in
 ghost use Rattle.script_tree.specs.Syntax.{list as listed, transact, expression, Expressions as Several};
 ghost use Rattle.script_tree.specs.SyntaxLists.{expressions_of, queries_of};
 ghost use Rattle.script_meaning.specs.Evaluate.{store_name};
-ghost use Rattle.page_walker.specs.Found.{function_of, IsInProgram};
+ghost use Rattle.page_walker.specs.Found.{IsInProgram};
+ghost use Rattle.script_index.specs.Found.{function_of};
 ghost use Rattle.page_walker.specs.Frames.{value_at, values_at, arguments_at, call_at, entered_at};
 ghost use Rattle.page_walker.specs.Gives.{Gives, GivesValue};
 
-use crate::declared::{Callee, FoundFunction, callee_named};
+use crate::declared::{Callee, callee_named};
 use crate::frame::{Flow, Frame};
 use crate::run::{Run, Stopped};
 use crate::variables::Variables;
+use script_index::FoundFunction;
 use script_tree::fault::ScriptFault;
 use script_tree::limits::MOST_CALL_DEPTH;
 use script_tree::syntax::builtin::Builtin;
@@ -21,7 +23,7 @@ use script_tree::syntax::operator::{BinaryOperator, UnaryOperator};
 use script_tree::text::Text;
 use script_tree::value::Value;
 
-impl Frame<'_> {
+impl Frame<'_, '_, '_> {
     /// The value of an expression.
     #[cycle(walk)]
     pub fn eval(
@@ -193,7 +195,7 @@ impl Frame<'_> {
             (value_at self.now variables.now (call at name.now (expressions_of operands.now))
             run.old) }
     {
-        match callee_named(self.walker.declarations(), name) {
+        match callee_named(self.walker.index(), name) {
             Callee::Own(function) => self.call_own(variables, run, function, operands),
             Callee::Builtin(builtin) => self.call_builtin(variables, run, builtin, operands),
             Callee::Unknown => self.call_unknown(variables, run, operands),

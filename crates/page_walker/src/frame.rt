@@ -7,8 +7,8 @@ use std::alloc::Global;
 
 /// Where a run is in the calls of functions. What stays the same in it lies behind `walker`.
 #[derive(Clone, Copy)]
-pub struct Frame<'a> {
-    pub walker: &'a Walker<'a>,
+pub struct Frame<'a, 'w, 'p> {
+    pub walker: &'a Walker<'w, 'p>,
     pub alloc: Global,
     /// How many turns of a `while` and calls may still begin, one within another.
     pub fuel: u32,

@@ -1,22 +1,23 @@
 ghost use Rattle.std.specs.Prelude.{◌≡◌, map, IfOk};
 ghost use Rattle.script_tree.specs.Declarations.{column_in};
 ghost use Rattle.script_tree.specs.ExpressionView.{query_of};
-ghost use Rattle.page_walker.specs.Found.{table_of};
+ghost use Rattle.script_index.specs.Found.{table_of};
 ghost use Rattle.page_walker.specs.Frames.{operands_at, all_operands_at, tests_at, changes_at};
 ghost use Rattle.page_walker.specs.Gives.{Gives};
 ghost use Rattle.script_values.specs.Queries.{unchecked_of};
 
-use crate::declared::{FoundTable, table};
+use crate::declared::table;
 use crate::frame::Frame;
 use crate::run::{Run, Stopped};
 use crate::variables::Variables;
+use script_index::FoundTable;
 use script_tree::syntax::expression::{Assignments, Conditions, Queries, Query, QueryNode};
 use script_tree::syntax::name::Names;
 use script_tree::transaction::{Change, Changes, Columns, Test, Tests};
 use script_values::Unchecked;
 use std::alloc::{AllocError, Global};
 
-impl Frame<'_> {
+impl Frame<'_, '_, '_> {
     /// The statements of a transaction with the values of their operands.
     #[cycle(walk)]
     pub fn all_operands(
@@ -59,17 +60,17 @@ impl Frame<'_> {
         ensures { Gives unchecked_of result run.new
             (operands_at self.now variables.now (query_of at node.now) run.old) }
     {
-        let declarations = self.walker.declarations();
+        let index = self.walker.index();
         match node {
             QueryNode::Insert(name, values) => {
                 let row = self.eval_all(variables, run, values.as_slice())?;
                 Ok(Unchecked::Insert {
-                    table: table(declarations, name).number,
+                    table: table(index, name).number,
                     row,
                 })
             }
             QueryNode::Select(columns, name, conditions) => {
-                let table = table(declarations, name);
+                let table = table(index, name);
                 let tests = self.tests(variables, run, table, conditions)?;
                 Ok(Unchecked::Select {
                     table: table.number,
@@ -78,7 +79,7 @@ impl Frame<'_> {
                 })
             }
             QueryNode::Update(name, assignments, conditions) => {
-                let table = table(declarations, name);
+                let table = table(index, name);
                 let changes = self.changes(variables, run, table, assignments)?;
                 let tests = self.tests(variables, run, table, conditions)?;
                 Ok(Unchecked::Update {
@@ -88,7 +89,7 @@ impl Frame<'_> {
                 })
             }
             QueryNode::Delete(name, conditions) => {
-                let table = table(declarations, name);
+                let table = table(index, name);
                 let tests = self.tests(variables, run, table, conditions)?;
                 Ok(Unchecked::Delete {
                     table: table.number,
@@ -96,7 +97,7 @@ impl Frame<'_> {
                 })
             }
             QueryNode::Expect(count, name, conditions) => {
-                let table = table(declarations, name);
+                let table = table(index, name);
                 let count = self.eval(variables, run, count)?;
                 let tests = self.tests(variables, run, table, conditions)?;
                 Ok(Unchecked::Expect {

@@ -18,7 +18,7 @@ use script_tree::syntax::statement::{Block, Else, Statement, StatementNode};
 use script_tree::value::Value;
 use script_values::as_list;
 
-impl Frame<'_> {
+impl Frame<'_, '_, '_> {
     /// Runs the statements of a block.
     #[cycle(walk)]
     pub fn block(

@@ -1,5 +1,6 @@
 use crate::{Walker, WalkerStep};
 use script_check::program::{Program, check};
+use script_index::Index;
 use script_tree::comparison::Comparison;
 use script_tree::operation::{Act, Object};
 use script_tree::path::End;
@@ -140,7 +141,8 @@ fn request(alloc: Global) -> Result<Request, Fail> {
 fn step(alloc: Global, answers: &[Value]) -> Result<WalkerStep, Fail> {
     let program = program(alloc)?;
     let request = request(alloc)?;
-    let walker = Walker::new(&program, &request);
+    let index = Index::new(alloc, &program)?;
+    let walker = Walker::new(&index, &request);
     Ok(walker.next(alloc, answers)?)
 }
 

@@ -1,17 +1,14 @@
-ghost use Rattle.std.specs.Prelude.{◌≡◌, ◌<◌, length, IfOk, [], true};
-ghost use Rattle.script_tree.specs.declared.limits.TheConstants.{TOO_MANY_DECLARATIONS};
+ghost use Rattle.std.specs.Prelude.{◌≡◌, IfOk, [], true};
 ghost use Rattle.page_walker.specs.WalkerSteps.{Tells, ending_after, page_ending};
 
-use crate::declared::page;
 use crate::ending::{WalkerStep, no_page, stopped};
 use crate::frame::Frame;
 use crate::run::{Run, Stopped};
 use crate::variables::Variables;
-use script_check::program::Program;
+use script_index::Index;
 use script_tree::limits::MOST_STEPS;
 use script_tree::path::End;
 use script_tree::request::Request;
-use script_tree::syntax::declaration::Declaration;
 use script_tree::syntax::statement::Block;
 use script_tree::value::Value;
 use std::alloc::{AllocError, Global};
@@ -20,12 +17,12 @@ use std::marker::Model;
 /// The plain walker of a request's page. It keeps nothing of its run: each call walks the page from
 /// its start, with the answers that it is given.
 #[derive(Drop)]
-pub struct Walker<'a> {
-    declarations: &'a [Declaration],
+pub struct Walker<'a, 'p> {
+    index: &'a Index<'p>,
     request: &'a Request,
 }
 
-impl<'a> Model for Walker<'a> {
+impl<'a, 'p> Model for Walker<'a, 'p> {
     ghost use Rattle.script_meaning.specs.Evaluate.{Setting};
     ghost use Rattle.script_meaning.specs.RunCodes.{coded_setting};
 
@@ -33,28 +30,22 @@ impl<'a> Model for Walker<'a> {
 
     ghost coded = { coded_setting };
 
-    ghost use Rattle.page_walker.specs.WalkerView.{setting_of, HasFew};
+    ghost use Rattle.page_walker.specs.WalkerView.{setting_of};
 
     ghost view = { setting_of };
-
-    ghost invariant = { HasFew };
 }
 
-impl<'a> Walker<'a> {
-    pub fn new(program: &'a Program, request: &'a Request) -> Walker<'a>
-        ensures { result ≡ record { program = program.now; request = request.now } }
+impl<'a, 'p> Walker<'a, 'p> {
+    pub fn new(index: &'a Index<'p>, request: &'a Request) -> Walker<'a, 'p>
+        ensures { result ≡ record { program = index.now; request = request.now } }
     {
-        Walker {
-            declarations: program.declarations(),
-            request,
-        }
+        Walker { index, request }
     }
 
-    pub(crate) fn declarations(&self) -> &[Declaration]
-        ensures declarations { result.now ≡ self.now.program.declarations }
-        ensures few { length self.now.program.declarations < TOO_MANY_DECLARATIONS }
+    pub(crate) fn index(&self) -> &Index<'p>
+        ensures { result.now ≡ self.now.program }
     {
-        self.declarations
+        self.index
     }
 
     pub(crate) fn request(&self) -> &Request
@@ -67,9 +58,9 @@ impl<'a> Walker<'a> {
     pub fn next(&self, alloc: Global, answers: &[Value]) -> Result<WalkerStep, AllocError>
         ensures { IfOk result (Tells (ending_after self.now answers.now)) }
     {
-        match page(self.declarations(), self.request().path()) {
+        match self.index().page(self.request().path().as_bytes()) {
             None => no_page(alloc),
-            Some((number, body)) => self.walk(alloc, answers, number, body),
+            Some(page) => self.walk(alloc, answers, page.number, page.body),
         }
     }
 

@@ -2,7 +2,7 @@ mod Completely
 mod Soundly
 mod DifferenceTests
 pub mod PlaceFacts
-pub mod RegisterFacts
+pub mod ResultFacts
+pub mod Sets
 pub mod StageFacts
-pub mod StraightLineRuns
 pub mod StandingFacts

@@ -20,16 +20,15 @@ use Rattle.script_tree.specs.declared.schedule.Moment.TheVariants.{Arrive, Act, 
 use Rattle.script_tree.specs.Programs.{Program}
 use Rattle.script_tree.specs.declared.trace.TraceEvent.{TraceEvent}
 use Rattle.script_tree.specs.declared.trace.TraceEvent.TheVariants.{Asked, Answered}
-use Rattle.script_tree.specs.Programs.{IsBuilt}
 use Rattle.script_meaning.specs.Conduct.{conduct, Ending, Wants, Ends, Undefined}
-use Rattle.replayer.proofs.StraightLineRuns.{defined_first, wanted_next}
+use Rattle.script_asks.proofs.RunsFurther.{defined_first, defined_next}
 use Rattle.script_meaning.specs.Replay.{Scene, opening, with_request, after, after_act, and_answer, ending_of, ending_with, next_of}
 use Rattle.replayer.specs.Differences.{has_arrived, has_departed, is_arrival, is_departure, is_too_early, first_not_departed, act_fault, departure_fault, is_same_response, moment_fault, fault_of, difference_from, difference_of}
 use Rattle.replayer.specs.declared.reason.ReplayReason.{ReplayReason}
 use Rattle.replayer.specs.declared.reason.ReplayReason.TheVariants.{AtMoment, Open as LeftOpen}
 use Rattle.replayer.specs.declared.reason.Reason.TheVariants.{BadChoice, OtherResponse, UnknownRequest}
-use Rattle.replayer.specs.OnRegisters.{Held, objects_of}
-use Rattle.replayer.specs.Changes.{Does}
+use Rattle.object_set.specs.ObjectSets.{HeldObjects, objects_of}
+use Rattle.object_set.specs.Applied.{Does}
 use Rattle.replayer.specs.Places.{first_place, is_request, request_place, the_request}
 use Rattle.replayer.proofs.PlaceFacts.{request_place-once, request_found, request_absent, request_here}
 use Rattle.replayer.specs.Standings.{standing_at, standing_in, answers_in, is_away, departed_in, is_departed, Puts, waits, first_waiting, AreDefined}
@@ -163,7 +162,7 @@ with_apart : (r : ℕ) (a : Option (List Datum)) (f : ℕ → Option (List Datum
 with_apart r a f x ne = ap (λ b. cond b a (f x)) (tell_apart r x ne)
 
 shows_more : (trace : List TraceEvent) (past : List Moment) (scene : Scene) (k : Kept) → ShowsIn trace past scene k → (m : Moment) (scene' : Scene) (k' : Kept) (r : ℕ) (s : Standing)
-    → Puts trace k.standings k'.standings r s → ((o : Object) → scene'.objects o ≡ objects_of k'.registers o) → ((x : ℕ) → scene'.answers x ≡ with_request r (answers_in s) scene.answers x)
+    → Puts trace k.standings k'.standings r s → ((o : Object) → scene'.objects o ≡ objects_of k'.objects o) → ((x : ℕ) → scene'.answers x ≡ with_request r (answers_in s) scene.answers x)
     → (has_arrived past r || is_arrival r m) ≡ not (is_away s) → ((x : ℕ) → (x ≡ r → ⊥) → is_arrival x m ≡ false) → (has_departed past r || is_departure r m) ≡ is_departed s → ((x : ℕ) → (x ≡ r → ⊥) → is_departure x m ≡ false)
     → k'.waiting ≡ first_waiting (departed_in trace k'.standings) trace → ShowsIn trace (past ++ m ∷ []) scene' k'
 shows_more trace past scene k h m scene' k' r s p objects answers arrives no_arrival departs no_departure waits = record {
@@ -204,7 +203,7 @@ away_is (Open ds) h = cc
 away_is Departed h = cc
 
 pub shows_arrival : (program : Program) (trace : List TraceEvent) (past : List Moment) (scene : Scene) (k : Kept) (r : ℕ) (k' : Kept) → ShowsIn trace past scene k
-    → standing_in trace k.standings r ≡ Away → Puts trace k.standings k'.standings r (Open []) → k'.registers ≡ k.registers → k'.waiting ≡ k.waiting
+    → standing_in trace k.standings r ≡ Away → Puts trace k.standings k'.standings r (Open []) → k'.objects ≡ k.objects → k'.waiting ≡ k.waiting
     → ShowsIn trace (past ++ Arrive r ∷ []) (after program trace scene (Arrive r)) k'
 shows_arrival program trace past scene k r k' h new p registers waiting =
     let same : is_departed (standing_in trace k.standings r) ≡ false = ap is_departed new in
@@ -225,7 +224,7 @@ open_is (Open es) ds h = let e : es ≡ ds = cc in ap (λ x. Open x) e
 open_is Departed ds h = cc
 
 pub shows_act : (program : Program) (trace : List TraceEvent) (past : List Moment) (scene : Scene) (k : Kept) (r : ℕ) (choice : Choice) (op : Op) (ds : List Datum) (d : Datum) (k' : Kept) → ShowsIn trace past scene k
-    → next_of program trace scene r ≡ Some (Wants op) → answers_in (standing_in trace k.standings r) ≡ Some ds → Does op choice k.registers k'.registers d
+    → next_of program trace scene r ≡ Some (Wants op) → answers_in (standing_in trace k.standings r) ≡ Some ds → Does op choice k.objects k'.objects d
     → Puts trace k.standings k'.standings r (Open (ds ++ d ∷ [])) → k'.waiting ≡ k.waiting
     → ShowsIn trace (past ++ Act r choice ∷ []) (after program trace scene (Act r choice)) k'
 shows_act program trace past scene k r choice op ds d k' h next is_open does p waiting =
@@ -234,9 +233,9 @@ shows_act program trace past scene k r choice op ds d k' h next is_open does p w
     let S : Option Ending → Type 0 = λ e. ShowsIn trace (past ++ Act r choice ∷ []) (after_act r choice e scene) k' in
     subst S (sym next) (shows_more trace past scene k h (Act r choice) (after_act r choice (Some (Wants op)) scene) k' r (Open (ds ++ d ∷ [])) p
     (λ o. ap (λ c. holding op.object (acted op.act choice c).0 scene.objects o) (h.objects op.object)
-    ∙ ap (λ c. cond (is_same op.object o) (acted op.act choice (objects_of k.registers op.object)).0 c) (h.objects o)
+    ∙ ap (λ c. cond (is_same op.object o) (acted op.act choice (objects_of k.objects op.object)).0 c) (h.objects o)
     ∙ sym (does.left o))
-    (λ x. ap (λ a. with_request r a scene.answers x) (ap (λ c. and_answer (scene.answers r) (acted op.act choice c).1) (h.objects op.object) ∙ ap (λ a. and_answer a (acted op.act choice (objects_of k.registers op.object)).1) (h.answers r ∙ is_open) ∙ ap (λ y. Some (ds ++ y ∷ [])) (sym does.answered)))
+    (λ x. ap (λ a. with_request r a scene.answers x) (ap (λ c. and_answer (scene.answers r) (acted op.act choice c).1) (h.objects op.object) ∙ ap (λ a. and_answer a (acted op.act choice (objects_of k.objects op.object)).1) (h.answers r ∙ is_open) ∙ ap (λ y. Some (ds ++ y ∷ [])) (sym does.answered)))
     (or-false (has_arrived past r) ∙ h.arrived r ∙ ap (λ s. not (is_away s)) at)
     (λ x ne. refl)
     (or-false (has_departed past r) ∙ h.departed r ∙ same)
@@ -246,7 +245,7 @@ shows_act program trace past scene k r choice op ds d k' h next is_open does p w
 -- ---- after a departure
 
 pub shows_departure : (program : Program) (trace : List TraceEvent) (past : List Moment) (scene : Scene) (k : Kept) (r : ℕ) (ds : List Datum) (k' : Kept) → ShowsIn trace past scene k
-    → answers_in (standing_in trace k.standings r) ≡ Some ds → Puts trace k.standings k'.standings r Departed → k'.registers ≡ k.registers
+    → answers_in (standing_in trace k.standings r) ≡ Some ds → Puts trace k.standings k'.standings r Departed → k'.objects ≡ k.objects
     → k'.waiting ≡ k.waiting + first_waiting (departed_in trace k'.standings) (drop k.waiting trace)
     → ShowsIn trace (past ++ Depart r ∷ []) (after program trace scene (Depart r)) k'
 shows_departure program trace past scene k r ds k' h is_open p registers waiting =
@@ -277,18 +276,18 @@ defined_more program trace m n r s h p here x q ds known open_ = elim (cases_eq 
 ]
 
 -- a run without answers goes on or ends
-pub begun_defined : (program : Program) → IsBuilt program → (q : Request) (ds : List Datum) → answers_in (Open []) ≡ Some ds → ending_of program q ds ≢ Undefined
+pub begun_defined : (program : Program) (q : Request) (ds : List Datum) → answers_in (Open []) ≡ Some ds → ending_of program q ds ≢ Undefined
 unfolding ending_of
-begun_defined program built q ds is_open =
+begun_defined program q ds is_open =
     let none : [] ≡ ds = cc in
-    subst (λ (es : List Datum). (conduct program q es).ending ≢ Undefined) none (defined_first program q built.straight)
+    subst (λ (es : List Datum). (conduct program q es).ending ≢ Undefined) none (defined_first program q)
 
 -- so does one with an answer to the operation that it wanted
-pub answered_defined : (program : Program) → IsBuilt program → (q : Request) (ds : List Datum) (d : Datum) (op : Op) → ending_of program q ds ≡ Wants op → (es : List Datum) → answers_in (Open (ds ++ d ∷ [])) ≡ Some es → ending_of program q es ≢ Undefined
+pub answered_defined : (program : Program) (q : Request) (ds : List Datum) (d : Datum) (op : Op) → ending_of program q ds ≡ Wants op → (es : List Datum) → answers_in (Open (ds ++ d ∷ [])) ≡ Some es → ending_of program q es ≢ Undefined
 unfolding ending_of
-answered_defined program built q ds d op wanted es is_open =
+answered_defined program q ds d op wanted es is_open =
     let all : ds ++ d ∷ [] ≡ es = cc in
-    subst (λ (xs : List Datum). (conduct program q xs).ending ≢ Undefined) all (wanted_next program q built.straight ds d op wanted).1
+    subst (λ (xs : List Datum). (conduct program q xs).ending ≢ Undefined) all (defined_next program q ds d op wanted)
 
 -- ---- what a request does next
 
@@ -298,7 +297,7 @@ opened program (Some q) (Some ds) e h = (q, ds, refl, refl, (let k : ending_of p
 opened program (Some q) None e h = absurd (cc)
 opened program None oa e h = absurd (cc)
 
--- an operation that is wanted on a register, with a choice that it takes
+-- an operation that is wanted, with a choice that it takes
 pub act_told : (program : Program) (trace : List TraceEvent) (scene : Scene) (r : ℕ) (choice : Choice) (op : Op) (b : Bool) → next_of program trace scene r ≡ Some (Wants op) → plausible op.act choice (scene.objects op.object) ≡ b → act_fault scene choice (next_of program trace scene r) ≡ cond b None (Some BadChoice)
 act_told program trace scene r choice op b next p = ap (act_fault scene choice) next ∙ ap (λ x. cond x None (Some BadChoice)) p
 
@@ -314,7 +313,7 @@ away_all trace ss away r = at (request_place trace r)
     at None = refl
     at (Some p) = away p
 
-pub shows_opening : (trace : List TraceEvent) (k : Kept) → ((r : ℕ) → standing_in trace k.standings r ≡ Away) → k.waiting ≡ first_waiting (departed_in trace k.standings) trace → ShowsIn trace [] (opening (objects_of k.registers)) k
+pub shows_opening : (trace : List TraceEvent) (k : Kept) → ((r : ℕ) → standing_in trace k.standings r ≡ Away) → k.waiting ≡ first_waiting (departed_in trace k.standings) trace → ShowsIn trace [] (opening (objects_of k.objects)) k
 unfolding has_arrived has_departed
 shows_opening trace k away waits = record {
   objects = λ o. refl;
@@ -339,12 +338,12 @@ unknown_fault program trace past scene m h = fault_where program trace past scen
 
 -- and of one that stands at a place
 pub known_step : (old new : Stage) (m : Moment) (place : ℕ) (reason : Option Reason) → request_place old.trace (rid_of m) ≡ Some place
-    → ((past : List Moment) (scene : Scene) → Shows past scene old → IsStep past scene m (moment_fault old.program.now old.trace past scene m) reason old new) → Steps m old new reason
+    → ((past : List Moment) (scene : Scene) → Shows past scene old → IsStep past scene m (moment_fault old.index.now old.trace past scene m) reason old new) → Steps m old new reason
 known_step old new m place reason here step past scene h =
     let there = request_here (rid_of m) old.trace place here in
     let known : request_of old.trace (rid_of m) ≡ Some there.0 = sym (request_found (rid_of m) old.trace place here) ∙ ap (option_and_then the_request) there.1 in
     let s = step past scene h in
-    record { named = fault_where old.program.now old.trace past scene m false (ap is_none known) ∙ s.named; shown = s.shown }
+    record { named = fault_where old.index.now old.trace past scene m false (ap is_none known) ∙ s.named; shown = s.shown }
 
 -- ---- the first difference
 
@@ -366,12 +365,12 @@ unfolding difference_from
 ends_here program trace past scene d h = left_over past d h trace
 
 -- a moment that is one of the trace leaves what differs to those after it
-pub steps_on : (all : Option ReplayReason) (old new : Stage) (past : List Moment) (scene : Scene) (m : Moment) (ms : List Moment) → all ≡ difference_from old.program.now old.trace past scene (m ∷ ms)
-    → IsStageOf old.program.now old.trace new → fault_of old.program.now old.trace past scene m ≡ None → all ≡ difference_from new.program.now new.trace (past ++ m ∷ []) (after old.program.now old.trace scene m) ms
+pub steps_on : (all : Option ReplayReason) (old new : Stage) (past : List Moment) (scene : Scene) (m : Moment) (ms : List Moment) → all ≡ difference_from old.index.now old.trace past scene (m ∷ ms)
+    → IsStageOf old.index.now old.trace new → fault_of old.index.now old.trace past scene m ≡ None → all ≡ difference_from new.index.now new.trace (past ++ m ∷ []) (after old.index.now old.trace scene m) ms
 steps_on all old new past scene m ms e same f =
-    e ∙ goes_on old.program.now old.trace past scene m ms f ∙ sym (λ i. difference_from (same.program i) (same.trace i) (past ++ m ∷ []) (after old.program.now old.trace scene m) ms)
+    e ∙ goes_on old.index.now old.trace past scene m ms f ∙ sym (λ i. difference_from (same.program i) (same.trace i) (past ++ m ∷ []) (after old.index.now old.trace scene m) ms)
 
 -- what differs at all is what differs from the first stage on
-pub opens_with : (program : Program) (start : Held) (trace : List TraceEvent) (stage : Stage) (ms : List Moment) → Opens program start trace stage
-    → difference_of program (objects_of start) trace ms ≡ difference_from stage.program.now stage.trace [] (opening (objects_of start)) ms
+pub opens_with : (program : Program) (start : HeldObjects) (trace : List TraceEvent) (stage : Stage) (ms : List Moment) → Opens program start trace stage
+    → difference_of program (objects_of start) trace ms ≡ difference_from stage.index.now stage.trace [] (opening (objects_of start)) ms
 opens_with program start trace stage ms opens = sym (λ i. difference_from (opens.of.program i) (opens.of.trace i) [] (opening (objects_of start)) ms)

@@ -8,8 +8,8 @@ use Rattle.script_tree.specs.declared.schedule.Moment.{Moment}
 use Rattle.script_tree.specs.Programs.{Program}
 use Rattle.script_tree.specs.declared.trace.TraceEvent.{TraceEvent}
 use Rattle.script_meaning.specs.Explains.{Explains}
+use Rattle.object_set.specs.ObjectSets.{HeldObjects, objects_of}
 use Rattle.replayer.specs.Differences.{difference_of, replayed}
-use Rattle.replayer.specs.OnRegisters.{Held, objects_of}
 use Rattle.replayer.specs.declared.reason.ReplayReason.{ReplayReason}
 use Rattle.replayer.specs.declared.reason.Replayed.{Replayed}
 use Rattle.replayer.specs.declared.reason.Replayed.TheVariants.{Agrees}
@@ -23,12 +23,12 @@ AgreesExactly = (program : Program) (start : Objects) (trace : List TraceEvent) 
 abbrev pub schedule_read : Result (Bor (List Moment)) ℕ → Result (List Moment) ℕ
 schedule_read r = result_map_both (λ s. s.now) (λ at. at) r
 
--- It is where the schedule first differs, from what these registers hold.
-abbrev pub IsDifference : Program → Held → List TraceEvent → List Moment → Option ReplayReason → Type 0
+-- It is where the schedule first differs, from what these objects hold.
+abbrev pub IsDifference : Program → HeldObjects → List TraceEvent → List Moment → Option ReplayReason → Type 0
 IsDifference program start trace schedule d = d ≡ difference_of program (objects_of start) trace schedule
 
 -- It is what a replay finds.
-abbrev pub IsFinding : Program → Held → List TraceEvent → Result (List Moment) ℕ → Replayed → Type 0
+abbrev pub IsFinding : Program → HeldObjects → List TraceEvent → Result (List Moment) ℕ → Replayed → Type 0
 IsFinding program start trace schedule r = r ≡ replayed program (objects_of start) trace schedule
 
 -- There is a schedule, and it explains the trace.
@@ -37,5 +37,5 @@ ExplainsIfRead program start trace (Ok schedule) = Explains program start trace 
 ExplainsIfRead program start trace (Err at) = ⊥
 
 -- It agrees exactly where there is one.
-abbrev pub AgreesWhereExplained : Program → Held → List TraceEvent → Result (List Moment) ℕ → Replayed → Type 0
+abbrev pub AgreesWhereExplained : Program → HeldObjects → List TraceEvent → Result (List Moment) ℕ → Replayed → Type 0
 AgreesWhereExplained program start trace schedule r = (r ≡ Agrees) ↔ ExplainsIfRead program (objects_of start) trace schedule

@@ -1,8 +1,6 @@
-pub mod Changes
 pub mod Differences
 pub mod IndexedTraces
 pub mod Laws
-pub mod OnRegisters
 pub mod Places
 pub mod Runners
 pub mod Stages

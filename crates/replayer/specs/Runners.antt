@@ -2,13 +2,12 @@
 use Rattle.std.specs.Prelude.{◌≡◌, Option, Some, None}
 use Rattle.script_tree.specs.declared.path.Path.{Path}
 use Rattle.script_meaning.specs.Conduct.{Ending, Wants, Ends}
-use Rattle.replayer.specs.OnRegisters.{IsOnRegister}
 use Rattle.replayer.specs.declared.runner.Next.{Next}
 use Rattle.replayer.specs.declared.runner.Next.TheVariants as code
 
--- An ending as it is given. An operation that is wanted is one on a register.
+-- An ending as it is given.
 abbrev pub IsNext : Next → Ending → Type 0
-IsNext (code.Wants op) ending = (ending ≡ Wants op) × IsOnRegister op
+IsNext (code.Wants op) ending = ending ≡ Wants op
 IsNext (code.Ends response) ending = (path : Path) × (ending ≡ Ends response path)
 
 abbrev pub IsGivenAs : Ending → Next → Type 0

@@ -5,7 +5,6 @@ pub mod indexed_trace;
 pub mod law;
 pub mod plain_runner;
 pub mod reason;
-pub mod registers;
 pub mod replay;
 pub mod runner;
 pub mod stage;
@@ -14,4 +13,3 @@ pub mod standing;
 mod tests;
 
 pub use reason::{Reason, ReplayReason, Replayed};
-pub use registers::Registers;

@@ -1,9 +1,9 @@
 use crate::runner::{Next, Runner};
+use page_walker::{Walker, WalkerStep};
+use script_index::Index;
 use script_tree::request::Request;
-use script_tree::syntax::program::Program;
 use script_tree::value::Value;
 use std::alloc::{AllocError, Global};
-use walker::{Walker, WalkerStep};
 
 /// Runs requests by the plain walker.
 pub struct PlainRunner;
@@ -12,13 +12,11 @@ impl Runner for PlainRunner {
     fn next(
         &self,
         alloc: Global,
-        program: &Program,
+        index: &Index,
         request: &Request,
         answers: &[Value],
     ) -> Result<Next, AllocError> {
-        // That the program has no branches is known of its declarations.
-        let _declarations = program.declarations();
-        let mut walker = Walker::new(program, request);
+        let walker = Walker::new(index, request);
         match walker.next(alloc, answers)? {
             WalkerStep::Wants(op) => Ok(Next::Wants(op)),
             WalkerStep::Ends(response, _) => Ok(Next::Ends(response)),

@@ -1,33 +1,36 @@
 ghost use Rattle.std.specs.Prelude.{IfOk};
 ghost use Rattle.script_tree.specs.Traces.{IsBalanced};
+ghost use Rattle.object_set.specs.ObjectSets.{IsSetOf};
 ghost use Rattle.replayer.specs.Laws.{IsDifference, IsFinding, AgreesWhereExplained, schedule_read};
 
 use crate::indexed_trace::IndexedTrace;
 use crate::law::agreement;
 use crate::plain_runner::PlainRunner;
 use crate::reason::{ReplayReason, Replayed};
-use crate::registers::Registers;
 use crate::runner::Runner;
 use crate::stage::{Stage, rid_of};
+use object_set::ObjectSet;
+use script_check::program::Program;
+use script_index::Index;
 use script_tree::schedule::Schedule;
-use script_tree::syntax::program::Program;
 use script_tree::trace::Trace;
 use std::alloc::{AllocError, Global};
 
-/// Where the schedule first differs from the trace, if it does, from what these registers hold.
+/// Where the schedule first differs from the trace, if it does, from what these objects hold.
 /// Requests are run by the runner.
 pub fn replay_by<R: Runner>(
     alloc: Global,
     runner: &R,
-    program: &Program,
-    start: Registers,
+    index: &Index,
+    start: ObjectSet,
     trace: &Trace,
     schedule: &Schedule,
 ) -> Result<Option<ReplayReason>, AllocError>
-    ensures { IfOk result (IsDifference program.now start trace.now schedule.now) }
+    requires { IsSetOf index.now start }
+    ensures { IfOk result (IsDifference index.now start trace.now schedule.now) }
 {
     let events = IndexedTrace::new(alloc, trace.as_slice())?;
-    let mut stage = Stage::new(alloc, program, start, events)?;
+    let mut stage = Stage::new(alloc, index, start, events)?;
     let moments = schedule.as_slice();
     for place in 0..moments.len() {
         let moment = moments[place];
@@ -42,15 +45,31 @@ pub fn replay_by<R: Runner>(
     Ok(stage.first_not_departed())
 }
 
-/// Replays a schedule against a trace, moment by moment, from what these registers hold; the offset
+/// The same by the plain walker.
+fn difference(
+    alloc: Global,
+    program: &Program,
+    start: ObjectSet,
+    trace: &Trace,
+    schedule: &Schedule,
+) -> Result<Option<ReplayReason>, AllocError>
+    requires { IsSetOf program.now start }
+    ensures { IfOk result (IsDifference program.now start trace.now schedule.now) }
+{
+    let index = Index::new(alloc, program)?;
+    replay_by(alloc, &PlainRunner, &index, start, trace, schedule)
+}
+
+/// Replays a schedule against a trace, moment by moment, from what these objects hold; the offset
 /// of its first bad record stands for a schedule that can't be read.
 pub fn replay(
     alloc: Global,
     program: &Program,
-    start: Registers,
+    start: ObjectSet,
     trace: &Trace,
     schedule: Result<&Schedule, u64>,
 ) -> Result<Replayed, AllocError>
+    requires set { IsSetOf program.now start }
     requires balanced { IsBalanced trace.now }
     ensures replayed { let read = schedule_read schedule.entry in
         IfOk result (IsFinding program.now start trace.now read) }
@@ -62,7 +81,7 @@ pub fn replay(
         Ok(schedule) => schedule,
         Err(at) => return Ok(Replayed::Differs(ReplayReason::Unreadable(at))),
     };
-    match replay_by(alloc, &PlainRunner, program, start, trace, schedule)? {
+    match difference(alloc, program, start, trace, schedule)? {
         Some(reason) => Ok(Replayed::Differs(reason)),
         None => Ok(Replayed::Agrees),
     }

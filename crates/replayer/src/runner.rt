@@ -3,9 +3,9 @@ ghost use Rattle.script_meaning.specs.Conduct.{Undefined};
 ghost use Rattle.script_meaning.specs.Replay.{ending_of};
 ghost use Rattle.replayer.specs.Runners.{IsGivenAs};
 
+use script_index::Index;
 use script_tree::operation::Op;
 use script_tree::request::{Request, Response};
-use script_tree::syntax::program::Program;
 use script_tree::value::Value;
 use std::alloc::{AllocError, Global};
 
@@ -24,10 +24,10 @@ pub trait Runner {
     fn next(
         &self,
         alloc: Global,
-        program: &Program,
+        index: &Index,
         request: &Request,
         answers: &[Value],
     ) -> Result<Next, AllocError>
-        requires { ending_of program.now request.now answers.now ≢ Undefined }
-        ensures { IfOk result (IsGivenAs (ending_of program.now request.now answers.now)) };
+        requires { ending_of index.now request.now answers.now ≢ Undefined }
+        ensures { IfOk result (IsGivenAs (ending_of index.now request.now answers.now)) };
 }

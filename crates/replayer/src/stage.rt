@@ -1,58 +1,62 @@
 ghost use Rattle.std.specs.Prelude.{◌≡◌, vec_len, length, option_copied};
-ghost use Rattle.script_tree.specs.Programs.{IsBuilt};
+ghost use Rattle.script_check.specs.Validity.{IsValid};
+ghost use Rattle.object_set.specs.ObjectSets.{IsSetOf};
 ghost use Rattle.script_meaning.specs.Explains.{rid_of};
 ghost use Rattle.replayer.specs.Differences.{is_same_response};
 ghost use Rattle.replayer.specs.Standings.{AreDefined};
 
 use crate::indexed_trace::IndexedTrace;
 use crate::reason::{Reason, ReplayReason};
-use crate::registers::Registers;
 use crate::runner::{Next, Runner};
 use crate::standing::{Answers, Standing, all_away, first_not_departed, first_waiting, put_answer};
+use basis::OrMemory;
+use object_set::{ObjectSet, Refused};
+use script_index::Index;
 use script_tree::operation::Choice;
 use script_tree::request::Response;
 use script_tree::schedule::Moment;
-use script_tree::syntax::program::Program;
 use std::alloc::{AllocError, Global};
 
 /// What is kept between two moments of a schedule.
 #[derive(Drop)]
-pub struct Stage<'a> {
-    program: &'a Program,
+pub struct Stage<'a, 'p> {
+    index: &'a Index<'p>,
     trace: IndexedTrace<'a>,
-    registers: Registers,
+    objects: ObjectSet,
     /// How each request stands, at its place in the trace.
     standings: Vec<Standing>,
     /// The place in the trace of the first response whose request has not departed.
     waiting: usize,
-    ghost built: { IsBuilt program.now },
+    ghost valid: { IsValid index.now.declarations },
+    ghost set: { IsSetOf index.now objects },
     ghost sized: { vec_len standings ≡ length trace },
-    ghost defined: { AreDefined program.now trace standings.items },
+    ghost defined: { AreDefined index.now trace standings.items },
 }
 
-impl<'a> Stage<'a> {
+impl<'a, 'p> Stage<'a, 'p> {
     ghost use Rattle.std.specs.Prelude.{◌≡◌, IfOk};
     ghost use Rattle.script_tree.specs.declared.schedule.Moment.TheVariants.{Arrive, Act, Depart};
     ghost use Rattle.replayer.specs.Differences.{first_not_departed};
     ghost use Rattle.replayer.specs.Places.{IsRequestPlace};
-    ghost use Rattle.replayer.specs.Stages.{Opens, IsStageOf, Steps, StepsAt, NextAt, departed_of};
+    ghost use Rattle.replayer.specs.Stages.{Opens, IsStageOf, Steps, StepsAt, NextAt, WantsWhatFits, departed_of};
 
-    /// Before the first moment, where the registers hold this.
+    /// Before the first moment, where the objects hold this.
     pub fn new(
         alloc: Global,
-        program: &'a Program,
-        start: Registers,
+        index: &'a Index<'p>,
+        start: ObjectSet,
         trace: IndexedTrace<'a>,
-    ) -> Result<Stage<'a>, AllocError>
-        ensures { IfOk result (Opens program.now start trace.entry) }
+    ) -> Result<Stage<'a, 'p>, AllocError>
+        requires { IsSetOf index.now start }
+        ensures { IfOk result (Opens index.now start trace.entry) }
     {
-        let _declarations = program.declarations();
+        let _declarations = index.program().declarations();
         let standings = all_away(alloc, trace.events().len())?;
         let waiting = first_waiting(&trace, &standings, 0);
         Ok(Stage {
-            program,
+            index,
             trace,
-            registers: start,
+            objects: start,
             standings,
             waiting,
         })
@@ -66,7 +70,7 @@ impl<'a> Stage<'a> {
         moment: Moment,
     ) -> Result<Option<Reason>, AllocError>
         ensures step { IfOk result (Steps moment self.old self.new) }
-        ensures same { IsStageOf self.old.program.now self.old.trace self.new }
+        ensures same { IsStageOf self.old.index.now self.old.trace self.new }
     {
         let Some(place) = self.trace.place(rid_of(moment)) else {
             return Ok(Some(Reason::UnknownRequest));
@@ -81,7 +85,7 @@ impl<'a> Stage<'a> {
     fn arrive(&mut self, alloc: Global, place: usize) -> Option<Reason>
         requires { IsRequestPlace self.old.trace place }
         ensures step { StepsAt place (λ r. Arrive r) self.old self.new result }
-        ensures same { IsStageOf self.old.program.now self.old.trace self.new }
+        ensures same { IsStageOf self.old.index.now self.old.trace self.new }
     {
         let Standing::Away = &self.standings[place] else {
             return Some(Reason::SecondArrival);
@@ -102,17 +106,18 @@ impl<'a> Stage<'a> {
     ) -> Result<Option<Reason>, AllocError>
         requires { IsRequestPlace self.old.trace place }
         ensures step { IfOk result (StepsAt place (λ r. Act r choice) self.old self.new) }
-        ensures same { IsStageOf self.old.program.now self.old.trace self.new }
+        ensures same { IsStageOf self.old.index.now self.old.trace self.new }
     {
         let op = match self.next_at(alloc, runner, place)? {
             Some(Next::Wants(op)) => op,
             Some(Next::Ends(_)) => return Ok(Some(Reason::RunEnds)),
             None => return Ok(Some(Reason::NotOpen)),
         };
-        if !Registers::take(choice) {
-            return Ok(Some(Reason::BadChoice));
-        }
-        let answer = self.registers.act(op)?;
+        let answer = match self.objects.apply(&op, choice) {
+            Ok(answer) => answer,
+            Err(OrMemory::Other(Refused)) => return Ok(Some(Reason::BadChoice)),
+            Err(OrMemory::Memory) => return Err(AllocError),
+        };
         put_answer(&mut self.standings, place, answer)?;
         Ok(None)
     }
@@ -125,7 +130,7 @@ impl<'a> Stage<'a> {
     ) -> Result<Option<Reason>, AllocError>
         requires { IsRequestPlace self.old.trace place }
         ensures step { IfOk result (StepsAt place (λ r. Depart r) self.old self.new) }
-        ensures same { IsStageOf self.old.program.now self.old.trace self.new }
+        ensures same { IsStageOf self.old.index.now self.old.trace self.new }
     {
         let response = match self.next_at(alloc, runner, place)? {
             Some(Next::Ends(response)) => response,
@@ -148,7 +153,8 @@ impl<'a> Stage<'a> {
         place: usize,
     ) -> Result<Option<Next>, AllocError>
         requires { IsRequestPlace self.now.trace place }
-        ensures { IfOk result (NextAt place self.now) }
+        ensures next { IfOk result (NextAt place self.now) }
+        ensures fits { IfOk result (WantsWhatFits self.now) }
     {
         let Standing::Open(answers) = &self.standings[place] else {
             return Ok(None);
@@ -156,7 +162,8 @@ impl<'a> Stage<'a> {
         let Some(request) = self.trace.request(place) else {
             return Ok(None);
         };
-        let next = runner.next(alloc, self.program, request, answers.as_slice())?;
+        request.keeps_limits();
+        let next = runner.next(alloc, self.index, request, answers.as_slice())?;
         Ok(Some(next))
     }
 

@@ -1,12 +1,13 @@
 use crate::reason::{Reason, ReplayReason};
-use crate::registers::Registers;
 use crate::replay::replay_by;
 use crate::runner::{Next, Runner};
+use object_set::ObjectSet;
+use script_check::program::check;
+use script_index::Index;
 use script_tree::operation::Choice;
 use script_tree::request::{Parameters, Request, Response};
 use script_tree::schedule::{Moment, Schedule};
 use script_tree::syntax::declaration::Tree;
-use script_tree::syntax::program::Program;
 use script_tree::text::Text;
 use script_tree::trace::{Trace, TraceEvent};
 use script_tree::value::Value;
@@ -17,7 +18,7 @@ use std::test::Fail;
 struct Idle;
 
 impl Runner for Idle {
-    fn next(&self, _: Global, _: &Program, _: &Request, _: &[Value]) -> Result<Next, AllocError> {
+    fn next(&self, _: Global, _: &Index, _: &Request, _: &[Value]) -> Result<Next, AllocError> {
         Err(AllocError)
     }
 }
@@ -57,17 +58,14 @@ fn one_after_the_other(alloc: Global) -> Result<Trace, Fail> {
 }
 
 fn played(alloc: Global, moments: &[Moment]) -> Result<Option<ReplayReason>, Fail> {
-    let program = Program::from_tree(Tree::from_vec(Vec::new(alloc))).ok_or("too many pages")?;
+    let Ok(program) = check(alloc, Tree::from_vec(Vec::new(alloc))) else {
+        return Err(AllocError.into());
+    };
+    let start = ObjectSet::new(alloc, program.declarations())?;
     let trace = one_after_the_other(alloc)?;
     let schedule = Schedule::from_vec(Vec::from_slice(alloc, moments)?);
-    Ok(replay_by(
-        alloc,
-        &Idle,
-        &program,
-        Registers::new(alloc),
-        &trace,
-        &schedule,
-    )?)
+    let index = Index::new(alloc, &program)?;
+    Ok(replay_by(alloc, &Idle, &index, start, &trace, &schedule)?)
 }
 
 fn at(reason: Reason, moment: u64, rid: u32) -> Option<ReplayReason> {

@@ -4,4 +4,3 @@ mod HitRows
 mod LongRows
 pub mod Programs
 mod RuleRows
-pub mod Straight

@@ -1,6 +1,6 @@
 ghost use Rattle.std.specs.Prelude.{◌≡◌};
 ghost use Rattle.std.specs.List.{list_all};
-ghost use Rattle.script_tree.specs.Requests.{request_with, IsRequestOf};
+ghost use Rattle.script_tree.specs.Requests.{request_with, IsRequestOf, IsRequestWithinLimits};
 ghost use Rattle.script_tree.specs.Requests.{text_fits, parameter_fits, parameters_fit};
 
 use crate::limits::{MOST_PARAMETERS, MOST_REQUEST_TEXT_BYTES};
@@ -94,6 +94,13 @@ impl Request {
         } else {
             None
         }
+    }
+
+    /// Its texts and its parameters are within the limits of a request.
+    pub fn keeps_limits(&self)
+        ensures { IsRequestWithinLimits self.now }
+    {
+        let _ = &self.body;
     }
 
     pub fn method(&self) -> &Text

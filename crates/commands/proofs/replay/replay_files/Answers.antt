@@ -1,5 +1,5 @@
 use Rattle.std.proofs.Common.{◌∙◌, ap, inr}
-use Rattle.replayer.specs.OnRegisters.{objects_of}
+use Rattle.object_set.specs.ObjectSets.{objects_of}
 use Rattle.commands.specs.Lines.{finding_of}
 use Rattle.commands.specs.NamesView.{names_of}
 use Rattle.commands.specs.Outcome.{IsFound, WithProgram, WithState, WithTrace}
@@ -9,7 +9,7 @@ use Rattle.commands.proofs.replay.replay_files.Goals as goal
 
 pub returns-in_err-trace-clause-answer : goal.returns-in_err-trace-clause-answer
 returns-in_err-trace-clause-answer g c = λ files told.
-    let told' = c.read_straight_line.ensures.used.files ∙ told in
+    let told' = c.read_program.ensures.used.files ∙ told in
     let told'' = c.read_state.ensures.used.files ∙ told' in
     let program = c.in_ok-program.ensures.read files told in
     let start = c.in_ok-start.ensures.read files told' in
@@ -22,7 +22,7 @@ returns-in_err-trace-clause-answer g c = λ files told.
 
 pub returns-in_err-schedule-clause-answer : goal.returns-in_err-schedule-clause-answer
 returns-in_err-schedule-clause-answer g c = λ files told.
-    let told' = c.read_straight_line.ensures.used.files ∙ told in
+    let told' = c.read_program.ensures.used.files ∙ told in
     let told'' = c.read_state.ensures.used.files ∙ told' in
     let told3 = c.read_trace.ensures.used.files ∙ told'' in
     let program = c.in_ok-program.ensures.read files told in
@@ -39,7 +39,7 @@ returns-in_err-schedule-clause-answer g c = λ files told.
 
 pub returns-in-Ok-clause-answer : goal.returns-in-Ok-clause-answer
 returns-in-Ok-clause-answer g c = λ files told.
-    let told' = c.read_straight_line.ensures.used.files ∙ told in
+    let told' = c.read_program.ensures.used.files ∙ told in
     let told'' = c.read_state.ensures.used.files ∙ told' in
     let told3 = c.read_trace.ensures.used.files ∙ told'' in
     let program = c.in_ok-program.ensures.read files told in
@@ -51,7 +51,7 @@ returns-in-Ok-clause-answer g c = λ files told.
 
 pub returns-clause-answer : goal.returns-clause-answer
 returns-clause-answer g c = λ files told.
-    let told' = c.read_straight_line.ensures.used.files ∙ told in
+    let told' = c.read_program.ensures.used.files ∙ told in
     let told'' = c.read_state.ensures.used.files ∙ told' in
     let told3 = c.read_trace.ensures.used.files ∙ told'' in
     let program = c.in_ok-program.ensures.read files told in

@@ -3,7 +3,7 @@ use Rattle.std.proofs.lemmas.List.{take_more, drop_more, length-take-le, drop_al
 use Rattle.script_tree.specs.declared.schedule.Moment.TheVariants.{Arrive}
 use Rattle.script_meaning.specs.Replay.{opening, after}
 use Rattle.replayer.specs.Differences.{difference_from, difference_of}
-use Rattle.replayer.specs.OnRegisters.{objects_of}
+use Rattle.object_set.specs.ObjectSets.{objects_of}
 use Rattle.replayer.specs.Stages.{Shows, departed_of}
 use Rattle.replayer.specs.declared.reason.ReplayReason.TheVariants.{AtMoment}
 use Rattle.replayer.proofs.StageFacts.{stops_here, ends_here, steps_on, opens_with}
@@ -15,8 +15,8 @@ loop-place-init g c =
     let ms = c.as_slice-moments.result.now in (
       opening objects,
       c.in_ok-stage.ensures.shown,
-      ap (λ es. difference_of c.args.program.now objects es ms) (sym (c.in_ok-events.ensures ∙ c.as_slice.ensures))
-          ∙ opens_with c.args.program.now c.args.start c.in_ok-events.events c.in_ok-stage.stage ms c.in_ok-stage.ensures,
+      ap (λ es. difference_of c.args.index.now objects es ms) (sym (c.in_ok-events.ensures ∙ c.as_slice.ensures))
+          ∙ opens_with c.args.index.now c.args.start c.in_ok-events.events c.in_ok-stage.stage ms c.in_ok-stage.ensures,
     )
 
 pub returns-in-Some : goal.returns-in-Some
@@ -28,12 +28,12 @@ returns-in-Some g c =
     let inside : place < length ms = c.loop-place-test.true in
     let shown = c.loop-place.invariant in
     let s = c.in_ok-reason.ensures.step (take place ms) shown.0 shown.1 in
-    let stop = ap (difference_from stage.program.now stage.trace (take place ms) shown.0) (drop_more ms place (Arrive 0) inside) ∙ stops_here stage.program.now stage.trace (take place ms) shown.0 m (drop (place + 1) ms) c.in-Some.reason (s.named ∙ c.in-Some.is) in
+    let stop = ap (difference_from stage.index.now stage.trace (take place ms) shown.0) (drop_more ms place (Arrive 0) inside) ∙ stops_here stage.index.now stage.trace (take place ms) shown.0 m (drop (place + 1) ms) c.in-Some.reason (s.named ∙ c.in-Some.is) in
     let long : length (take place ms) ≡ place = length-take-le place ms (omega arith) in
     ap (λ k. Some (AtMoment c.in-Some.reason k c.rid_of.result)) (sym long)
     ∙ ap (λ r. Some (AtMoment c.in-Some.reason (length (take place ms)) r)) c.rid_of.ensures
     ∙ sym stop ∙ sym shown.2
-    ∙ ap (difference_of c.args.program.now (objects_of c.args.start) c.args.trace.now) c.as_slice-moments.ensures
+    ∙ ap (difference_of c.args.index.now (objects_of c.args.start) c.args.trace.now) c.as_slice-moments.ensures
 
 pub loop-place-preserved : goal.loop-place-preserved
 loop-place-preserved g c =
@@ -44,14 +44,14 @@ loop-place-preserved g c =
     let inside : place < length ms = c.loop-place-test.true in
     let shown = c.loop-place.invariant in
     let s = c.in_ok-reason.ensures.step (take place ms) shown.0 shown.1 in
-    let next = after stage.program.now stage.trace shown.0 m in
+    let next = after stage.index.now stage.trace shown.0 m in
     let taken : take (place + 1) ms ≡ take place ms ++ m ∷ [] = take_more ms place (Arrive 0) inside in (
       next,
       subst (λ past. Shows past next c.step.new.self) (sym taken) (s.shown c.in_default.is),
       steps_on _ stage c.step.new.self (take place ms) shown.0 m (drop (place + 1) ms)
-          (shown.2 ∙ ap (difference_from stage.program.now stage.trace (take place ms) shown.0) (drop_more ms place (Arrive 0) inside))
+          (shown.2 ∙ ap (difference_from stage.index.now stage.trace (take place ms) shown.0) (drop_more ms place (Arrive 0) inside))
           c.in_ok-reason.ensures.same (s.named ∙ c.in_default.is)
-          ∙ ap (λ past. difference_from c.step.new.self.program.now c.step.new.self.trace past next (drop (place + 1) ms)) (sym taken),
+          ∙ ap (λ past. difference_from c.step.new.self.index.now c.step.new.self.trace past next (drop (place + 1) ms)) (sym taken),
     )
 
 pub returns : goal.returns
@@ -62,7 +62,7 @@ returns g c =
     let shown = c.loop-place.invariant in
     let none : drop place ms ≡ [] = drop_all place ms c.loop-place-test.false in
     c.first_not_departed.ensures
-    ∙ sym (ends_here stage.program.now stage.trace (take place ms) shown.0 (departed_of stage) shown.1.departed)
-    ∙ ap (difference_from stage.program.now stage.trace (take place ms) shown.0) (sym none)
+    ∙ sym (ends_here stage.index.now stage.trace (take place ms) shown.0 (departed_of stage) shown.1.departed)
+    ∙ ap (difference_from stage.index.now stage.trace (take place ms) shown.0) (sym none)
     ∙ sym shown.2
-    ∙ ap (difference_of c.args.program.now (objects_of c.args.start) c.args.trace.now) c.as_slice-moments.ensures
+    ∙ ap (difference_of c.args.index.now (objects_of c.args.start) c.args.trace.now) c.as_slice-moments.ensures

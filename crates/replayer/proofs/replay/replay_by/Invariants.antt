@@ -1,7 +1,7 @@
 use Rattle.std.proofs.Common.{◌≡◌, take, drop}
 use Rattle.script_meaning.specs.Replay.{Scene}
 use Rattle.replayer.specs.Differences.{difference_from, difference_of}
-use Rattle.replayer.specs.OnRegisters.{objects_of}
+use Rattle.object_set.specs.ObjectSets.{objects_of}
 use Rattle.replayer.specs.Stages.{Shows}
 use Rattle.replayer.proofs.replay.replay_by.Given as goal
 
@@ -9,4 +9,4 @@ use Rattle.replayer.proofs.replay.replay_by.Given as goal
 abbrev pub invariant-loop-place : goal.invariant-loop-place
 invariant-loop-place g l =
     (scene : Scene) × Shows (take l.place l.moments) scene l.stage
-    × (difference_of l.program (objects_of l.fn.start) l.trace l.moments ≡ difference_from l.stage.program.now l.stage.trace (take l.place l.moments) scene (drop l.place l.moments))
+    × (difference_of l.fn.index (objects_of l.fn.start) l.trace l.moments ≡ difference_from l.stage.index.now l.stage.trace (take l.place l.moments) scene (drop l.place l.moments))

@@ -3,12 +3,11 @@ use Rattle.std.proofs.lemmas.Result.{err_from_is_err_and}
 use Rattle.script_tree.specs.Declarations.{callee_in}
 use Rattle.script_tree.specs.ExpressionView.{condition_of, assignment_of}
 use Rattle.script_tree.specs.ExpressionWeight.{query_list_weight, condition_list_weight, assignment_list_weight}
-use Rattle.script_tree.specs.Programs.{program_of}
 use Rattle.script_tree.specs.SyntaxLists.{statements_of}
 use Rattle.script_meaning.specs.Evaluate.{on, back}
 use Rattle.script_meaning.specs.Run.{goes}
 use Rattle.page_walker.specs.Flows.{flow_of}
-use Rattle.page_walker.specs.Found.{function_of}
+use Rattle.script_index.specs.Found.{function_of}
 use Rattle.page_walker.specs.Frames.{call_at}
 use Rattle.page_walker.specs.Gives.{GivesValue}
 use Rattle.page_walker.specs.Nodes.{block_nodes}
@@ -170,5 +169,5 @@ eval_call-returns-in-Builtin t c =
     let p = c.args.run.now in
     let f = c.args.self.now in
     let name = c.args.name.now in
-    let same = c.in-Builtin.ensures.callee ∙ ap (λ ds. callee_in (program_of ds) name) c.declarations.ensures.declarations in
+    let same = c.in-Builtin.ensures.callee ∙ ap (λ program. callee_in program name) c.index.ensures in
     λ at. subst (λ callee. GivesValue c.call_builtin.result c.call_builtin.new.run (call_at f c.args.variables.now callee c.args.operands.now p)) same c.call_builtin.ensures

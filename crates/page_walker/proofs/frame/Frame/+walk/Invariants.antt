@@ -8,7 +8,7 @@ use Rattle.script_tree.specs.SyntaxLists.{statements_of}
 use Rattle.script_meaning.specs.Evaluate.{exec}
 use Rattle.script_meaning.specs.Run.{after, give}
 use Rattle.script_values.specs.Queries.{unchecked_of}
-use Rattle.page_walker.specs.Found.{table_of}
+use Rattle.script_index.specs.Found.{table_of}
 use Rattle.page_walker.specs.Frames.{later_in, nodes_left, values_at, all_operands_at, tests_at, changes_at, block_at, turns_at}
 use Rattle.page_walker.specs.Nodes.{statement_nodes, else_nodes, block_nodes}
 use Rattle.page_walker.proofs.frame.Frame.+walk.Given as goal

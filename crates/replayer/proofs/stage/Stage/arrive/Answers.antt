@@ -34,9 +34,9 @@ invariant_of-self-clause-defined c =
     let ss = stage.standings.items in
     let inside : c.args.place < length ss = omega (arith, c.requires.within, stage.sized, stage.standings.ok.0) in
     let P : List Datum → Type 0 = λ ds. Puts stage.trace ss (set ss c.args.place (Open c.new.result)) c.requires.rid (Open ds) in
-    defined_more stage.program.now stage.trace ss (set ss c.args.place (Open c.new.result)) c.requires.rid (Open []) stage.defined
+    defined_more stage.index.now stage.trace ss (set ss c.args.place (Open c.new.result)) c.requires.rid (Open []) stage.defined
     (subst P c.new.ensures (puts_at stage.trace ss c.requires.rid c.args.place (Open c.new.result) c.requires.stands inside))
-    (λ q ds known is_open. begun_defined stage.program.now stage.built q ds is_open)
+    (λ q ds known is_open. begun_defined stage.index.now q ds is_open)
 
 pub returns-clause-step : goal.returns-clause-step
 returns-clause-step c = λ r here past scene h.
@@ -50,5 +50,5 @@ returns-clause-step c = λ r here past scene h.
     let puts : P [] = subst P c.new.ensures (puts_at stage.trace ss r c.args.place (Open c.new.result) here inside) in
     record {
       named = fault_is stage.trace past r false new (sym early ∙ not_below stage.waiting c.args.place c.if-self-place.false);
-      shown = λ e. shows_arrival stage.program.now stage.trace past scene (kept_of stage) r _ h away puts refl refl;
+      shown = λ e. shows_arrival stage.index.now stage.trace past scene (kept_of stage) r _ h away puts refl refl;
     }

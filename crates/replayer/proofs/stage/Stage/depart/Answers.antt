@@ -17,12 +17,12 @@ returns-clause-step g c = λ r here past scene h.
     let inside : c.args.place < length ss = omega (arith, c.requires.within, stage.sized, stage.standings.ok.0) in
     let response = c.in-Some-Ends.response in
     let answers = answers_in (standing_of stage r) in
-    let k : (x : Ending) × (ending_with stage.program.now (request_of stage.trace r) answers ≡ Some x) × ((path : Path) × (x ≡ Ends response path)) = (rw (c.in-Some-Ends.is, c.in-Some-Ends.field-0-is) at c.in_ok-response.ensures) r here in
-    let e : ending_with stage.program.now (request_of stage.trace r) answers ≡ Some (Ends response k.2.0) = k.1 ∙ ap Some k.2.1 in
-    let w = opened stage.program.now (request_of stage.trace r) answers (Ends response k.2.0) e in
-    let next : next_of stage.program.now stage.trace scene r ≡ Some (Ends response k.2.0) = ap (ending_with stage.program.now (request_of stage.trace r)) (h.answers r) ∙ e in
+    let k : (x : Ending) × (ending_with stage.index.now (request_of stage.trace r) answers ≡ Some x) × ((path : Path) × (x ≡ Ends response path)) = (rw (c.in-Some-Ends.is, c.in-Some-Ends.field-0-is) at c.in_ok-response.ensures.next) r here in
+    let e : ending_with stage.index.now (request_of stage.trace r) answers ≡ Some (Ends response k.2.0) = k.1 ∙ ap Some k.2.1 in
+    let w = opened stage.index.now (request_of stage.trace r) answers (Ends response k.2.0) e in
+    let next : next_of stage.index.now stage.trace scene r ≡ Some (Ends response k.2.0) = ap (ending_with stage.index.now (request_of stage.trace r)) (h.answers r) ∙ e in
     record {
-      named = departure_told stage.program.now stage.trace scene r response k.2.0 true next (ap (is_same_response response) (sym (c.response.ensures r here)) ∙ sym c.is_same_response.ensures ∙ c.if-not-is_same_response.false);
-      shown = λ _. shows_departure stage.program.now stage.trace past scene (kept_of stage) r w.1 _ h w.3 (puts_at stage.trace ss r c.args.place Departed here inside) refl
+      named = departure_told stage.index.now stage.trace scene r response k.2.0 true next (ap (is_same_response response) (sym (c.response.ensures r here)) ∙ sym c.is_same_response.ensures ∙ c.if-not-is_same_response.false);
+      shown = λ _. shows_departure stage.index.now stage.trace past scene (kept_of stage) r w.1 _ h w.3 (puts_at stage.trace ss r c.args.place Departed here inside) refl
           (c.first_waiting-self.ensures ∙ ap (λ xs. stage.waiting + first_waiting (departed_in stage.trace xs) (drop stage.waiting stage.trace)) c.deref.ensures.value);
     }

@@ -2,6 +2,7 @@ use Rattle.std.proofs.Common.{◌≡◌, ◌∙◌, ◌<◌, Some, length, ap, s
 use Rattle.script_tree.specs.Traces.{request_of}
 use Rattle.replayer.specs.Standings.{answers_in}
 use Rattle.replayer.specs.Stages.{standing_of}
+use Rattle.replayer.proofs.Sets.{wants_what_fits}
 use Rattle.replayer.proofs.StageFacts.{stands_in}
 use Rattle.replayer.proofs.stage.Stage.next_at.Goals as goal
 
@@ -14,3 +15,6 @@ next-requires g c =
     let open_ : answers_in (standing_of stage rid) ≡ Some c.as_slice.result.now = ap answers_in (stands ∙ c.in-Open.is) ∙ ap (λ ds. Some ds) (sym c.as_slice.ensures) in
     let known : request_of stage.trace rid ≡ Some c.in-Some.request.now = sym (c.request.ensures rid c.requires.stands) ∙ ap option_copied c.in-Some.is in
     stage.defined rid c.in-Some.request.now c.as_slice.result.now known open_
+
+pub returns-clause-fits : goal.returns-clause-fits
+returns-clause-fits g c = wants_what_fits c.args.self.now c.in-Some.request.now c.as_slice.result.now c.in_ok-next.next c.keeps_limits.ensures c.in_ok-next.ensures

@@ -2,7 +2,7 @@ use Rattle.std.proofs.Common.{◌≡◌, ◌∙◌, ap, sym, Some, None}
 use Rattle.script_tree.specs.declared.schedule.Moment.TheVariants.{Arrive, Act, Depart}
 use Rattle.script_meaning.specs.Explains.{rid_of}
 use Rattle.replayer.specs.Places.{request_place}
-use Rattle.replayer.proofs.RegisterFacts.{IfOk-map}
+use Rattle.replayer.proofs.ResultFacts.{IfOk-map}
 use Rattle.replayer.proofs.StageFacts.{unknown_fault, known_step}
 use Rattle.replayer.proofs.stage.Stage.step.Goals as goal
 
@@ -10,7 +10,7 @@ pub returns-in_default-clause-step : goal.returns-in_default-clause-step
 returns-in_default-clause-step g c = λ past scene h.
     let stage = c.args.self.now in
     let absent : request_place stage.trace (rid_of c.args.moment) ≡ None = ap (request_place stage.trace) (sym c.rid_of.ensures) ∙ sym c.place.ensures.place ∙ c.in_default.is in
-    record { named = unknown_fault stage.program.now stage.trace past scene c.args.moment absent; shown = λ e. absurd (cc) }
+    record { named = unknown_fault stage.index.now stage.trace past scene c.args.moment absent; shown = λ e. absurd (cc) }
 
 pub returns-in-Arrive-clause-step : goal.returns-in-Arrive-clause-step
 returns-in-Arrive-clause-step g c =

@@ -1,6 +1,0 @@
-ghost use Rattle.command_inputs.specs.State.{IsReadOneWay};
-
-/// No bytes spell two states, have two least faults, or spell a state and have a fault.
-pub fn one_way()
-    ensures { IsReadOneWay }
-{}

@@ -1,0 +1,44 @@
+-- A set of a program's objects takes what fits the program, and stays one of the program.
+use Rattle.std.proofs.Common.{◌≡◌, ◌∙◌, ◌≢◌, ℕ, List, Option, Some, None, Result, Ok, Err, sym, subst}
+use Rattle.script_tree.specs.Datum.{Datum}
+use Rattle.script_tree.specs.Fit.{declares_store, table_widths}
+use Rattle.script_tree.specs.Programs.{Program}
+use Rattle.script_tree.specs.Requests.{Request, IsRequestWithinLimits}
+use Rattle.script_tree.specs.declared.operation.Act.{Act}
+use Rattle.script_tree.specs.declared.operation.Object.{Object}
+use Rattle.script_tree.specs.declared.operation.Object.TheVariants.{Register, Store, Tables, Clock, Dice}
+use Rattle.script_tree.specs.declared.operation.Op.{Op}
+use Rattle.script_check.specs.Validity.{IsValid}
+use Rattle.script_meaning.specs.Conduct.{Ending}
+use Rattle.script_meaning.specs.Replay.{ending_of}
+use Rattle.script_fit.specs.FitsOperation.{FitsAct, FitsOperation, FitsTables}
+use Rattle.script_asks.proofs.Wanted.{fits}
+use Rattle.object_cells.specs.Stores.{has_store}
+use Rattle.object_set.specs.Applied.{FitsSet, HasSame}
+use Rattle.object_set.specs.ObjectSets.{HeldObjects, IsSetOf}
+use Rattle.replayer.specs.Runners.{IsGivenAs}
+use Rattle.replayer.specs.Stages.{WantsWhatFits}
+use Rattle.replayer.specs.declared.runner.Next.{Next}
+use Rattle.replayer.specs.declared.runner.Next.TheVariants.{Wants, Ends}
+use Rattle.replayer.specs.declared.stage.Stage.{Stage}
+
+pub fits_set : (program : Program) (h : HeldObjects) (object : Object) (act : Act) → IsSetOf program h
+    → FitsAct (declares_store program.declarations) (table_widths program.declarations) object act → FitsAct (has_store h.stores) h.tables.widths object act
+fits_set program h (Register x) act of f = f
+fits_set program h (Store s) act of f = (of.stores s ∙ f.0, f.1)
+fits_set program h Tables act of f = subst (λ widths. FitsTables widths act) (sym of.widths) f
+fits_set program h Clock act of f = f
+fits_set program h Dice act of f = f
+
+pub set_stays : (program : Program) (old new : HeldObjects) → IsSetOf program old → HasSame old new → IsSetOf program new
+set_stays program old new of same = record {
+  stores = λ s. same.stores s ∙ of.stores s;
+  widths = same.widths ∙ of.widths;
+}
+
+-- what a run wants next fits
+pub wants_what_fits : (stage : Stage) (request : Request) (answers : List Datum) (next : Next) → IsRequestWithinLimits request
+    → IsGivenAs (ending_of stage.index.now request answers) next → WantsWhatFits stage (Some next)
+unfolding ending_of
+wants_what_fits stage request answers (Wants op) short given = fits stage.index.now request answers op stage.valid short given
+wants_what_fits stage request answers (Ends response) short given = tt

@@ -1,0 +1,7 @@
+pub mod Cells
+pub mod Entries
+pub mod Members
+pub mod ReadOneWay
+pub mod Rows
+pub mod Tables
+pub mod Whole

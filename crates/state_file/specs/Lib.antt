@@ -1,0 +1,11 @@
+pub mod FaultTexts
+pub mod Faults
+pub mod Givens
+pub mod Puts
+pub mod Starts
+pub mod States
+pub mod Stored
+pub mod TableNumbers
+pub mod TablesView
+pub mod Texts
+pub mod Values

@@ -1,0 +1,17 @@
+//! The state that a program starts with, as a JSON file: docs/formats.md, "State".
+#![tactic(auto)]
+
+mod declared_tables;
+pub mod fault;
+pub mod given;
+pub mod law;
+mod limits;
+pub mod state;
+mod stored;
+#[cfg(test)]
+mod tests;
+mod text;
+mod value;
+
+pub use fault::StateFault;
+pub use state::read_state;

@@ -1,0 +1,264 @@
+ghost use Rattle.std.specs.Prelude.{◌≡◌, ◌<◌, ℕ, List, [], length, true, not, is_some};
+ghost use Rattle.std.specs.Prelude.{Some, None, IfOk, OnOk};
+ghost use Rattle.std.specs.Bool.{OnTrue};
+ghost use Rattle.std.specs.List.{list_all};
+ghost use Rattle.std.specs.Map.{keys_of};
+ghost use Rattle.basis.specs.Lists.{nth};
+ghost use Rattle.basis.specs.UnlessMemory.{UnlessMemory};
+ghost use Rattle.object_cells.specs.Stores.{has_store, held_in, AreEmpty};
+ghost use Rattle.object_set.specs.ObjectSets.{IsSetOf, IsEmptySet};
+ghost use Rattle.script_tree.specs.Declarations.{table_from};
+ghost use Rattle.script_tree.specs.Fit.{table_widths};
+ghost use Rattle.script_tree.specs.Programs.{program_of};
+ghost use Rattle.script_tree.specs.declared.limits.TheConstants.{TOO_MANY_DECLARATIONS};
+ghost use Rattle.state_file.specs.Faults.{are_declared, are_within_limits, is_storable};
+ghost use Rattle.state_file.specs.Faults.{are_entries_within_limits, are_rows_within_limits};
+ghost use Rattle.state_file.specs.Faults.{is_row_within_limits, some_key_is_twice};
+ghost use Rattle.state_file.specs.Puts.{PutsRegisters, PutsCells, PutsStores};
+ghost use Rattle.state_file.specs.Puts.{ChangesTables, if_done};
+ghost use Rattle.state_file.specs.Starts.{IsStored, Holds};
+ghost use Rattle.state_file.specs.States.{HasGivenFault};
+ghost use Rattle.state_file.specs.Stored.{has_twice, StandOnce, is_row_of, is_text};
+ghost use Rattle.state_file.specs.Stored.{with_row_of, with_rows, with_tables};
+
+use crate::declared_tables::{DeclaredTable, DeclaredTables};
+use crate::fault::StateFault;
+use crate::given::Given;
+use crate::limits::are_within_limits;
+use basis::{Items, OrMemory};
+use object_set::ObjectSet;
+use script_tree::syntax::declaration::Declaration;
+use script_tree::text::Text;
+use script_tree::value::{Node, Value, Values};
+use std::alloc::{AllocError, Global};
+
+/// The objects of a program of these declarations that hold what is given.
+pub fn stored(
+    alloc: Global,
+    declarations: &[Declaration],
+    given: Given,
+) -> Result<ObjectSet, OrMemory<StateFault>>
+    requires few { length declarations.now < TOO_MANY_DECLARATIONS }
+    requires once { StandOnce given.stores }
+    ensures { let program = program_of declarations.now in
+        UnlessMemory (IsStored program given) (HasGivenFault program given) result }
+{
+    let mut objects = ObjectSet::new(alloc, declarations)?;
+    let tables = DeclaredTables::new(alloc, declarations)?;
+    if !are_declared(&objects, &tables, &given) {
+        return Err(OrMemory::Other(StateFault::Undeclared));
+    }
+    if !are_within_limits(&given) {
+        return Err(OrMemory::Other(StateFault::BeyondLimit));
+    }
+    if put_all(&mut objects, &tables, given)? {
+        Ok(objects)
+    } else {
+        Err(OrMemory::Other(StateFault::Unstorable))
+    }
+}
+
+/// Whether the stores and the tables that are given are there.
+fn are_declared(objects: &ObjectSet, tables: &DeclaredTables, given: &Given) -> bool
+    requires { IsSetOf (program_of tables.now) objects.now }
+    ensures { result ≡ are_declared (program_of tables.now) given.now }
+{
+    are_stores_there(objects, given.stores.as_slice())
+        && are_tables_there(tables, given.tables.as_slice())
+}
+
+fn are_stores_there(objects: &ObjectSet, stores: &[(Text, Items<(Text, Value)>)]) -> bool
+    ensures { result ≡ list_all (λ s. has_store objects.now.stores s.0) stores.now }
+{
+    for store in stores {
+        if objects.store(&store.0).is_none() {
+            return false;
+        }
+    }
+    true
+}
+
+fn are_tables_there(declared: &DeclaredTables, tables: &[(Text, Items<Values>)]) -> bool
+    ensures { result ≡ list_all (λ t. is_some (table_from 0 t.0 declared.now)) tables.now }
+{
+    for table in tables {
+        if declared.get(&table.0).is_none() {
+            return false;
+        }
+    }
+    true
+}
+
+/// Stores what is given, and tells whether all of it could be stored.
+fn put_all(
+    objects: &mut ObjectSet,
+    tables: &DeclaredTables,
+    given: Given,
+) -> Result<bool, AllocError>
+    requires empty { IsEmptySet objects.old }
+    requires set { IsSetOf (program_of tables.now) objects.old }
+    requires once { StandOnce given.stores }
+    requires declared { are_declared (program_of tables.now) given ≡ true }
+    requires within { are_within_limits given ≡ true }
+    ensures done { IfOk result (λ done. done ≡ is_storable (program_of tables.now) given) }
+    ensures put { IfOk result (λ done. OnTrue done
+        (Holds (program_of tables.now) given objects.new)) }
+{
+    let Given {
+        registers,
+        stores,
+        tables: rows,
+        clock,
+    } = given;
+    if !put_registers(objects, registers.into_vec())? {
+        return Ok(false);
+    }
+    if !put_stores(objects, stores.into_vec())? {
+        return Ok(false);
+    }
+    if !put_tables(objects, tables, rows.into_vec())? {
+        return Ok(false);
+    }
+    objects.set_clock(clock);
+    Ok(true)
+}
+
+/// Gives registers their values, and tells whether none is given twice.
+fn put_registers(
+    objects: &mut ObjectSet,
+    mut registers: Vec<(Text, Value)>,
+) -> Result<bool, AllocError>
+    requires empty { objects.old.registers ≡ [] }
+    requires within { are_entries_within_limits registers.items ≡ true }
+    ensures done { IfOk result (λ done. done ≡ not (has_twice (keys_of registers.items))) }
+    ensures put { IfOk result (λ done. OnTrue done
+        (PutsRegisters registers.items objects.old objects.new)) }
+{
+    while let Some((name, value)) = registers.pop() {
+        if objects.put_register(name, value)? {
+            return Ok(false);
+        }
+    }
+    Ok(true)
+}
+
+/// The same of stores and their keys.
+fn put_stores(
+    objects: &mut ObjectSet,
+    mut stores: Vec<(Text, Items<(Text, Value)>)>,
+) -> Result<bool, AllocError>
+    requires empty { AreEmpty objects.old.stores }
+    requires there { list_all (λ s. has_store objects.old.stores s.0) stores.items ≡ true }
+    requires once { StandOnce stores.items }
+    requires within { list_all (λ s. are_entries_within_limits s.1) stores.items ≡ true }
+    ensures done { IfOk result (λ done. done ≡ not (some_key_is_twice stores.items)) }
+    ensures put { IfOk result (λ done. OnTrue done
+        (PutsStores stores.items objects.old objects.new)) }
+{
+    while let Some((name, entries)) = stores.pop() {
+        if !put_cells(objects, &name, entries.into_vec())? {
+            return Ok(false);
+        }
+    }
+    Ok(true)
+}
+
+/// The same of one store's keys.
+fn put_cells(
+    objects: &mut ObjectSet,
+    store: &Text,
+    mut entries: Vec<(Text, Value)>,
+) -> Result<bool, AllocError>
+    requires there { has_store objects.old.stores store.now ≡ true }
+    requires empty { (k : List ℕ) → held_in objects.old.stores store.now k ≡ None }
+    requires within { are_entries_within_limits entries.items ≡ true }
+    ensures done { IfOk result (λ done. done ≡ not (has_twice (keys_of entries.items))) }
+    ensures put { IfOk result (λ done. OnTrue done
+        (PutsCells store.now entries.items objects.old objects.new)) }
+{
+    while let Some((key, value)) = entries.pop() {
+        if objects.put_cell(store, key, value)? {
+            return Ok(false);
+        }
+    }
+    Ok(true)
+}
+
+/// Adds rows to tables, and tells whether each is one of its table with a key of its own.
+fn put_tables(
+    objects: &mut ObjectSet,
+    declared: &DeclaredTables,
+    tables: Vec<(Text, Items<Values>)>,
+) -> Result<bool, AllocError>
+    requires widths { objects.old.tables.widths ≡ table_widths declared.now }
+    requires within { list_all (λ t. are_rows_within_limits t.1) tables.items ≡ true }
+    ensures put { let old = objects.old.tables.tables in
+        IfOk result (λ done. with_tables declared.now tables.items old
+        ≡ if_done done objects.new.tables.tables) }
+    ensures others { OnOk result (ChangesTables objects.old objects.new) }
+{
+    for (name, rows) in tables {
+        let Some(table) = declared.get(&name) else {
+            return Ok(false);
+        };
+        if !put_rows(objects, table, rows.into_vec())? {
+            return Ok(false);
+        }
+    }
+    Ok(true)
+}
+
+/// The same of one table.
+fn put_rows(
+    objects: &mut ObjectSet,
+    table: DeclaredTable,
+    rows: Vec<Values>,
+) -> Result<bool, AllocError>
+    requires there { nth objects.old.tables.widths table.number ≡ Some table.width }
+    requires within { are_rows_within_limits rows.items ≡ true }
+    ensures put { let old = objects.old.tables.tables in
+        IfOk result (λ done. with_rows table.number table.width rows.items old
+        ≡ if_done done objects.new.tables.tables) }
+    ensures others { OnOk result (ChangesTables objects.old objects.new) }
+{
+    for row in rows {
+        if !put_row(objects, table, row)? {
+            return Ok(false);
+        }
+    }
+    Ok(true)
+}
+
+/// The same of one row.
+fn put_row(objects: &mut ObjectSet, table: DeclaredTable, row: Values) -> Result<bool, AllocError>
+    requires there { nth objects.old.tables.widths table.number ≡ Some table.width }
+    requires within { is_row_within_limits row ≡ true }
+    ensures put { let old = objects.old.tables.tables in
+        IfOk result (λ done. with_row_of table.number table.width row old
+        ≡ if_done done objects.new.tables.tables) }
+    ensures others { OnOk result (ChangesTables objects.old objects.new) }
+{
+    if !is_row_of(table.width, row.as_slice()) {
+        return Ok(false);
+    }
+    objects.insert_row(table.number, row)
+}
+
+/// Whether there is a value for each of so many columns, and a text for the key.
+fn is_row_of(width: usize, row: &[Value]) -> bool
+    ensures { result ≡ is_row_of width row.now }
+{
+    match row.first() {
+        Some(key) => row.len() == width && is_text(key),
+        None => false,
+    }
+}
+
+fn is_text(value: &Value) -> bool
+    ensures { result ≡ is_text value.now }
+{
+    match &value.node {
+        Node::Text(_) => true,
+        Node::Null | Node::Bool(_) | Node::Number(_) | Node::List(_) => false,
+    }
+}

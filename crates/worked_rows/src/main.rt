@@ -1,0 +1,53 @@
+//! Runs the rows of the files that lie beside it, programs that are checked and replays, each over memory, and tells
+//! those that end in another way than the row says.
+#![tactic(auto)]
+
+mod files;
+mod rows;
+mod runs;
+
+use rows::Rows;
+use runs::{checked, replayed};
+use std::alloc::Global;
+use std::fs;
+
+/// The files of rows.
+const FILES: [&str; 2] = ["checks.toml", "replays.toml"];
+
+/// Tells whether the row ends as it should, and prints it where it doesn't.
+fn is_as_wanted(rt: &impl Print, what: &str, wanted: &str, ended: &str) -> anyhow::Result<bool> {
+    if ended != wanted {
+        println!(rt; "{what}: {ended}, not {wanted}")?;
+    }
+    Ok(ended == wanted)
+}
+
+/// How many of these rows don't end as they should.
+fn differing(rt: &impl Print, alloc: Global, rows: &Rows) -> anyhow::Result<usize> {
+    let mut count = 0usize;
+    for row in &rows.checks {
+        let ended = checked(alloc, row)?;
+        if !is_as_wanted(rt, row.program.as_str(), row.ends.as_str(), ended.as_str())? {
+            count = count.saturating_add(1);
+        }
+    }
+    for row in &rows.replays {
+        let ended = replayed(alloc, row)?;
+        if !is_as_wanted(rt, row.what.as_str(), row.ends.as_str(), ended.as_str())? {
+            count = count.saturating_add(1);
+        }
+    }
+    Ok(count)
+}
+
+fn main(rt: HostRuntime) -> anyhow::Result<()> {
+    let alloc = rt.alloc();
+    for name in FILES {
+        let text = fs::read_to_string(&rt, name)?;
+        let rows: Rows = toml::from_str(alloc, text.as_str())?;
+        let count = rows.checks.len().saturating_add(rows.replays.len());
+        let differ = differing(&rt, alloc, &rows)?;
+        println!(rt; "{name}: {count} rows, {differ} differ")?;
+    }
+    Ok(())
+}

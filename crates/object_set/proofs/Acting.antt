@@ -1,12 +1,13 @@
 -- What the calls of the parts change and give is what the operations are defined to.
 use Rattle.std.proofs.Common.{◌≡◌, ◌∙◌, ℕ, ℤ, List, Bool, true, false, cond, Some, None, Result, Ok, Err, IfOk, OnErr, refl, sym, ap, subst}
+use Rattle.std.specs.declared.vec.Vec.{Vec}
 use Rattle.script_tree.specs.Datum.{Datum, null, number}
 use Rattle.script_tree.specs.Objects.{Cell, one, many, rows, reading, none, acted, plausible, is_reading, is_roll, or_null, holding, is_same}
 use Rattle.script_tree.specs.Transactions.{Row, Table, after_transaction}
 use Rattle.script_tree.specs.declared.operation.Act.{Act}
 use Rattle.script_tree.specs.declared.operation.Act.TheVariants.{Read, Write, Get, Put, Remove, Transact, Now, Roll}
 use Rattle.script_tree.specs.declared.operation.Choice.{Choice}
-use Rattle.script_tree.specs.declared.operation.Choice.TheVariants.{Number}
+use Rattle.script_tree.specs.declared.operation.Choice.TheVariants.{Nothing, Number}
 use Rattle.script_tree.specs.declared.operation.Object.{Object}
 use Rattle.script_tree.specs.declared.operation.Object.TheVariants.{Register, Store, Tables, Clock, Dice}
 use Rattle.script_tree.specs.declared.transaction.Statement.{Statement}
@@ -18,10 +19,10 @@ use Rattle.object_cells.specs.Cells.{Held, held, Changes}
 use Rattle.object_cells.specs.Stores.{HeldByName, held_in, ChangesIn}
 use Rattle.object_cells.proofs.Acts.{write_acts, put_acts, remove_acts}
 use Rattle.object_tables.specs.TableSets.{TableSet}
-use Rattle.object_tables.specs.Outcomes.{IsAnswer, IsInserted, answer_of}
+use Rattle.object_tables.specs.Answered.{Gives}
+use Rattle.object_tables.specs.Outcomes.{IsInserted}
 use Rattle.object_tables.proofs.Keeping.{row_inserted}
-use Rattle.object_tables.specs.declared.tables.Outcome.{Outcome}
-use Rattle.object_set.specs.Applied.{Does, HasSame, op_of, takes}
+use Rattle.object_set.specs.Applied.{Does, DoesTimes, HasSame, FitsSet, answer_now, op_of, takes, told}
 use Rattle.object_set.specs.ObjectSets.{HeldObjects, held_objects, objects_of}
 
 -- the same stores and tables are there where nothing changed
@@ -101,10 +102,10 @@ remove_does store key choice old new changes = record { answered = refl; left = 
 
 -- ---- tables
 
-pub transact_does : (ss : List Statement) (choice : Choice) (old : HeldObjects) (new : TableSet) (o : Outcome) → IsAnswer ss old.tables.tables new.tables o → new.widths ≡ old.tables.widths
-    → Does (op_of Tables (Transact ss)) choice old (held_objects old.registers old.stores new old.clock) (answer_of o)
+pub transact_does : (ss : List Statement) (choice : Choice) (old : HeldObjects) (new : TableSet) (answer : Datum) → after_transaction ss old.tables.tables ≡ (new.tables, answer) → new.widths ≡ old.tables.widths
+    → Does (op_of Tables (Transact ss)) choice old (held_objects old.registers old.stores new old.clock) answer
 unfolding acted
-transact_does ss choice old new o e w = record {
+transact_does ss choice old new answer e w = record {
   answered = ap (λ (r : List Table × Datum). r.1) (sym e);
   left = left;
   same = record { stores = λ s. refl; widths = w };
@@ -116,6 +117,91 @@ transact_does ss choice old new o e w = record {
     left Tables = ap (λ (r : List Table × Datum). rows r.0) (sym e)
     left Clock = refl
     left Dice = refl
+
+pub transact_times : {A E : Type 0} (count : ℕ) (ss : List Statement) (choice : Choice) (old : HeldObjects) (new : TableSet) (r : Result (Vec Datum A) E)
+    → IfOk r (Gives count ss old.tables.tables new.tables) → new.widths ≡ old.tables.widths
+    → IfOk r (DoesTimes count (op_of Tables (Transact ss)) choice old (held_objects old.registers old.stores new old.clock))
+transact_times count ss choice old new (Ok answers) gives w =
+    let answer = (after_transaction ss old.tables.tables).1 in
+    record {
+      answer = answer;
+      done = transact_does ss choice old new answer (ap (λ tables. (tables, answer)) gives.left) w;
+      given = gives.given;
+    }
+transact_times count ss choice old new (Err x) gives w = tt
+
+-- ---- answers that are known beforehand
+
+any_write : (d : Datum) (choice : Choice) (cell : Cell) → null ≡ (acted (Write d) choice cell).1
+unfolding acted
+any_write d choice (one old) = refl
+any_write d choice (many m) = refl
+any_write d choice (rows tables) = refl
+any_write d choice (reading last) = refl
+any_write d choice none = refl
+
+any_put : (k : List ℕ) (d : Datum) (choice : Choice) (cell : Cell) → null ≡ (acted (Put k d) choice cell).1
+unfolding acted
+any_put k d choice (one old) = refl
+any_put k d choice (many m) = refl
+any_put k d choice (rows tables) = refl
+any_put k d choice (reading last) = refl
+any_put k d choice none = refl
+
+any_remove : (k : List ℕ) (choice : Choice) (cell : Cell) → null ≡ (acted (Remove k) choice cell).1
+unfolding acted
+any_remove k choice (one old) = refl
+any_remove k choice (many m) = refl
+any_remove k choice (rows tables) = refl
+any_remove k choice (reading last) = refl
+any_remove k choice none = refl
+
+-- the acts that answer null
+abbrev pub IsChange : Act → Type 0
+IsChange Read = ⊥
+IsChange (Write d) = Unit {0}
+IsChange (Get k) = ⊥
+IsChange (Put k d) = Unit {0}
+IsChange (Remove k) = Unit {0}
+IsChange (Transact ss) = ⊥
+IsChange Now = ⊥
+IsChange (Roll bound) = ⊥
+
+pub changes_answer : (object : Object) (act : Act) (choice : Choice) (h : HeldObjects) → IsChange act → null ≡ answer_now object act choice h
+changes_answer object Read choice h c = absurd c
+changes_answer object (Write d) choice h c = any_write d choice (objects_of h object)
+changes_answer object (Get k) choice h c = absurd c
+changes_answer object (Put k d) choice h c = any_put k d choice (objects_of h object)
+changes_answer object (Remove k) choice h c = any_remove k choice (objects_of h object)
+changes_answer object (Transact ss) choice h c = absurd c
+changes_answer object Now choice h c = absurd c
+changes_answer object (Roll bound) choice h c = absurd c
+
+pub now_told : (object : Object) (choice : Choice) (h : HeldObjects) → FitsSet h (op_of object Now) → told choice ≡ answer_now object Now choice h
+unfolding acted
+now_told (Register x) choice h f = absurd f
+now_told (Store s) choice h f = absurd f.1
+now_told Tables choice h f = absurd f
+now_told Clock Nothing h f = refl
+now_told Clock (Number n) h f = refl
+now_told Dice choice h f = absurd f
+
+pub roll_told : (object : Object) (bound : ℤ) (choice : Choice) (h : HeldObjects) → FitsSet h (op_of object (Roll bound)) → told choice ≡ answer_now object (Roll bound) choice h
+unfolding acted
+roll_told (Register x) bound choice h f = absurd f
+roll_told (Store s) bound choice h f = absurd f.1
+roll_told Tables bound choice h f = absurd f
+roll_told Clock bound choice h f = absurd f
+roll_told Dice bound Nothing h f = refl
+roll_told Dice bound (Number n) h f = refl
+
+-- only tables are asked for a transaction
+pub transact_object : (object : Object) (ss : List Statement) (h : HeldObjects) → FitsSet h (op_of object (Transact ss)) → object ≡ Tables
+transact_object (Register x) ss h f = absurd f
+transact_object (Store s) ss h f = absurd f.1
+transact_object Tables ss h f = refl
+transact_object Clock ss h f = absurd f
+transact_object Dice ss h f = absurd f
 
 -- ---- the clock and the dice
 
@@ -145,10 +231,15 @@ unfolding plausible
 dice_take bound choice h = refl
 
 -- tables that fit stay so
-pub still_tables : (ss : List Statement) (old new : TableSet) (o : Outcome) → AreTables old.widths old.tables → FitsTransaction old.widths ss → IsAnswer ss old.tables new.tables o
+pub still_tables : (ss : List Statement) (old new : TableSet) → AreTables old.widths old.tables → FitsTransaction old.widths ss → (after_transaction ss old.tables).0 ≡ new.tables
     → new.widths ≡ old.widths → AreTables new.widths new.tables
-still_tables ss old new o a f e w =
-    subst (λ v. AreTables v new.tables) (sym w) (subst (AreTables old.widths) (ap (λ (r : List Table × Datum). r.0) e) (transacted old.widths ss old.tables a f))
+still_tables ss old new a f e w =
+    subst (λ v. AreTables v new.tables) (sym w) (subst (AreTables old.widths) e (transacted old.widths ss old.tables a f))
+
+pub tables_kept : {A E : Type 0} (count : ℕ) (ss : List Statement) (old new : TableSet) (r : Result (Vec Datum A) E) → AreTables old.widths old.tables → FitsTransaction old.widths ss
+    → IfOk r (Gives count ss old.tables new.tables) → new.widths ≡ old.widths → OnErr r (new ≡ old) → AreTables new.widths new.tables
+tables_kept count ss old new (Ok answers) a f d w e = still_tables ss old new a f d.left w
+tables_kept count ss old new (Err x) a f d w e = rw e a
 
 pub row_kept : {E : Type 0} (t : ℕ) (row : Row) (old new : TableSet) (r : Result Bool E) → AreTables old.widths old.tables → FitsRow old.widths t row
     → IfOk r (IsInserted t row old.tables new.tables) → new.widths ≡ old.widths → OnErr r (new ≡ old) → AreTables new.widths new.tables

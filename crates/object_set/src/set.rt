@@ -6,14 +6,14 @@ ghost use Rattle.script_tree.specs.Objects.{is_nothing, is_reading, is_roll, rea
 ghost use Rattle.script_tree.specs.Programs.{Program as AnyProgram, program_of};
 ghost use Rattle.script_tree.specs.declared.operation.Choice.{Choice as AnyChoice};
 ghost use Rattle.script_tree.specs.declared.operation.Choice.TheVariants.{Number};
-ghost use Rattle.script_tree.specs.declared.operation.Act.TheVariants.{Now, Roll};
+ghost use Rattle.script_tree.specs.declared.operation.Act.TheVariants.{Read, Get, Now, Roll};
 ghost use Rattle.script_tree.specs.declared.operation.Object.TheVariants.{Register as AnyRegister, Store as AnyStore, Tables as AllTables, Clock as TheClock, Dice as TheDice};
 ghost use Rattle.script_fit.specs.FitsOperation.{FitsRegister, FitsStore, FitsTables, FitsClock, FitsDice};
 ghost use Rattle.script_fit.specs.FitsTransaction.{FitsRow};
 ghost use Rattle.object_cells.specs.Cells.{held};
 ghost use Rattle.object_cells.specs.Stores.{has_store, held_in, store_of};
 ghost use Rattle.object_tables.specs.Outcomes.{answer_of};
-ghost use Rattle.object_set.specs.Applied.{FitsSet, Does, IsApplied, op_of, takes};
+ghost use Rattle.object_set.specs.Applied.{FitsSet, Does, DoesTimes, IsApplied, IsAppliedTimes, answer_now, op_of, takes, told};
 ghost use Rattle.object_set.specs.ObjectSets.{IsSetOf, IsEmptySet, objects_of};
 ghost use Rattle.object_set.specs.Stored.{PutsRegister, PutsCell, InsertsRow};
 
@@ -167,6 +167,80 @@ impl ObjectSet {
         }
     }
 
+    /// Does an operation as `apply` does, and gives its answer so many times. All of them are made
+    /// before anything changes.
+    pub fn apply_copies(
+        &mut self,
+        op: &Op,
+        choice: Choice,
+        count: usize,
+    ) -> Result<Vec<Value>, OrMemory<Refused>>
+        requires { FitsSet self.old op.now }
+        ensures { IsAppliedTimes count op.now choice self.old self.new result }
+    {
+        if !self.takes(op, choice) {
+            return Err(OrMemory::Other(Refused));
+        }
+        match &op.act {
+            Act::Read => {
+                let answer = self.read(&op.object)?;
+                self.apply_giving(op, choice, answer, count)
+            }
+            Act::Get(key) => {
+                let answer = self.get(&op.object, key)?;
+                self.apply_giving(op, choice, answer, count)
+            }
+            Act::Write(_) | Act::Put(_, _) | Act::Remove(_) => {
+                self.apply_giving(op, choice, Value::null(), count)
+            }
+            Act::Now | Act::Roll(_) => self.apply_giving(op, choice, told(choice), count),
+            Act::Transact(_) => Ok(self.on_tables_copies(&op.act, count)?),
+        }
+    }
+
+    /// Does an operation whose answer is known, and gives that so many times.
+    fn apply_giving(
+        &mut self,
+        op: &Op,
+        choice: Choice,
+        answer: Value,
+        count: usize,
+    ) -> Result<Vec<Value>, OrMemory<Refused>>
+        requires fits { FitsSet self.old op.now }
+        requires known { answer ≡ answer_now op.now.object op.now.act choice self.old }
+        ensures { IsAppliedTimes count op.now choice self.old self.new result }
+    {
+        let answers = Vec::from_elem(self.alloc, answer, count)?;
+        self.apply(op, choice)?;
+        Ok(answers)
+    }
+
+    /// What a register holds.
+    #[tactic(auto, unfolding(script_tree::specs::Objects::acted))]
+    fn read(&self, object: &Object) -> Result<Value, AllocError>
+        requires { FitsSet self.now (op_of object.now Read) }
+        ensures { (choice : AnyChoice) →
+            IfOk result (λ d. d ≡ answer_now object.now Read choice self.now) }
+    {
+        match object {
+            Object::Register(name) => self.registers.get(name),
+            Object::Store(_) | Object::Tables | Object::Clock | Object::Dice => unreachable!(),
+        }
+    }
+
+    /// What stands under a key of a store.
+    #[tactic(auto, unfolding(script_tree::specs::Objects::acted))]
+    fn get(&self, object: &Object, key: &Text) -> Result<Value, AllocError>
+        requires { FitsSet self.now (op_of object.now (Get key.now)) }
+        ensures { (choice : AnyChoice) →
+            IfOk result (λ d. d ≡ answer_now object.now (Get key.now) choice self.now) }
+    {
+        match object {
+            Object::Store(name) => self.stores.get(name, key),
+            Object::Register(_) | Object::Tables | Object::Clock | Object::Dice => unreachable!(),
+        }
+    }
+
     /// Whether the object takes the choice.
     #[tactic(auto, unfolding(script_tree::specs::Objects::plausible))]
     pub fn takes(&self, op: &Op, choice: Choice) -> bool
@@ -240,6 +314,25 @@ impl ObjectSet {
                 let outcome = self.tables.transact(self.alloc, statements)?;
                 Ok(answer_of(outcome))
             }
+            Act::Read
+            | Act::Write(_)
+            | Act::Get(_)
+            | Act::Put(_, _)
+            | Act::Remove(_)
+            | Act::Now
+            | Act::Roll(_) => unreachable!(),
+        }
+    }
+
+    /// Runs a transaction, and gives its answer so many times.
+    fn on_tables_copies(&mut self, act: &Act, count: usize) -> Result<Vec<Value>, AllocError>
+        requires { FitsTables self.old.tables.widths act.now }
+        ensures done { (choice : AnyChoice) →
+            IfOk result (DoesTimes count (op_of AllTables act.now) choice self.old self.new) }
+        ensures err { OnErr result (self.new ≡ self.old) }
+    {
+        match act {
+            Act::Transact(statements) => self.tables.transact_copies(self.alloc, statements, count),
             Act::Read
             | Act::Write(_)
             | Act::Get(_)
@@ -331,6 +424,16 @@ impl Clone for ObjectSet {
             tables: self.tables.clone()?,
             clock: self.clock,
         })
+    }
+}
+
+/// The number that was chosen.
+fn told(choice: Choice) -> Value
+    ensures { result ≡ told choice }
+{
+    match choice {
+        Choice::Nothing => Value::null(),
+        Choice::Number(number) => Value::number(number),
     }
 }
 

@@ -48,6 +48,24 @@ fn rolls_lie_below_their_bound(rt: HostRuntime) -> Result<(), Fail> {
     Ok(())
 }
 
+#[test]
+fn answers_come_as_often_as_they_are_wanted(rt: HostRuntime) -> Result<(), Fail> {
+    let alloc = rt.alloc();
+    let mut objects = ObjectSet::new(alloc, &[])?;
+    let now = Op {
+        object: Object::Clock,
+        act: Act::Now,
+    };
+    let answers = objects.apply_copies(&now, Choice::Number(5), 2);
+    let Ok(answers) = answers else {
+        return Err("no answers")?;
+    };
+    assert!(rt; answers.as_slice() == [Value::number(5), Value::number(5)].as_slice());
+    assert!(rt; objects.apply_copies(&now, Choice::Number(4), 2).is_err());
+    assert!(rt; objects.clock() == 5);
+    Ok(())
+}
+
 /// What the register `a` holds.
 fn reads(alloc: Global, objects: &mut ObjectSet) -> Result<Value, AllocError> {
     let read = Op {

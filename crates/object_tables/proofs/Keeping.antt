@@ -12,7 +12,9 @@ use Rattle.script_tree.specs.declared.transaction.Change.{Change}
 use Rattle.script_tree.specs.declared.transaction.Statement.{Statement}
 use Rattle.script_tree.specs.declared.transaction.Statement.TheVariants.{Insert, Select, Update, Delete, Expect}
 use Rattle.script_fit.specs.FitsTransaction.{FitChanges, FitsRow, FitsStatement, FitStatements, FitsTransaction}
+use Rattle.object_tables.specs.Answered.{ComesTo}
 use Rattle.object_tables.specs.Outcomes.{IsOutcome, IsInserted, with_row_at}
+use Rattle.object_tables.specs.declared.tables.Answered.{Answered}
 use Rattle.object_tables.specs.declared.tables.Outcome.{Outcome}
 use Rattle.object_tables.specs.declared.tables.Outcome.TheVariants.{Committed, Aborted}
 use Rattle.object_tables.specs.Slots.{Slots, IsText, KeepKeys, IsRunnable, AreRunnable, rows_of}
@@ -65,10 +67,10 @@ outcome_kept : (widths : List ℕ) (ss : List Statement) (old new : List Table) 
 outcome_kept widths ss old new (Committed answers) f h e = statements_kept widths ss old new _ f.1 h e
 outcome_kept widths ss old new (Aborted i) f h e = subst (AreTables widths) (sym e.1) h
 
-pub result_kept : {E : Type 0} (widths : List ℕ) (ss : List Statement) (old new : List Slots) (r : Result Outcome E) → FitsTransaction widths ss → AreTables widths (map rows_of old)
-    → IfOk r (IsOutcome ss (map rows_of old) (map rows_of new)) → OnErr r (new ≡ old) → AreTables widths (map rows_of new)
-result_kept widths ss old new (Ok o) f h d e = outcome_kept widths ss (map rows_of old) (map rows_of new) o f h d
-result_kept widths ss old new (Err x) f h d e = rw e h
+pub result_kept : {E : Type 0} (widths : List ℕ) (ss : List Statement) (old new : List Slots) (count : ℕ) (r : Result Answered E) → FitsTransaction widths ss → AreTables widths (map rows_of old)
+    → IfOk r (ComesTo count ss (map rows_of old) (map rows_of new)) → OnErr r (new ≡ old) → AreTables widths (map rows_of new)
+result_kept widths ss old new count (Ok a) f h d e = outcome_kept widths ss (map rows_of old) (map rows_of new) a.outcome f h d.outcome
+result_kept widths ss old new count (Err x) f h d e = rw e h
 
 -- ---- one table's rows, and one row more
 

@@ -1,4 +1,4 @@
-ghost use Rattle.std.specs.Prelude.{◌≡◌, ◌<◌, ◌≤◌, [], length, map, take, IfOk, OnOk, OnErr, vec_len, Ok, Some, None, if◌then◌else◌, false, IsTrue, ◌↔◌};
+ghost use Rattle.std.specs.Prelude.{◌≡◌, ◌<◌, ◌≤◌, [], length, map, take, IfOk, OnOk, OnErr, vec_len, Ok, Some, None, if◌then◌else◌, false, IsTrue, ◌↔◌, replicate};
 ghost use Rattle.script_tree.specs.Datum.{null};
 ghost use Rattle.script_tree.specs.declared.transaction.Statement.TheVariants.{Insert};
 ghost use Rattle.script_tree.specs.Transactions.{table_at, after_statement, after_statements, after_transaction};
@@ -7,8 +7,9 @@ ghost use Rattle.object_tables.specs.Journal.{AllFiled, AreWhole};
 ghost use Rattle.object_tables.specs.Storages.{slots_in, rows_in, before};
 ghost use Rattle.script_tree.specs.Fit.{AreTables, table_widths};
 ghost use Rattle.script_fit.specs.FitsTransaction.{FitsRow, FitsTransaction};
+ghost use Rattle.object_tables.specs.Answered.{Gives, RunsTo, ComesTo};
 ghost use Rattle.object_tables.specs.TableSets.{no_rows};
-ghost use Rattle.object_tables.specs.Outcomes.{IsOutcome, IsAnswer, IsInserted, IsRun};
+ghost use Rattle.object_tables.specs.Outcomes.{IsOutcome, IsAnswer, IsInserted, IsRun, answer_of};
 
 use crate::fitting::{fits_row, fits_transaction};
 use crate::journal::{Storage, settle, take_back};
@@ -27,6 +28,13 @@ use std::marker::Model;
 pub enum Outcome {
     Committed(Values),
     Aborted(usize),
+}
+
+/// What a transaction came to, and copies of its answer.
+#[derive(Drop)]
+struct Answered {
+    outcome: Outcome,
+    answers: Vec<Value>,
 }
 
 /// The tables of a program. Contracts see how many columns each has, and its rows in the order of
@@ -73,36 +81,71 @@ fn run_all(
     Ok(Outcome::Committed(Values::from_vec(answers)?))
 }
 
-/// Runs a transaction. Where a statement aborts, or memory is wanted, the tables stay as before.
+/// The answer of a transaction, so many times.
+fn answers_of(alloc: Global, outcome: &Outcome, count: usize) -> Result<Vec<Value>, AllocError>
+    ensures { IfOk result (λ answers. answers.items ≡ replicate count (answer_of outcome.now)) }
+{
+    let answer = match outcome {
+        Outcome::Committed(answers) => Value::list(answers.clone()?),
+        Outcome::Aborted(_) => Value::null(),
+    };
+    Vec::from_elem(alloc, answer, count)
+}
+
+/// Runs statements as `run_all` does, and makes the answer so many times.
+fn run_answered(
+    alloc: Global,
+    storage: &mut Storage,
+    statements: &[Statement],
+    count: usize,
+) -> Result<Answered, AllocError>
+    requires fits { AreRunnable (vec_len storage.old.tables) statements.now }
+    requires filed { AllFiled (slots_in storage.old) }
+    ensures done { IfOk result (RunsTo count statements.now storage.old storage.new) }
+    ensures filed { OnOk result (AllFiled (slots_in storage.new)) }
+    ensures before { before storage.new ≡ before storage.old }
+{
+    let outcome = run_all(alloc, storage, statements)?;
+    let answers = answers_of(alloc, &outcome, count)?;
+    Ok(Answered { outcome, answers })
+}
+
+/// Runs a transaction, and makes its answer so many times. Where a statement aborts, or memory is
+/// wanted, the tables stay as before.
 fn transact_on(
     alloc: Global,
     storage: &mut Storage,
     statements: &[Statement],
-) -> Result<Outcome, AllocError>
+    count: usize,
+) -> Result<Answered, AllocError>
     requires fits { AreRunnable (vec_len storage.old.tables) statements.now }
     requires filed { AllFiled (slots_in storage.old) }
     requires whole { AreWhole (slots_in storage.old) }
     requires journal { storage.old.journal.items ≡ [] }
-    ensures done { IfOk result (IsOutcome statements.now (rows_in storage.old) (rows_in storage.new)) }
+    ensures done { IfOk result
+        (ComesTo count statements.now (rows_in storage.old) (rows_in storage.new)) }
     ensures filed { AllFiled (slots_in storage.new) }
     ensures whole { AreWhole (slots_in storage.new) }
     ensures journal { storage.new.journal.items ≡ [] }
     ensures err { OnErr result (slots_in storage.new ≡ slots_in storage.old) }
 {
-    match run_all(alloc, storage, statements) {
-        Ok(Outcome::Committed(answers)) => {
-            settle(storage);
-            Ok(Outcome::Committed(answers))
-        }
-        Ok(Outcome::Aborted(i)) => {
-            take_back(storage);
-            Ok(Outcome::Aborted(i))
-        }
-        Err(error) => {
-            take_back(storage);
-            Err(error)
-        }
+    let answered = run_answered(alloc, storage, statements, count);
+    match &answered {
+        Ok(
+            Answered {
+                outcome: Outcome::Committed(_),
+                ..
+            },
+        ) => settle(storage),
+        Ok(
+            Answered {
+                outcome: Outcome::Aborted(_),
+                ..
+            },
+        )
+        | Err(_) => take_back(storage),
     }
+    answered
 }
 
 impl Tables {
@@ -178,7 +221,40 @@ impl Tables {
         ensures widths { self.new.widths ≡ self.old.widths }
         ensures err { OnErr result (self.new ≡ self.old) }
     {
-        transact_on(alloc, &mut self.storage, statements.as_slice())
+        let answered = self.answered(alloc, statements, 0)?;
+        Ok(answered.outcome)
+    }
+
+    /// Runs a transaction as `transact` does, and gives its answer so many times.
+    #[tactic(auto, using(crate::proofs::Answered::gives))]
+    pub fn transact_copies(
+        &mut self,
+        alloc: Global,
+        statements: &Statements,
+        count: usize,
+    ) -> Result<Vec<Value>, AllocError>
+        requires { FitsTransaction self.old.widths statements.now }
+        ensures given { IfOk result (Gives count statements.now self.old.tables self.new.tables) }
+        ensures widths { self.new.widths ≡ self.old.widths }
+        ensures err { OnErr result (self.new ≡ self.old) }
+    {
+        let answered = self.answered(alloc, statements, count)?;
+        Ok(answered.answers)
+    }
+
+    /// Runs a transaction, and makes its answer so many times.
+    fn answered(
+        &mut self,
+        alloc: Global,
+        statements: &Statements,
+        count: usize,
+    ) -> Result<Answered, AllocError>
+        requires { FitsTransaction self.old.widths statements.now }
+        ensures done { IfOk result (ComesTo count statements.now self.old.tables self.new.tables) }
+        ensures widths { self.new.widths ≡ self.old.widths }
+        ensures err { OnErr result (self.new ≡ self.old) }
+    {
+        transact_on(alloc, &mut self.storage, statements.as_slice(), count)
     }
 }
 

@@ -212,6 +212,21 @@ fn an_abort_leaves_the_tables(rt: HostRuntime) -> Result<(), Fail> {
 }
 
 #[test]
+fn an_answer_comes_as_often_as_it_is_wanted(rt: HostRuntime) -> Result<(), Fail> {
+    let alloc = rt.alloc();
+    let mut tables = tables(alloc)?;
+    let one = steps(alloc, insert(alloc, b"a", 1)?, None)?;
+    assert!(rt; tables.fit(&one));
+    if tables.fit(&one) {
+        let told = tables.transact_copies(alloc, &one, 2)?;
+        let null = list(alloc, Value::null(), None)?;
+        assert!(rt; told.as_slice() == [null.clone()?, null].as_slice());
+    }
+    assert!(rt; has_rows(&tables));
+    Ok(())
+}
+
+#[test]
 fn rows_are_added_and_read(rt: HostRuntime) -> Result<(), Fail> {
     let alloc = rt.alloc();
     let mut tables = tables(alloc)?;

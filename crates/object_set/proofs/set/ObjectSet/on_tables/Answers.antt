@@ -1,4 +1,6 @@
-use Rattle.std.proofs.Common.{◌≡◌, ap, subst}
+use Rattle.std.proofs.Common.{◌≡◌, List, ap, subst}
+use Rattle.script_tree.specs.Datum.{Datum}
+use Rattle.script_tree.specs.Transactions.{Table}
 use Rattle.script_tree.specs.declared.operation.Act.TheVariants.{Transact}
 use Rattle.script_tree.specs.declared.operation.Object.TheVariants.{Tables}
 use Rattle.script_fit.specs.FitsOperation.{FitsTables}
@@ -17,8 +19,8 @@ invariant_of-self-in-Transact-1 c =
     record {
       registers = c.self.invariant.registers;
       stores = c.self.invariant.stores;
-      tables = still_tables c.in-Transact.statements c.self.inside.tables c.transact.new.self c.in_ok-outcome-in-Transact.outcome c.self.invariant.tables fits
-          c.in_ok-outcome-in-Transact.ensures.answer c.transact.ensures.widths;
+      tables = still_tables c.in-Transact.statements c.self.inside.tables c.transact.new.self c.self.invariant.tables fits
+          (ap (λ (r : List Table × Datum). r.0) c.in_ok-outcome-in-Transact.ensures.answer) c.transact.ensures.widths;
       clock = c.self.invariant.clock;
     }
 
@@ -26,4 +28,4 @@ pub returns-clause-done : goal.returns-clause-done
 returns-clause-done c = λ choice.
     rw (c.in-Transact.is, c.answer_of.ensures)
     (subst (λ h. Does (op_of Tables (Transact c.in-Transact.statements)) choice h (held_objects c.self.inside.registers c.self.inside.stores c.transact.new.self c.self.inside.clock) (answer_of c.in_ok-outcome-in-Transact.outcome)) c.self.view_is
-    (transact_does c.in-Transact.statements choice (objects_in c.self.inside) c.transact.new.self c.in_ok-outcome-in-Transact.outcome c.in_ok-outcome-in-Transact.ensures.answer c.transact.ensures.widths))
+    (transact_does c.in-Transact.statements choice (objects_in c.self.inside) c.transact.new.self (answer_of c.in_ok-outcome-in-Transact.outcome) c.in_ok-outcome-in-Transact.ensures.answer c.transact.ensures.widths))

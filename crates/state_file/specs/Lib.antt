@@ -5,7 +5,5 @@ pub mod Puts
 pub mod Starts
 pub mod States
 pub mod Stored
-pub mod TableNumbers
-pub mod TablesView
 pub mod Texts
 pub mod Values

@@ -1,7 +1,6 @@
 //! The state that a program starts with, as a JSON file: docs/formats.md, "State".
 #![tactic(auto)]
 
-mod declared_tables;
 pub mod fault;
 pub mod given;
 pub mod law;

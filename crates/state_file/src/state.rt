@@ -1,7 +1,4 @@
-ghost use Rattle.std.specs.Prelude.{◌<◌, length};
 ghost use Rattle.basis.specs.UnlessMemory.{UnlessMemory};
-ghost use Rattle.script_tree.specs.Programs.{program_of};
-ghost use Rattle.script_tree.specs.declared.limits.TheConstants.{TOO_MANY_DECLARATIONS};
 ghost use Rattle.state_file.specs.States.{HasStateFault};
 ghost use Rattle.state_file.specs.Starts.{IsStart};
 
@@ -11,7 +8,6 @@ use crate::stored::stored;
 use basis::OrMemory;
 use object_set::ObjectSet;
 use script_check::program::Program;
-use script_tree::syntax::declaration::Declaration;
 use serde_json::Value as Json;
 use std::alloc::Global;
 
@@ -24,19 +20,6 @@ pub fn read_state(
     ensures { let fault = HasStateFault program.now bytes.now in
         UnlessMemory (IsStart program.now bytes.now) fault result }
 {
-    read_declared(alloc, program.declarations(), bytes)
-}
-
-/// The same for a program of these declarations.
-pub(crate) fn read_declared(
-    alloc: Global,
-    declarations: &[Declaration],
-    bytes: &[u8],
-) -> Result<ObjectSet, OrMemory<StateFault>>
-    requires { length declarations.now < TOO_MANY_DECLARATIONS }
-    ensures { let program = program_of declarations.now in
-        UnlessMemory (IsStart program bytes.now) (HasStateFault program bytes.now) result }
-{
     let json = match Json::from_slice(alloc, bytes) {
         Ok(json) => json,
         Err(error) => {
@@ -47,7 +30,7 @@ pub(crate) fn read_declared(
         }
     };
     match given_of(alloc, json)? {
-        Some(given) => stored(alloc, declarations, given),
+        Some(given) => stored(alloc, program, given),
         None => Err(OrMemory::Other(StateFault::OtherShape)),
     }
 }

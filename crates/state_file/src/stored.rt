@@ -1,4 +1,4 @@
-ghost use Rattle.std.specs.Prelude.{◌≡◌, ◌<◌, ℕ, List, [], length, true, not, is_some};
+ghost use Rattle.std.specs.Prelude.{◌≡◌, ℕ, List, [], true, not, is_some};
 ghost use Rattle.std.specs.Prelude.{Some, None, IfOk, OnOk};
 ghost use Rattle.std.specs.Bool.{OnTrue};
 ghost use Rattle.std.specs.List.{list_all};
@@ -9,8 +9,6 @@ ghost use Rattle.object_cells.specs.Stores.{has_store, held_in, AreEmpty};
 ghost use Rattle.object_set.specs.ObjectSets.{IsSetOf, IsEmptySet};
 ghost use Rattle.script_tree.specs.Declarations.{table_from};
 ghost use Rattle.script_tree.specs.Fit.{table_widths};
-ghost use Rattle.script_tree.specs.Programs.{program_of};
-ghost use Rattle.script_tree.specs.declared.limits.TheConstants.{TOO_MANY_DECLARATIONS};
 ghost use Rattle.state_file.specs.Faults.{are_declared, are_within_limits, is_storable};
 ghost use Rattle.state_file.specs.Faults.{are_entries_within_limits, are_rows_within_limits};
 ghost use Rattle.state_file.specs.Faults.{is_row_within_limits, some_key_is_twice};
@@ -21,37 +19,35 @@ ghost use Rattle.state_file.specs.States.{HasGivenFault};
 ghost use Rattle.state_file.specs.Stored.{has_twice, StandOnce, is_row_of, is_text};
 ghost use Rattle.state_file.specs.Stored.{with_row_of, with_rows, with_tables};
 
-use crate::declared_tables::{DeclaredTable, DeclaredTables};
 use crate::fault::StateFault;
 use crate::given::Given;
 use crate::limits::are_within_limits;
 use basis::{Items, OrMemory};
 use object_set::ObjectSet;
-use script_tree::syntax::declaration::Declaration;
+use script_check::program::Program;
+use script_index::Index;
 use script_tree::text::Text;
 use script_tree::value::{Node, Value, Values};
 use std::alloc::{AllocError, Global};
 
-/// The objects of a program of these declarations that hold what is given.
+/// The objects of a program that hold what is given.
 pub fn stored(
     alloc: Global,
-    declarations: &[Declaration],
+    program: &Program,
     given: Given,
 ) -> Result<ObjectSet, OrMemory<StateFault>>
-    requires few { length declarations.now < TOO_MANY_DECLARATIONS }
-    requires once { StandOnce given.stores }
-    ensures { let program = program_of declarations.now in
-        UnlessMemory (IsStored program given) (HasGivenFault program given) result }
+    requires { StandOnce given.stores }
+    ensures { UnlessMemory (IsStored program.now given) (HasGivenFault program.now given) result }
 {
-    let mut objects = ObjectSet::new(alloc, declarations)?;
-    let tables = DeclaredTables::new(alloc, declarations)?;
-    if !are_declared(&objects, &tables, &given) {
+    let mut objects = ObjectSet::new(alloc, program.declarations())?;
+    let index = Index::new(alloc, program)?;
+    if !are_declared(&objects, &index, &given) {
         return Err(OrMemory::Other(StateFault::Undeclared));
     }
     if !are_within_limits(&given) {
         return Err(OrMemory::Other(StateFault::BeyondLimit));
     }
-    if put_all(&mut objects, &tables, given)? {
+    if put_all(&mut objects, &index, given)? {
         Ok(objects)
     } else {
         Err(OrMemory::Other(StateFault::Unstorable))
@@ -59,12 +55,12 @@ pub fn stored(
 }
 
 /// Whether the stores and the tables that are given are there.
-fn are_declared(objects: &ObjectSet, tables: &DeclaredTables, given: &Given) -> bool
-    requires { IsSetOf (program_of tables.now) objects.now }
-    ensures { result ≡ are_declared (program_of tables.now) given.now }
+fn are_declared(objects: &ObjectSet, index: &Index, given: &Given) -> bool
+    requires { IsSetOf index.now objects.now }
+    ensures { result ≡ are_declared index.now given.now }
 {
     are_stores_there(objects, given.stores.as_slice())
-        && are_tables_there(tables, given.tables.as_slice())
+        && are_tables_there(index, given.tables.as_slice())
 }
 
 fn are_stores_there(objects: &ObjectSet, stores: &[(Text, Items<(Text, Value)>)]) -> bool
@@ -78,11 +74,12 @@ fn are_stores_there(objects: &ObjectSet, stores: &[(Text, Items<(Text, Value)>)]
     true
 }
 
-fn are_tables_there(declared: &DeclaredTables, tables: &[(Text, Items<Values>)]) -> bool
-    ensures { result ≡ list_all (λ t. is_some (table_from 0 t.0 declared.now)) tables.now }
+fn are_tables_there(index: &Index, tables: &[(Text, Items<Values>)]) -> bool
+    ensures { let declarations = index.now.declarations in
+        result ≡ list_all (λ t. is_some (table_from 0 t.0 declarations)) tables.now }
 {
     for table in tables {
-        if declared.get(&table.0).is_none() {
+        if index.table(table.0.as_bytes()).is_none() {
             return false;
         }
     }
@@ -90,24 +87,19 @@ fn are_tables_there(declared: &DeclaredTables, tables: &[(Text, Items<Values>)])
 }
 
 /// Stores what is given, and tells whether all of it could be stored.
-fn put_all(
-    objects: &mut ObjectSet,
-    tables: &DeclaredTables,
-    given: Given,
-) -> Result<bool, AllocError>
+fn put_all(objects: &mut ObjectSet, index: &Index, given: Given) -> Result<bool, AllocError>
     requires empty { IsEmptySet objects.old }
-    requires set { IsSetOf (program_of tables.now) objects.old }
+    requires set { IsSetOf index.now objects.old }
     requires once { StandOnce given.stores }
-    requires declared { are_declared (program_of tables.now) given ≡ true }
+    requires declared { are_declared index.now given ≡ true }
     requires within { are_within_limits given ≡ true }
-    ensures done { IfOk result (λ done. done ≡ is_storable (program_of tables.now) given) }
-    ensures put { IfOk result (λ done. OnTrue done
-        (Holds (program_of tables.now) given objects.new)) }
+    ensures done { IfOk result (λ done. done ≡ is_storable index.now given) }
+    ensures put { IfOk result (λ done. OnTrue done (Holds index.now given objects.new)) }
 {
     let Given {
         registers,
         stores,
-        tables: rows,
+        tables,
         clock,
     } = given;
     if !put_registers(objects, registers.into_vec())? {
@@ -116,7 +108,7 @@ fn put_all(
     if !put_stores(objects, stores.into_vec())? {
         return Ok(false);
     }
-    if !put_tables(objects, tables, rows.into_vec())? {
+    if !put_tables(objects, index, tables.into_vec())? {
         return Ok(false);
     }
     objects.set_clock(clock);
@@ -187,21 +179,21 @@ fn put_cells(
 /// Adds rows to tables, and tells whether each is one of its table with a key of its own.
 fn put_tables(
     objects: &mut ObjectSet,
-    declared: &DeclaredTables,
+    index: &Index,
     tables: Vec<(Text, Items<Values>)>,
 ) -> Result<bool, AllocError>
-    requires widths { objects.old.tables.widths ≡ table_widths declared.now }
+    requires widths { objects.old.tables.widths ≡ table_widths index.now.declarations }
     requires within { list_all (λ t. are_rows_within_limits t.1) tables.items ≡ true }
     ensures put { let old = objects.old.tables.tables in
-        IfOk result (λ done. with_tables declared.now tables.items old
+        IfOk result (λ done. with_tables index.now.declarations tables.items old
         ≡ if_done done objects.new.tables.tables) }
     ensures others { OnOk result (ChangesTables objects.old objects.new) }
 {
     for (name, rows) in tables {
-        let Some(table) = declared.get(&name) else {
+        let Some(table) = index.table(name.as_bytes()) else {
             return Ok(false);
         };
-        if !put_rows(objects, table, rows.into_vec())? {
+        if !put_rows(objects, table.number, table.columns.len(), rows.into_vec())? {
             return Ok(false);
         }
     }
@@ -211,18 +203,19 @@ fn put_tables(
 /// The same of one table.
 fn put_rows(
     objects: &mut ObjectSet,
-    table: DeclaredTable,
+    table: u32,
+    width: usize,
     rows: Vec<Values>,
 ) -> Result<bool, AllocError>
-    requires there { nth objects.old.tables.widths table.number ≡ Some table.width }
+    requires there { nth objects.old.tables.widths table ≡ Some width }
     requires within { are_rows_within_limits rows.items ≡ true }
     ensures put { let old = objects.old.tables.tables in
-        IfOk result (λ done. with_rows table.number table.width rows.items old
+        IfOk result (λ done. with_rows table width rows.items old
         ≡ if_done done objects.new.tables.tables) }
     ensures others { OnOk result (ChangesTables objects.old objects.new) }
 {
     for row in rows {
-        if !put_row(objects, table, row)? {
+        if !put_row(objects, table, width, row)? {
             return Ok(false);
         }
     }
@@ -230,18 +223,23 @@ fn put_rows(
 }
 
 /// The same of one row.
-fn put_row(objects: &mut ObjectSet, table: DeclaredTable, row: Values) -> Result<bool, AllocError>
-    requires there { nth objects.old.tables.widths table.number ≡ Some table.width }
+fn put_row(
+    objects: &mut ObjectSet,
+    table: u32,
+    width: usize,
+    row: Values,
+) -> Result<bool, AllocError>
+    requires there { nth objects.old.tables.widths table ≡ Some width }
     requires within { is_row_within_limits row ≡ true }
     ensures put { let old = objects.old.tables.tables in
-        IfOk result (λ done. with_row_of table.number table.width row old
+        IfOk result (λ done. with_row_of table width row old
         ≡ if_done done objects.new.tables.tables) }
     ensures others { OnOk result (ChangesTables objects.old objects.new) }
 {
-    if !is_row_of(table.width, row.as_slice()) {
+    if !is_row_of(width, row.as_slice()) {
         return Ok(false);
     }
-    objects.insert_row(table.number, row)
+    objects.insert_row(table, row)
 }
 
 /// Whether there is a value for each of so many columns, and a text for the key.

@@ -10,7 +10,7 @@ use Rattle.state_file.proofs.stored.are_declared.Goals as goal
 
 pub returns-then-are_stores_there : goal.returns-then-are_stores_there
 returns-then-are_stores_there c =
-    let ds = c.args.tables.now in
+    let ds = c.args.index.now.declarations in
     let given = c.args.given.now in
     let there = λ (s : Named (List Entry)). has_store c.args.objects.now.stores s.0 in
     let declared = λ (s : Named (List Entry)). declares_store ds s.0 in
@@ -21,7 +21,7 @@ returns-then-are_stores_there c =
 
 pub returns-else-are_stores_there : goal.returns-else-are_stores_there
 returns-else-are_stores_there c =
-    let ds = c.args.tables.now in
+    let ds = c.args.index.now.declarations in
     let given = c.args.given.now in
     let there = λ (s : Named (List Entry)). has_store c.args.objects.now.stores s.0 in
     let declared = λ (s : Named (List Entry)). declares_store ds s.0 in

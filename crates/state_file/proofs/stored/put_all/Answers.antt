@@ -3,7 +3,6 @@ use Rattle.std.specs.Bool.{OnTrue}
 use Rattle.std.specs.List.{list_all}
 use Rattle.std.specs.Map.{keys_of}
 use Rattle.object_cells.specs.Stores.{has_store}
-use Rattle.script_tree.specs.Programs.{program_of}
 use Rattle.state_file.specs.Faults.{are_entries_within_limits}
 use Rattle.state_file.specs.Puts.{PutsRegisters, PutsStores, if_done}
 use Rattle.state_file.specs.Starts.{Holds}
@@ -16,7 +15,7 @@ put_stores-requires-clause-there c =
     let old = c.args.objects.now in
     let mid = c.put_registers.new.objects in
     let put : PutsRegisters c.into_vec.result.items old mid = subst (λ done. OnTrue done (PutsRegisters c.into_vec.result.items old mid)) c.if-not-branch.false c.in_ok-put_registers.ensures.put in
-    ap (list_all (λ s. has_store mid.stores s.0)) c.into_vec-2.ensures ∙ there_still (program_of c.args.tables.now) c.args.given old mid c.requires.set put.stores c.requires.declared
+    ap (list_all (λ s. has_store mid.stores s.0)) c.into_vec-2.ensures ∙ there_still c.args.index.now c.args.given old mid c.requires.set put.stores c.requires.declared
 
 pub put_stores-requires-clause-once : goal.put_stores-requires-clause-once
 put_stores-requires-clause-once c = ap (λ ss. has_twice (keys_of ss)) c.into_vec-2.ensures ∙ c.requires.once
@@ -28,7 +27,7 @@ put_stores-requires-clause-within c =
 
 pub returns-clause-put : goal.returns-clause-put
 returns-clause-put c =
-    let program = program_of c.args.tables.now in
+    let program = c.args.index.now in
     let given = c.args.given in
     let old = c.args.objects.now in
     let a = c.put_registers.new.objects in

@@ -7,8 +7,8 @@ use Rattle.state_file.proofs.stored.put_rows.Given as goal
 
 abbrev pub invariant-loop-row : goal.invariant-loop-row
 invariant-loop-row l = record {
-  put : with_rows l.table.number l.table.width (into_iter_items l.row-iterator) l.objects.tables.tables
-      ≡ with_rows l.table.number l.table.width l.fn.rows.items l.fn.objects.tables.tables;
+  put : with_rows l.table l.width (into_iter_items l.row-iterator) l.objects.tables.tables
+      ≡ with_rows l.table l.width l.fn.rows.items l.fn.objects.tables.tables;
   others : ChangesTables l.fn.objects l.objects;
   within : are_rows_within_limits (into_iter_items l.row-iterator) ≡ true;
 }

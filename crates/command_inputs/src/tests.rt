@@ -3,6 +3,8 @@ use crate::fault::{InputError, InputFault};
 use crate::role::Role;
 use crate::{read_program, read_schedule, read_state, read_trace};
 use outside::MemShelf;
+use script_check::program::check;
+use script_tree::syntax::declaration::Tree;
 use std::alloc::{AllocError, Global};
 use std::test::Fail;
 
@@ -12,14 +14,23 @@ const TRACE: &[u8] = b"SSCOTRC1";
 
 const SCHEDULE: &[u8] = b"SSCOSCH1";
 
-/// Why the input isn't read with this limit, if so.
-fn refusal(alloc: Global, shelf: &mut MemShelf, role: Role, most: u32) -> Option<InputError> {
-    match role {
-        Role::Program => read_program(alloc, shelf, role.name(), most as usize).err(),
-        Role::State => read_state(alloc, shelf, role.name(), most as usize).err(),
-        Role::Trace => read_trace(alloc, shelf, role.name(), most as usize).err(),
-        Role::Schedule => read_schedule(alloc, shelf, role.name(), most as usize).err(),
-    }
+/// Why the input isn't read with this limit, if so; a state is one of a program without pages.
+fn refusal(
+    alloc: Global,
+    shelf: &mut MemShelf,
+    role: Role,
+    most: u32,
+) -> Result<Option<InputError>, Fail> {
+    let most = most as usize;
+    Ok(match role {
+        Role::Program => read_program(alloc, shelf, role.name(), most).err(),
+        Role::State => {
+            let program = check(alloc, Tree::new(alloc)).ok().ok_or("a program")?;
+            read_state(alloc, shelf, role.name(), most, &program).err()
+        }
+        Role::Trace => read_trace(alloc, shelf, role.name(), most).err(),
+        Role::Schedule => read_schedule(alloc, shelf, role.name(), most).err(),
+    })
 }
 
 /// Files named as their roles are.
@@ -42,10 +53,10 @@ fn limits(rt: HostRuntime) -> Result<(), Fail> {
         (Role::Trace, 8),
         (Role::Schedule, 8),
     ] {
-        assert_eq!(rt; refusal(alloc, &mut shelf, role, length), None);
+        assert_eq!(rt; refusal(alloc, &mut shelf, role, length)?, None);
         let too_long = InputError::Fault(InputFault::TooLong(role));
         assert_eq!(rt;
-            refusal(alloc, &mut shelf, role, length.saturating_sub(1)),
+            refusal(alloc, &mut shelf, role, length.saturating_sub(1))?,
             Some(too_long)
         );
     }
@@ -58,7 +69,7 @@ fn absent(rt: HostRuntime) -> Result<(), Fail> {
     let mut shelf = MemShelf::new(alloc, Vec::new(alloc));
     for role in [Role::Program, Role::State, Role::Trace, Role::Schedule] {
         let absent = InputError::Fault(InputFault::Absent(role));
-        assert_eq!(rt; refusal(alloc, &mut shelf, role, 9), Some(absent));
+        assert_eq!(rt; refusal(alloc, &mut shelf, role, 9)?, Some(absent));
     }
     assert_eq!(rt; shelf.absences(), 4);
     Ok(())

@@ -1,13 +1,11 @@
 -- Transactions that fit keep the tables of their widths.
-use Rattle.std.proofs.Common.{◌≡◌, ◌<◌, ℕ, zero, suc, List, [], ◌∷◌, Option, Some, None, Result, Ok, Err, IfOk, OnErr, Bool, true, false, if◌then◌else◌, not, length, map, refl, sym, ap, ◌∙◌, subst, arith}
-use Rattle.std.specs.Ordering.{int_eq}
-use Rattle.std.specs.Option.{option_map}
-use Rattle.basis.specs.Lists.{nth, with_nth}
+use Rattle.std.proofs.Common.{◌≡◌, ◌<◌, ℕ, suc, List, [], ◌∷◌, Option, Some, None, Result, Ok, Err, IfOk, OnErr, Bool, true, false, length, map, refl, sym, ap, ◌∙◌, subst, arith}
+use Rattle.basis.specs.Lists.{with_nth}
 use Rattle.basis.proofs.Options.{some_is, none_is_not}
 use Rattle.basis.proofs.Places.{nth_within}
-use Rattle.script_tree.specs.Datum.{Datum, null}
-use Rattle.script_tree.specs.Fit.{IsRow, IsTable, AreTables}
-use Rattle.script_tree.specs.Transactions.{Row, Table, table_at, with_row, updated_rows, other_rows, meets, row_count, after_statement, after_statements}
+use Rattle.script_tree.specs.Datum.{Datum}
+use Rattle.script_tree.specs.Fit.{AreTables}
+use Rattle.script_tree.specs.Transactions.{Row, Table, table_at, with_row, after_statements}
 use Rattle.script_tree.specs.declared.transaction.Change.{Change}
 use Rattle.script_tree.specs.declared.transaction.Statement.{Statement}
 use Rattle.script_tree.specs.declared.transaction.Statement.TheVariants.{Insert, Select, Update, Delete, Expect}

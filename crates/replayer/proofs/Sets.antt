@@ -1,5 +1,5 @@
--- A set of a program's objects takes what fits the program, and stays one of the program.
-use Rattle.std.proofs.Common.{◌≡◌, ◌∙◌, ◌≢◌, ℕ, List, Option, Some, None, Result, Ok, Err, sym, subst}
+-- A set of a program's objects takes what fits the program.
+use Rattle.std.proofs.Common.{◌∙◌, List, Some, sym, subst}
 use Rattle.script_tree.specs.Datum.{Datum}
 use Rattle.script_tree.specs.Fit.{declares_store, table_widths}
 use Rattle.script_tree.specs.Programs.{Program}
@@ -7,14 +7,10 @@ use Rattle.script_tree.specs.Requests.{Request, IsRequestWithinLimits}
 use Rattle.script_tree.specs.declared.operation.Act.{Act}
 use Rattle.script_tree.specs.declared.operation.Object.{Object}
 use Rattle.script_tree.specs.declared.operation.Object.TheVariants.{Register, Store, Tables, Clock, Dice}
-use Rattle.script_tree.specs.declared.operation.Op.{Op}
-use Rattle.script_check.specs.Validity.{IsValid}
-use Rattle.script_meaning.specs.Conduct.{Ending}
 use Rattle.script_meaning.specs.Replay.{ending_of}
-use Rattle.script_fit.specs.FitsOperation.{FitsAct, FitsOperation, FitsTables}
+use Rattle.script_fit.specs.FitsOperation.{FitsAct, FitsTables}
 use Rattle.script_asks.proofs.Wanted.{fits}
 use Rattle.object_cells.specs.Stores.{has_store}
-use Rattle.object_set.specs.Applied.{FitsSet, HasSame}
 use Rattle.object_set.specs.ObjectSets.{HeldObjects, IsSetOf}
 use Rattle.replayer.specs.Runners.{IsGivenAs}
 use Rattle.replayer.specs.Stages.{WantsWhatFits}
@@ -29,12 +25,6 @@ fits_set program h (Store s) act of f = (of.stores s ∙ f.0, f.1)
 fits_set program h Tables act of f = subst (λ widths. FitsTables widths act) (sym of.widths) f
 fits_set program h Clock act of f = f
 fits_set program h Dice act of f = f
-
-pub set_stays : (program : Program) (old new : HeldObjects) → IsSetOf program old → HasSame old new → IsSetOf program new
-set_stays program old new of same = record {
-  stores = λ s. same.stores s ∙ of.stores s;
-  widths = same.widths ∙ of.widths;
-}
 
 -- what a run wants next fits
 pub wants_what_fits : (stage : Stage) (request : Request) (answers : List Datum) (next : Next) → IsRequestWithinLimits request

@@ -1,4 +1,4 @@
-ghost use Rattle.std.specs.Prelude.{◌≡◌, ◌<◌, ℕ, length, vec_len, slice_index_or, IfOk, OnOk, OnErr};
+ghost use Rattle.std.specs.Prelude.{◌≡◌, ◌<◌, ℕ, vec_len, slice_index_or, IfOk, OnOk, OnErr};
 ghost use Rattle.replayer.specs.Differences.{left_open, first_not_departed};
 ghost use Rattle.replayer.specs.Standings.{standing_at, departed_in, is_departed, waiting_from};
 ghost use Rattle.replayer.specs.Standings.{PutsAnswer, IsWaiting};

@@ -1,5 +1,5 @@
 -- The tables that are declared, with their widths.
-use Rattle.std.proofs.Common.{◌≡◌, ℕ, suc, ◌+◌, List, [], ◌∷◌, length, Bool, true, false, cond, Option, Some, None, refl, sym, subst, arith}
+use Rattle.std.proofs.Common.{◌≡◌, ℕ, suc, ◌+◌, List, [], ◌∷◌, length, Bool, true, false, cond, Some, refl, sym, subst, arith}
 use Rattle.std.specs.Str.{bytes_eq}
 use Rattle.basis.specs.Lists.{nth}
 use Rattle.basis.proofs.Options.{some_is, none_is_not}
@@ -9,7 +9,6 @@ use Rattle.script_tree.specs.Declarations.{NumberedTable, table_from}
 use Rattle.script_tree.specs.Fit.{table_widths}
 use Rattle.script_tree.specs.declared.syntax.declaration.Declaration.{Declaration}
 use Rattle.script_tree.specs.declared.syntax.declaration.Declaration.TheVariants.{Store, Table, Function, Page}
-use Rattle.script_tree.specs.declared.syntax.name.Name.{Name}
 
 -- the table stands so far behind the first number
 abbrev IsAfter : ℕ → NumberedTable → List Declaration → Type 0

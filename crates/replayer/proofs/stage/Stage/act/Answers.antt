@@ -19,7 +19,7 @@ use Rattle.replayer.specs.declared.stage.Stage.{Stage}
 use Rattle.replayer.specs.declared.runner.Next.TheVariants as told
 use Rattle.replayer.specs.declared.standing.Standing.{Standing}
 use Rattle.replayer.specs.declared.standing.Standing.TheVariants.{Away, Open}
-use Rattle.replayer.proofs.Sets.{fits_set, set_stays}
+use Rattle.replayer.proofs.Sets.{fits_set}
 use Rattle.replayer.proofs.StageFacts.{shows_act, defined_more, answered_defined, opened, act_told, open_is, puts_at}
 use Rattle.replayer.proofs.stage.Stage.act.Goals as goal
 

@@ -14,4 +14,5 @@ blocks() {
 
 blocks sh >"$room/blocks"
 blocks text >"$room/wanted"
-sh "$room/blocks" >"$room/printed" && diff "$room/wanted" "$room/printed"
+sh "$room/blocks" >"$room/printed"
+diff "$room/wanted" "$room/printed"

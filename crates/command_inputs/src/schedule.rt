@@ -9,8 +9,7 @@ use crate::halt::Halt;
 use crate::role::Role;
 use basis::OrMemory;
 use outside::Shelf;
-use schedule_format::decoding::decode;
-use script_tree::schedule::Schedule;
+use schedule_format::schedule_file::ScheduleFile;
 use std::alloc::Global;
 
 /// Reads the schedule whose file has this name, or the place of its first bad record.
@@ -19,14 +18,14 @@ pub fn read_schedule<F: Shelf>(
     shelf: &mut F,
     name: &str,
     most: usize,
-) -> Result<Result<Schedule, u64>, InputError>
+) -> Result<Result<ScheduleFile, u64>, InputError>
     requires { most < 2 ^ 63 }
     ensures read { let input = schedule_input most in
         IsReadUnder (λ schedule. schedule) input (F.told shelf.old) name.now result }
     ensures used { UsesToRead (F.told shelf.old) (F.told shelf.new) result }
 {
     let bytes = read_whole(alloc, shelf, Role::Schedule, name, most)?;
-    match decode(alloc, &bytes) {
+    match ScheduleFile::read(alloc, bytes) {
         Ok(schedule) => Ok(Ok(schedule)),
         Err(OrMemory::Memory) => Err(InputError::Halt(Halt::Memory)),
         Err(OrMemory::Other(fault)) => Ok(Err(fault.at as u64)),

@@ -11,16 +11,15 @@ use crate::halt::Halt;
 use crate::role::Role;
 use basis::OrMemory;
 use outside::Shelf;
-use script_tree::trace::Trace;
 use std::alloc::Global;
 use trace_format::balance::first_unbalanced;
-use trace_format::decoding::decode;
+use trace_format::trace_file::TraceFile;
 
 /// The balanced trace that the bytes spell.
-fn decode_balanced(alloc: Global, bytes: &[u8]) -> Result<Trace, OrMemory<TraceFault>>
-    ensures { UnlessMemory (SpellsTrace bytes.now) (HasTraceFault bytes.now) result }
+fn balanced(alloc: Global, bytes: Vec<u8>) -> Result<TraceFile, OrMemory<TraceFault>>
+    ensures { UnlessMemory (SpellsTrace bytes.items) (HasTraceFault bytes.items) result }
 {
-    let trace = match decode(alloc, bytes) {
+    let trace = match TraceFile::read(alloc, bytes) {
         Ok(trace) => trace,
         Err(OrMemory::Memory) => return Err(OrMemory::Memory),
         Err(OrMemory::Other(fault)) => {
@@ -39,7 +38,7 @@ pub fn read_trace<F: Shelf>(
     shelf: &mut F,
     name: &str,
     most: usize,
-) -> Result<Trace, InputError>
+) -> Result<TraceFile, InputError>
     requires { most < 2 ^ 63 }
     ensures read { let input = trace_input most in
         IsReadUnder (λ trace. trace) input (F.told shelf.old) name.now result }
@@ -47,7 +46,7 @@ pub fn read_trace<F: Shelf>(
     ensures used { UsesToRead (F.told shelf.old) (F.told shelf.new) result }
 {
     let bytes = read_whole(alloc, shelf, Role::Trace, name, most)?;
-    match decode_balanced(alloc, &bytes) {
+    match balanced(alloc, bytes) {
         Ok(trace) => Ok(trace),
         Err(OrMemory::Memory) => Err(InputError::Halt(Halt::Memory)),
         Err(OrMemory::Other(fault)) => Err(InputError::Fault(InputFault::Trace(fault))),

@@ -1,8 +1,10 @@
 mod Completely
 mod Soundly
 mod DifferenceTests
+pub mod MapFacts
 pub mod PlaceFacts
 pub mod ResultFacts
+pub mod HeadFacts
 pub mod Sets
 pub mod StageFacts
 pub mod StandingFacts

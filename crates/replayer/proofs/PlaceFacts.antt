@@ -85,6 +85,9 @@ place_inside test i (e ∷ es) p h = go (test e) h (λ k. place_inside test (suc
 pub request_place-within : (r : ℕ) (es : List TraceEvent) (p : ℕ) → request_place es r ≡ Some p → p < length es
 request_place-within r es p h = let inside = place_inside (is_request r) 0 es p h in omega (arith, inside.1)
 
+pub response_place-within : (r : ℕ) (es : List TraceEvent) (p : ℕ) → response_place es r ≡ Some p → p < length es
+response_place-within r es p h = let inside = place_inside (is_response r) 0 es p h in omega (arith, inside.1)
+
 pub request_place-inside : (r : ℕ) (es : List TraceEvent) (o : Option ℕ) → o ≡ request_place es r → IfSome o (λ p. p < length es)
 request_place-inside r es None h = tt
 request_place-inside r es (Some p) h = request_place-within r es p (sym h)

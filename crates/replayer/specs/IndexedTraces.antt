@@ -5,9 +5,9 @@ use Rattle.replayer.specs.Places.{TellsRequests, partner_place}
 use Rattle.replayer.specs.declared.indexed_trace.IndexedTrace.TheInside.{Inside}
 
 abbrev pub events_of : Inside → List TraceEvent
-events_of a = a.events.now
+events_of a = a.file.now
 
 -- The map has the place of each request, and the list the place of each event's partner.
 pub record IsIndexed (a : Inside) : Type 0 where
-  pub requests : TellsRequests a.places 0 a.events.now
-  pub partners : a.partners.items ≡ map (partner_place a.events.now) a.events.now
+  pub requests : TellsRequests a.places 0 a.file.now
+  pub partners : a.partners.items ≡ map (partner_place a.file.now) a.file.now

@@ -9,6 +9,8 @@ use Rattle.script_tree.specs.Traces.{request_of, response_of}
 use Rattle.script_tree.specs.declared.request.Response.{Response}
 use Rattle.script_tree.specs.declared.trace.TraceEvent.{TraceEvent}
 use Rattle.script_tree.specs.declared.trace.TraceEvent.TheVariants.{Asked, Answered}
+use Rattle.trace_format.specs.Heads.{head_of}
+use Rattle.trace_format.specs.declared.trace_file.EventHead.{EventHead}
 
 abbrev pub is_request : ℕ → TraceEvent → Bool
 is_request r (Asked rid q) = nat_eq r rid
@@ -55,9 +57,14 @@ TellsRequests m i es = (r : ℕ) → get nat_cmp m r ≡ first_place (is_request
 abbrev pub TellsResponses : BTreeMap ℕ ℕ → ℕ → List TraceEvent → Type 0
 TellsResponses m i es = (r : ℕ) → get nat_cmp m r ≡ first_place (is_response r) i es
 
--- what such maps give for an event is its partner's place
-abbrev pub FindsPartner : BTreeMap ℕ ℕ → BTreeMap ℕ ℕ → TraceEvent → Option ℕ → Type 0
-FindsPartner requests responses e place = (es : List TraceEvent) → TellsRequests requests 0 es → TellsResponses responses 0 es → place ≡ partner_place es e
+-- what such maps give for an event of this head is its partner's place
+abbrev pub FindsPartner : BTreeMap ℕ ℕ → BTreeMap ℕ ℕ → EventHead → Option ℕ → Type 0
+FindsPartner requests responses head place =
+    (es : List TraceEvent) (e : TraceEvent) → head ≡ head_of e → TellsRequests requests 0 es → TellsResponses responses 0 es → place ≡ partner_place es e
+
+-- the event here has this head
+abbrev pub HasHeadAt : List TraceEvent → ℕ → EventHead → Type 0
+HasHeadAt es place head = (e : TraceEvent) → slice_get es place ≡ Some e → head ≡ head_of e
 
 abbrev pub the_request : TraceEvent → Option Request
 the_request (Asked rid q) = Some q

@@ -8,7 +8,11 @@ use Rattle.script_tree.specs.declared.trace.TraceEvent.{TraceEvent}
 use Rattle.script_tree.specs.declared.trace.TraceEvent.TheVariants.{Asked, Answered}
 use Rattle.script_meaning.specs.Conduct.{Undefined}
 use Rattle.script_meaning.specs.Replay.{ending_of}
+use Rattle.trace_format.specs.Heads.{head_of}
+use Rattle.trace_format.specs.declared.trace_file.EventHead.{EventHead}
+use Rattle.replayer.specs.Differences.{left_open}
 use Rattle.replayer.specs.Places.{request_place}
+use Rattle.replayer.specs.declared.reason.ReplayReason.{ReplayReason}
 use Rattle.replayer.specs.declared.standing.Standing.{Standing}
 use Rattle.replayer.specs.declared.standing.Standing.TheVariants.{Away, Open, Departed}
 
@@ -66,6 +70,10 @@ waiting_from trace ss from = from + first_waiting (departed_in trace ss) (drop f
 -- whether such a response stands here
 abbrev pub IsWaiting : List TraceEvent → List Standing → ℕ → Bool → Type 0
 IsWaiting trace ss place b = (e : TraceEvent) → slice_get trace place ≡ Some e → b ≡ waits (departed_in trace ss) e
+
+-- what is told of the event of a head: itself, where it is a request that hasn't departed
+abbrev pub IsLeftOpen : List TraceEvent → List Standing → EventHead → Option ReplayReason → Type 0
+IsLeftOpen trace ss head told = (e : TraceEvent) → head ≡ head_of e → told ≡ left_open (departed_in trace ss) e
 
 -- ---- runs
 

@@ -1,8 +1,8 @@
 ghost use Rattle.std.specs.Prelude.{◌≡◌, ◌<◌, IfOk, IfSome, length, map};
-ghost use Rattle.std.specs.Prelude.{option_copied, slice_get};
+ghost use Rattle.std.specs.Prelude.{Some, slice_get};
 ghost use Rattle.std.specs.Option.{option_and_then};
-ghost use Rattle.replayer.specs.Places.{TellsRequests, TellsResponses, FindsPartner};
-ghost use Rattle.replayer.specs.Places.{request_place, partner_place, request_at, response_at};
+ghost use Rattle.replayer.specs.Places.{TellsRequests, TellsResponses, FindsPartner, HasHeadAt};
+ghost use Rattle.replayer.specs.Places.{request_place, partner_place};
 ghost use Rattle.replayer.specs.Places.{IsRequestHere, IsResponseHere};
 
 use script_tree::request::{Request, Response};
@@ -10,16 +10,17 @@ use script_tree::trace::TraceEvent;
 use std::alloc::{AllocError, Global};
 use std::collections::BTreeMap;
 use std::marker::Model;
+use trace_format::trace_file::{EventHead, TraceFile};
 
 /// A trace, in which a request is found by its id, and a response and its request by one another.
-/// Contracts see its events.
+/// Contracts see its events. Requests and responses are made where they are wanted.
 #[derive(Drop)]
 pub struct IndexedTrace<'a> {
-    events: &'a [TraceEvent],
+    file: &'a TraceFile,
     /// The places of the requests, by id.
-    places: BTreeMap<u32, usize>,
+    places: BTreeMap<u32, u32>,
     /// The place of each event's partner: of a request its response, of a response its request.
-    partners: Vec<Option<usize>>,
+    partners: Vec<Option<u32>>,
 }
 
 impl<'a> Model for IndexedTrace<'a> {
@@ -40,33 +41,43 @@ impl<'a> Model for IndexedTrace<'a> {
 }
 
 impl<'a> IndexedTrace<'a> {
-    pub fn new(alloc: Global, events: &'a [TraceEvent]) -> Result<IndexedTrace<'a>, AllocError>
-        ensures { IfOk result (λ trace. trace ≡ events.now) }
+    pub fn new(alloc: Global, file: &'a TraceFile) -> Result<IndexedTrace<'a>, AllocError>
+        ensures { IfOk result (λ trace. trace ≡ file.now) }
     {
         let mut places = BTreeMap::new(alloc);
         let mut responses = BTreeMap::new(alloc);
-        for place in (0..events.len()).rev() {
-            match &events[place] {
-                TraceEvent::Asked(rid, _) => {
-                    places.insert(*rid, place)?;
+        for place in (0..file.len()).rev() {
+            let at = as_place(place)?;
+            match file.head(place) {
+                EventHead::Asks(rid) => {
+                    places.insert(rid, at)?;
                 }
-                TraceEvent::Answered(rid, _) => {
-                    responses.insert(*rid, place)?;
+                EventHead::Answers(rid) => {
+                    responses.insert(rid, at)?;
                 }
             }
         }
-        let partners = partners_of(alloc, events, &places, &responses)?;
+        let partners = partners_of(alloc, file, &places, &responses)?;
         Ok(IndexedTrace {
-            events,
+            file,
             places,
             partners,
         })
     }
 
-    pub fn events(&self) -> &'a [TraceEvent]
-        ensures { result.now ≡ self.now }
+    /// How many events there are.
+    pub fn len(&self) -> usize
+        ensures { result ≡ length self.now }
     {
-        self.events
+        self.file.len()
+    }
+
+    /// What kind of event stands here, and its id.
+    pub fn head(&self, place: usize) -> EventHead
+        requires { place < length self.now }
+        ensures { HasHeadAt self.now place result }
+    {
+        self.file.head(place)
     }
 
     /// Where the request of an id stands.
@@ -74,79 +85,85 @@ impl<'a> IndexedTrace<'a> {
         ensures place { result ≡ request_place self.now rid }
         ensures within { IfSome result (λ place. place < length self.now) }
     {
-        self.places.get(&rid).copied()
+        match self.places.get(&rid) {
+            Some(place) => Some(*place as usize),
+            None => None,
+        }
     }
 
     /// The request that stands here.
-    pub fn request(&self, place: usize) -> Option<&'a Request>
-        ensures { IsRequestHere self.now place (option_copied result) }
+    pub fn request(&self, alloc: Global, place: usize) -> Result<Option<Request>, AllocError>
+        requires { place < length self.now }
+        ensures { IfOk result (IsRequestHere self.now place) }
     {
-        request_at(self.events, place)
+        match self.file.event(alloc, place)? {
+            TraceEvent::Asked(_, request) => Ok(Some(request)),
+            TraceEvent::Answered(..) => Ok(None),
+        }
     }
 
     /// The response of the request that stands here.
-    pub fn response(&self, place: usize) -> Option<&'a Response>
-        ensures { IsResponseHere self.now place (option_copied result) }
+    pub fn response(&self, alloc: Global, place: usize) -> Result<Option<Response>, AllocError>
+        ensures { IfOk result (IsResponseHere self.now place) }
     {
-        response_at(self.events, self.partner(place)?)
+        let Some(partner) = self.partner(place) else {
+            return Ok(None);
+        };
+        if partner >= self.file.len() {
+            return Ok(None);
+        }
+        match self.file.event(alloc, partner)? {
+            TraceEvent::Answered(_, response) => Ok(Some(response)),
+            TraceEvent::Asked(..) => Ok(None),
+        }
     }
 
     /// Where the partner of the event stands that stands here.
     pub fn partner(&self, place: usize) -> Option<usize>
         ensures { result ≡ option_and_then (partner_place self.now) (slice_get self.now place) }
     {
-        *self.partners.get(place)?
+        match self.partners.get(place) {
+            Some(Some(partner)) => Some(*partner as usize),
+            Some(None) | None => None,
+        }
     }
+}
+
+/// A place of a trace. One that 32 bits don't hold is answered as want of memory.
+fn as_place(place: usize) -> Result<u32, AllocError>
+    ensures { IfOk result (λ at. at ≡ place) }
+{
+    u32::try_from(place).map_err(|_| AllocError)
 }
 
 /// The place of each event's partner.
 fn partners_of(
     alloc: Global,
-    events: &[TraceEvent],
-    requests: &BTreeMap<u32, usize>,
-    responses: &BTreeMap<u32, usize>,
-) -> Result<Vec<Option<usize>>, AllocError>
-    requires requests { TellsRequests requests.now 0 events.now }
-    requires responses { TellsResponses responses.now 0 events.now }
-    ensures { IfOk result (λ ps. ps.items ≡ map (partner_place events.now) events.now) }
+    file: &TraceFile,
+    requests: &BTreeMap<u32, u32>,
+    responses: &BTreeMap<u32, u32>,
+) -> Result<Vec<Option<u32>>, AllocError>
+    requires requests { TellsRequests requests.now 0 file.now }
+    requires responses { TellsResponses responses.now 0 file.now }
+    ensures { IfOk result (λ ps. ps.items ≡ map (partner_place file.now) file.now) }
 {
-    let mut partners = Vec::with_capacity(alloc, events.len())?;
-    for event in events {
-        partners.push(partner_of(event, requests, responses))?;
+    let mut partners = Vec::with_capacity(alloc, file.len())?;
+    for place in 0..file.len() {
+        partners.push(partner_of(file.head(place), requests, responses))?;
     }
     Ok(partners)
 }
 
-/// The place of the event's partner.
+/// The place of an event's partner.
 fn partner_of(
-    event: &TraceEvent,
-    requests: &BTreeMap<u32, usize>,
-    responses: &BTreeMap<u32, usize>,
-) -> Option<usize>
-    ensures { FindsPartner requests.now responses.now event.now result }
+    head: EventHead,
+    requests: &BTreeMap<u32, u32>,
+    responses: &BTreeMap<u32, u32>,
+) -> Option<u32>
+    ensures { FindsPartner requests.now responses.now head result }
 {
-    match event {
-        TraceEvent::Asked(rid, _) => responses.get(rid).copied(),
-        TraceEvent::Answered(rid, _) => requests.get(rid).copied(),
-    }
-}
-
-/// The request at a place, if one stands there.
-fn request_at(events: &[TraceEvent], place: usize) -> Option<&Request>
-    ensures { option_copied result ≡ request_at events.now place }
-{
-    match events.get(place)? {
-        TraceEvent::Asked(_, request) => Some(request),
-        TraceEvent::Answered(..) => None,
-    }
-}
-
-/// The response at a place, if one stands there.
-fn response_at(events: &[TraceEvent], place: usize) -> Option<&Response>
-    ensures { option_copied result ≡ response_at events.now place }
-{
-    match events.get(place)? {
-        TraceEvent::Answered(_, response) => Some(response),
-        TraceEvent::Asked(..) => None,
+    match head {
+        EventHead::Asks(rid) => responses.get(&rid).copied(),
+        EventHead::Answers(rid) => requests.get(&rid).copied(),
     }
 }

@@ -10,11 +10,11 @@ use crate::reason::{ReplayReason, Replayed};
 use crate::runner::Runner;
 use crate::stage::{Stage, rid_of};
 use object_set::ObjectSet;
+use schedule_format::schedule_file::ScheduleFile;
 use script_check::program::Program;
 use script_index::Index;
-use script_tree::schedule::Schedule;
-use script_tree::trace::Trace;
 use std::alloc::{AllocError, Global};
+use trace_format::trace_file::TraceFile;
 
 /// Where the schedule first differs from the trace, if it does, from what these objects hold.
 /// Requests are run by the runner.
@@ -23,17 +23,16 @@ pub fn replay_by<R: Runner>(
     runner: &R,
     index: &Index,
     start: ObjectSet,
-    trace: &Trace,
-    schedule: &Schedule,
+    trace: &TraceFile,
+    schedule: &ScheduleFile,
 ) -> Result<Option<ReplayReason>, AllocError>
     requires { IsSetOf index.now start }
     ensures { IfOk result (IsDifference index.now start trace.now schedule.now) }
 {
-    let events = IndexedTrace::new(alloc, trace.as_slice())?;
+    let events = IndexedTrace::new(alloc, trace)?;
     let mut stage = Stage::new(alloc, index, start, events)?;
-    let moments = schedule.as_slice();
-    for place in 0..moments.len() {
-        let moment = moments[place];
+    for place in 0..schedule.len() {
+        let moment = schedule.moment(place);
         if let Some(reason) = stage.step(alloc, runner, moment)? {
             return Ok(Some(ReplayReason::AtMoment {
                 reason,
@@ -50,8 +49,8 @@ fn difference(
     alloc: Global,
     program: &Program,
     start: ObjectSet,
-    trace: &Trace,
-    schedule: &Schedule,
+    trace: &TraceFile,
+    schedule: &ScheduleFile,
 ) -> Result<Option<ReplayReason>, AllocError>
     requires { IsSetOf program.now start }
     ensures { IfOk result (IsDifference program.now start trace.now schedule.now) }
@@ -66,8 +65,8 @@ pub fn replay(
     alloc: Global,
     program: &Program,
     start: ObjectSet,
-    trace: &Trace,
-    schedule: Result<&Schedule, u64>,
+    trace: &TraceFile,
+    schedule: Result<&ScheduleFile, u64>,
 ) -> Result<Replayed, AllocError>
     requires set { IsSetOf program.now start }
     requires balanced { IsBalanced trace.now }

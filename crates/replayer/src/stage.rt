@@ -1,4 +1,4 @@
-ghost use Rattle.std.specs.Prelude.{◌≡◌, vec_len, length, option_copied};
+ghost use Rattle.std.specs.Prelude.{◌≡◌, vec_len, length};
 ghost use Rattle.script_check.specs.Validity.{IsValid};
 ghost use Rattle.object_set.specs.ObjectSets.{IsSetOf};
 ghost use Rattle.script_meaning.specs.Explains.{rid_of};
@@ -51,7 +51,7 @@ impl<'a, 'p> Stage<'a, 'p> {
         ensures { IfOk result (Opens index.now start trace.entry) }
     {
         let _declarations = index.program().declarations();
-        let standings = all_away(alloc, trace.events().len())?;
+        let standings = all_away(alloc, trace.len())?;
         let waiting = first_waiting(&trace, &standings, 0);
         Ok(Stage {
             index,
@@ -137,7 +137,8 @@ impl<'a, 'p> Stage<'a, 'p> {
             Some(Next::Wants(_)) => return Ok(Some(Reason::WantsOperation)),
             None => return Ok(Some(Reason::NotOpen)),
         };
-        if !is_same_response(&response, self.trace.response(place)) {
+        let traced = self.trace.response(alloc, place)?;
+        if !is_same_response(&response, &traced) {
             return Ok(Some(Reason::OtherResponse));
         }
         self.standings[place] = Standing::Departed;
@@ -159,11 +160,11 @@ impl<'a, 'p> Stage<'a, 'p> {
         let Standing::Open(answers) = &self.standings[place] else {
             return Ok(None);
         };
-        let Some(request) = self.trace.request(place) else {
+        let Some(request) = self.trace.request(alloc, place)? else {
             return Ok(None);
         };
         request.keeps_limits();
-        let next = runner.next(alloc, self.index, request, answers.as_slice())?;
+        let next = runner.next(alloc, self.index, &request, answers.as_slice())?;
         Ok(Some(next))
     }
 
@@ -184,8 +185,8 @@ pub fn rid_of(moment: Moment) -> u32
     }
 }
 
-fn is_same_response(response: &Response, traced: Option<&Response>) -> bool
-    ensures { result ≡ is_same_response response.now (option_copied traced.entry) }
+fn is_same_response(response: &Response, traced: &Option<Response>) -> bool
+    ensures { result ≡ is_same_response response.now traced.now }
 {
     match traced {
         Some(traced) => {

@@ -1,15 +1,15 @@
-ghost use Rattle.std.specs.Prelude.{◌≡◌, ◌<◌, ℕ, vec_len, slice_index_or, IfOk, OnOk, OnErr};
-ghost use Rattle.replayer.specs.Differences.{left_open, first_not_departed};
+ghost use Rattle.std.specs.Prelude.{◌≡◌, ◌<◌, ℕ, length, vec_len, slice_index_or, IfOk, OnOk, OnErr};
+ghost use Rattle.replayer.specs.Differences.{first_not_departed};
 ghost use Rattle.replayer.specs.Standings.{standing_at, departed_in, is_departed, waiting_from};
-ghost use Rattle.replayer.specs.Standings.{PutsAnswer, IsWaiting};
+ghost use Rattle.replayer.specs.Standings.{PutsAnswer, IsWaiting, IsLeftOpen};
 ghost use Rattle.replayer.specs.declared.standing.Standing.TheVariants.{Away};
 
 use crate::indexed_trace::IndexedTrace;
 use crate::reason::ReplayReason;
 use basis::Items;
-use script_tree::trace::TraceEvent;
 use script_tree::value::Value;
 use std::alloc::{AllocError, Global};
+use trace_format::trace_file::EventHead;
 
 /// The answers to a request's operations, in order.
 pub type Answers = Items<Value>;
@@ -67,11 +67,12 @@ fn is_departed(standings: &[Standing], place: Option<usize>) -> bool
 
 /// Whether a response stands here whose request has not departed.
 fn waits(trace: &IndexedTrace, standings: &[Standing], place: usize) -> bool
+    requires { place < length trace.now }
     ensures { IsWaiting trace.now standings.now place result }
 {
-    match trace.events().get(place) {
-        Some(TraceEvent::Answered(..)) => !is_departed(standings, trace.partner(place)),
-        Some(TraceEvent::Asked(..)) | None => false,
+    match trace.head(place) {
+        EventHead::Answers(_) => !is_departed(standings, trace.partner(place)),
+        EventHead::Asks(_) => false,
     }
 }
 
@@ -80,29 +81,25 @@ pub fn first_waiting(trace: &IndexedTrace, standings: &[Standing], from: usize) 
     ensures { result ≡ waiting_from trace.now standings.now from }
 {
     let mut place = from;
-    while place < trace.events().len() && !waits(trace, standings, place) {
+    while place < trace.len() && !waits(trace, standings, place) {
         place += 1;
     }
     place
 }
 
 /// The event, where it is a request that has not departed.
-fn left_open(
-    trace: &IndexedTrace,
-    standings: &[Standing],
-    event: &TraceEvent,
-) -> Option<ReplayReason>
-    ensures { result ≡ left_open (departed_in trace.now standings.now) event.now }
+fn left_open(trace: &IndexedTrace, standings: &[Standing], head: EventHead) -> Option<ReplayReason>
+    ensures { IsLeftOpen trace.now standings.now head result }
 {
-    match event {
-        TraceEvent::Asked(rid, _) => {
-            if is_departed(standings, trace.place(*rid)) {
+    match head {
+        EventHead::Asks(rid) => {
+            if is_departed(standings, trace.place(rid)) {
                 None
             } else {
-                Some(ReplayReason::Open(*rid))
+                Some(ReplayReason::Open(rid))
             }
         }
-        TraceEvent::Answered(..) => None,
+        EventHead::Answers(_) => None,
     }
 }
 
@@ -110,8 +107,8 @@ fn left_open(
 pub fn first_not_departed(trace: &IndexedTrace, standings: &[Standing]) -> Option<ReplayReason>
     ensures { result ≡ first_not_departed (departed_in trace.now standings.now) trace.now }
 {
-    for event in trace.events() {
-        if let Some(reason) = left_open(trace, standings, event) {
+    for place in 0..trace.len() {
+        if let Some(reason) = left_open(trace, standings, trace.head(place)) {
             return Some(reason);
         }
     }

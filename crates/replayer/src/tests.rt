@@ -2,6 +2,7 @@ use crate::reason::{Reason, ReplayReason};
 use crate::replay::replay_by;
 use crate::runner::{Next, Runner};
 use object_set::ObjectSet;
+use schedule_format::schedule_file::ScheduleFile;
 use script_check::program::check;
 use script_index::Index;
 use script_tree::operation::Choice;
@@ -13,6 +14,7 @@ use script_tree::trace::{Trace, TraceEvent};
 use script_tree::value::Value;
 use std::alloc::{AllocError, Global};
 use std::test::Fail;
+use trace_format::trace_file::TraceFile;
 
 /// Runs nothing.
 struct Idle;
@@ -62,8 +64,11 @@ fn played(alloc: Global, moments: &[Moment]) -> Result<Option<ReplayReason>, Fai
         return Err(AllocError.into());
     };
     let start = ObjectSet::new(alloc, program.declarations())?;
-    let trace = one_after_the_other(alloc)?;
+    let trace = trace_format::encoding::encode(alloc, &one_after_the_other(alloc)?)?;
+    let trace = TraceFile::read(alloc, trace)?;
     let schedule = Schedule::from_vec(Vec::from_slice(alloc, moments)?);
+    let schedule = schedule_format::encoding::encode(alloc, &schedule)?;
+    let schedule = ScheduleFile::read(alloc, schedule)?;
     let index = Index::new(alloc, &program)?;
     Ok(replay_by(alloc, &Idle, &index, start, &trace, &schedule)?)
 }

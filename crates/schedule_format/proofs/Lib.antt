@@ -1,1 +1,2 @@
+pub mod FileMoments
 pub mod MomentFields

@@ -1,17 +1,19 @@
 -- Moments at a place: no two are spelled alike, and none stands where a part of it is missed.
-use Rattle.std.proofs.Common.{◌≡◌, ℕ, ◌+◌, List, [], ◌++◌, length, refl, ap, subst, ◌∙◌, arith}
+use Rattle.std.proofs.Common.{◌≡◌, ℕ, ◌+◌, List, [], ◌++◌, length, Result, Ok, Err, refl, ap, subst, ◌∙◌, arith}
+use Rattle.std.specs.Prelude.{IsErrAnd}
 use Rattle.std.specs.Int.{w32}
 use Rattle.script_tree.specs.declared.operation.Choice.{Choice}
 use Rattle.script_tree.specs.declared.schedule.Moment.{Moment}
 use Rattle.script_tree.specs.declared.schedule.Moment.TheVariants.{Arrive, Act, Depart}
 use Rattle.wire.specs.Spellings.{Field, IsSpelled, IsFieldAt, NoneIsAt, HasOneSpelling, byte_field, number_field, choice_spelling}
 use Rattle.wire.specs.Files.{IsExact}
+use Rattle.wire.specs.declared.fault.Unreadable.{Unreadable}
 use Rattle.wire.proofs.Spelled.{first_part}
 use Rattle.wire.proofs.Sequences.{pair_field, no_first, no_second, pair_one}
 use Rattle.wire.proofs.OneSpelling.{byte_one, one_of_32, choice_one}
 use Rattle.wire.proofs.FileLaws.{file_is_exact}
 use Rattle.wire.proofs.FileSteps.{one_payload}
-use Rattle.schedule_format.specs.Moments.{IsMoment, moment_field, moment_spelling, schedule_format}
+use Rattle.schedule_format.specs.Moments.{IsMoment, ReadsMoment, moment_field, moment_spelling, schedule_format}
 
 -- ---- a moment's tag, its id, and what stands behind them
 
@@ -65,6 +67,10 @@ no_tag bytes at none = no_head bytes at (no_first byte_field (λ tag. number_fie
 
 pub no_id : (bytes : List ℕ) (at tag mid : ℕ) → IsFieldAt byte_field bytes at tag mid → NoneIsAt (number_field w32) bytes mid → NoneIsAt moment_field bytes at
 no_id bytes at tag mid here none = no_head bytes at (no_second byte_field (λ t. number_field w32) byte_one bytes at tag mid here none)
+
+pub moment_missed : (payload : List ℕ) (fault : Unreadable) (r : Result (Moment × ℕ) Unreadable) → IsErrAnd r (λ e. e ≡ fault) → NoneIsAt moment_field payload 0 → ReadsMoment payload r
+moment_missed payload fault (Ok x) is none = absurd is
+moment_missed payload fault (Err e) is none = none
 
 -- ---- the law
 

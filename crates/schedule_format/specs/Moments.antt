@@ -1,8 +1,9 @@
 -- How a schedule is spelled.
-use Rattle.std.specs.Prelude.{ℕ, ◌<◌, ◌^◌, List, ◌∷◌, ◌++◌, codes}
+use Rattle.std.specs.Prelude.{ℕ, ◌<◌, ◌^◌, List, ◌∷◌, ◌++◌, codes, Result, Ok, Err}
 use Rattle.std.specs.Int.{w32, to_be_bytes}
-use Rattle.wire.specs.Spellings.{Field, IsWideChoice, choice_spelling}
+use Rattle.wire.specs.Spellings.{Field, IsFieldAt, NoneIsAt, IsWideChoice, choice_spelling}
 use Rattle.wire.specs.Files.{Format}
+use Rattle.wire.specs.declared.fault.Unreadable.{Unreadable}
 use Rattle.script_tree.specs.declared.schedule.Moment.{Moment}
 use Rattle.script_tree.specs.declared.schedule.Moment.TheVariants.{Arrive, Act, Depart}
 
@@ -20,6 +21,11 @@ IsMoment (Depart rid) = rid < 2 ^ 32
 
 abbrev pub moment_field : Field Moment
 moment_field = record { allows = λ m. IsMoment m; spelling = λ m. moment_spelling m }
+
+-- What is read stands at the start of a payload, up to the place; a fault says that none does.
+abbrev pub ReadsMoment : List ℕ → Result (Moment × ℕ) Unreadable → Type 0
+ReadsMoment payload (Ok x) = IsFieldAt moment_field payload 0 x.0 x.1
+ReadsMoment payload (Err fault) = NoneIsAt moment_field payload 0
 
 -- any moments, in any order
 abbrev pub schedule_format : Format Moment

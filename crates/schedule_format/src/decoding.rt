@@ -1,6 +1,5 @@
-ghost use Rattle.wire.specs.Spellings.{TakesPart};
 ghost use Rattle.wire.specs.Files.{Decodes, IsExact};
-ghost use Rattle.schedule_format.specs.Moments.{schedule_format, moment_field};
+ghost use Rattle.schedule_format.specs.Moments.{schedule_format, ReadsMoment};
 
 use crate::format::Moments;
 use basis::OrMemory;
@@ -11,9 +10,10 @@ use wire::field::{read_choice, read_u8, read_u32};
 use wire::file::read_file;
 use wire::record::RecordReader;
 
-/// The moment at the start of a payload, and the place behind it.
-fn read_moment(payload: &[u8]) -> Result<(Moment, usize), OrMemory<Unreadable>>
-    ensures { TakesPart (λ x. x) moment_field payload.now 0 result }
+/// The moment at the start of a payload, and the place behind it. It doesn't matter which place a
+/// fault names.
+pub(crate) fn read_moment(payload: &[u8]) -> Result<(Moment, usize), Unreadable>
+    ensures { ReadsMoment payload.now result }
 {
     let (tag, next) = read_u8(payload, 0)?;
     let (rid, next) = read_u32(payload, next)?;
@@ -24,7 +24,7 @@ fn read_moment(payload: &[u8]) -> Result<(Moment, usize), OrMemory<Unreadable>>
             Ok((Moment::Act(rid, choice), next))
         }
         3 => Ok((Moment::Depart(rid), next)),
-        _ => Err(OrMemory::Other(Unreadable { at: 0 })),
+        _ => Err(Unreadable { at: 0 }),
     }
 }
 

@@ -4,5 +4,6 @@
 pub mod decoding;
 pub mod encoding;
 mod format;
+pub mod schedule_file;
 #[cfg(test)]
 mod tests;

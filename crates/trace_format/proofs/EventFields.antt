@@ -20,11 +20,11 @@ use Rattle.trace_format.proofs.RequestFields.{request_one, response_one}
 
 -- ---- an event's tag, its id, and what stands behind them
 
-tag_of : TraceEvent → ℕ
+unfoldable pub tag_of : TraceEvent → ℕ
 tag_of (Asked rid q) = 1
 tag_of (Answered rid x) = 2
 
-id_of : TraceEvent → ℕ
+unfoldable pub id_of : TraceEvent → ℕ
 id_of (Asked rid q) = rid
 id_of (Answered rid x) = rid
 
@@ -53,6 +53,16 @@ head_allowed asked (Answered rid x) p = (omega arith, p.0)
 
 head_there : (asked : ℕ) (bytes : List ℕ) (at : ℕ) (e : TraceEvent) (next : ℕ) → IsFieldAt (event_field asked) bytes at e next → IsSpelled bytes at (head_field.spelling (head_of e) ++ rest_of e) next
 head_there asked bytes at e next p = let Here : List ℕ → Type 0 = λ s. IsSpelled bytes at s next in subst Here (by_head e) p.1
+
+-- the tag and the id are the event's
+pub head_is : (asked : ℕ) (bytes : List ℕ) (at tag mid rid place : ℕ) (e : TraceEvent) (next : ℕ) → IsFieldAt byte_field bytes at tag mid → IsFieldAt (number_field w32) bytes mid rid place → IsFieldAt (event_field asked) bytes at e next → (tag ≡ tag_of e) × (rid ≡ id_of e)
+head_is asked bytes at tag mid rid place e next first second p =
+    let there = head_there asked bytes at e next p in
+    let ends : ℕ = at + length (head_field.spelling (head_of e)) in
+    let found : ℕ × ℕ = (tag, rid) in
+    let head = both_there byte_field (λ t. number_field w32) bytes at tag mid rid place first second in
+    let same = same_field head_field head_one bytes at found (head_of e) place ends head (head_allowed asked e p.0, first_part bytes (head_field.spelling (head_of e)) (rest_of e) at next there) in
+    (ap (λ (h : ℕ × ℕ). h.0) same.0, ap (λ (h : ℕ × ℕ). h.1) same.0)
 
 -- what is left of the event that begins with a tag and an id
 behind_head : (asked : ℕ) (bytes : List ℕ) (at tag mid rid place : ℕ) (e : TraceEvent) (next : ℕ) → IsFieldAt byte_field bytes at tag mid → IsFieldAt (number_field w32) bytes mid rid place → IsFieldAt (event_field asked) bytes at e next → (tag ≡ tag_of e) × IsSpelled bytes place (rest_of e) next

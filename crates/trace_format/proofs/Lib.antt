@@ -1,4 +1,6 @@
 pub mod EventFields
+pub mod FileEvents
+pub mod Heads
 pub mod Lengths
 pub mod OneFault
 pub mod RequestFields

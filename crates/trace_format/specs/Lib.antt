@@ -1,3 +1,5 @@
 pub mod Balance
 pub mod Events
+pub mod Heads
 pub mod Stages
+pub mod TraceFiles

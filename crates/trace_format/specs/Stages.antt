@@ -6,34 +6,55 @@ use Rattle.std.specs.BTreeMap.{BTreeMap, get, Updates}
 use Rattle.trace_format.specs.Balance.{AsksAt}
 use Rattle.script_tree.specs.Requests.{Request}
 use Rattle.script_tree.specs.declared.trace.TraceEvent.{TraceEvent}
-use Rattle.script_tree.specs.declared.trace.TraceEvent.TheVariants.{Asked, Answered}
+use Rattle.trace_format.specs.Heads.{head_of}
+use Rattle.trace_format.specs.declared.trace_file.EventHead.{EventHead}
+use Rattle.trace_format.specs.declared.trace_file.EventHead.TheVariants.{Asks, Answers}
 use Rattle.trace_format.specs.declared.balance.Stage.{Stage}
 use Rattle.trace_format.specs.declared.balance.Stage.TheVariants.{Open, Closed}
 
+abbrev pub head_id : EventHead → ℕ
+head_id (Asks rid) = rid
+head_id (Answers rid) = rid
+
 abbrev pub id_of : TraceEvent → ℕ
-id_of (Asked rid q) = rid
-id_of (Answered rid x) = rid
+id_of e = head_id (head_of e)
 
 -- whether an event fits, where this is known of its id
+abbrev pub head_fits : EventHead → Option Stage → Bool
+head_fits (Asks rid) None = true
+head_fits (Asks rid) (Some stage) = false
+head_fits (Answers rid) None = false
+head_fits (Answers rid) (Some Open) = true
+head_fits (Answers rid) (Some Closed) = false
+
 abbrev pub fits : TraceEvent → Option Stage → Bool
-fits (Asked rid q) None = true
-fits (Asked rid q) (Some stage) = false
-fits (Answered rid x) None = false
-fits (Answered rid x) (Some Open) = true
-fits (Answered rid x) (Some Closed) = false
+fits e known = head_fits (head_of e) known
 
 -- how its id stands after it
+abbrev pub head_stage : EventHead → Stage
+head_stage (Asks rid) = Open
+head_stage (Answers rid) = Closed
+
 abbrev pub stage_after : TraceEvent → Stage
-stage_after (Asked rid q) = Open
-stage_after (Answered rid x) = Closed
+stage_after e = head_stage (head_of e)
+
+-- whether it is a request whose id is open
+abbrev pub is_open : Option Stage → Bool
+is_open None = false
+is_open (Some Open) = true
+is_open (Some Closed) = false
+
+abbrev pub asks_open : (ℕ → Option Stage) → EventHead → Bool
+asks_open stage (Asks rid) = is_open (stage rid)
+asks_open stage (Answers rid) = false
 
 -- what a map of stages knows of an id
 abbrev pub stage_of : BTreeMap ℕ Stage → ℕ → Option Stage
 stage_of stages rid = get nat_cmp stages rid
 
 -- the map with the stage of the event's id after it
-abbrev pub IsNoted : TraceEvent → BTreeMap ℕ Stage → BTreeMap ℕ Stage → Type 0
-IsNoted event old new = Updates nat_cmp old new (id_of event) (Some (stage_after event))
+abbrev pub IsNoted : EventHead → BTreeMap ℕ Stage → BTreeMap ℕ Stage → Type 0
+IsNoted head old new = Updates nat_cmp old new (head_id head) (Some (head_stage head))
 
 -- before the place, no request is one of an open id
 abbrev pub NoneOpen : (ℕ → Option Stage) → List TraceEvent → ℕ → Type 0

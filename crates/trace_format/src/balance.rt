@@ -1,8 +1,8 @@
 ghost use Rattle.std.specs.Prelude.{◌≡◌, IfOk, OnOk};
 ghost use Rattle.trace_format.specs.Balance.{IsFirstFault, IsOneFault};
-ghost use Rattle.trace_format.specs.Stages.{id_of, fits, stage_of, IsNoted, IsFirstOpen};
+ghost use Rattle.trace_format.specs.Stages.{head_id, head_fits, asks_open, stage_of, IsNoted, IsFirstOpen};
 
-use script_tree::trace::{Trace, TraceEvent};
+use crate::trace_file::{EventHead, TraceFile};
 use std::alloc::{AllocError, Global};
 use std::collections::BTreeMap;
 
@@ -17,51 +17,61 @@ pub enum Stage {
 
 /// Notes how the id of an event stands after it. Tells whether the event fits what was known of
 /// its id.
-fn note(stages: &mut BTreeMap<u32, Stage>, event: &TraceEvent) -> Result<bool, AllocError>
-    ensures fits { IfOk result (λ b. b ≡ fits event.now (stage_of stages.old (id_of event.now))) }
-    ensures noted { OnOk result (IsNoted event.now stages.old stages.new) }
+fn note(stages: &mut BTreeMap<u32, Stage>, head: EventHead) -> Result<bool, AllocError>
+    ensures fits { IfOk result (λ b. b ≡ head_fits head (stage_of stages.old (head_id head))) }
+    ensures noted { OnOk result (IsNoted head stages.old stages.new) }
 {
-    match event {
-        TraceEvent::Asked(rid, _) => Ok(stages.insert(*rid, Stage::Open)?.is_none()),
-        TraceEvent::Answered(rid, _) => {
-            Ok(stages.insert(*rid, Stage::Closed)? == Some(Stage::Open))
+    match head {
+        EventHead::Asks(rid) => Ok(stages.insert(rid, Stage::Open)?.is_none()),
+        EventHead::Answers(rid) => Ok(stages.insert(rid, Stage::Closed)? == Some(Stage::Open)),
+    }
+}
+
+fn id_of(head: EventHead) -> u32
+    ensures { result ≡ head_id head }
+{
+    match head {
+        EventHead::Asks(rid) | EventHead::Answers(rid) => rid,
+    }
+}
+
+/// Whether it is a request whose id is open.
+fn asks_open(stages: &BTreeMap<u32, Stage>, head: EventHead) -> bool
+    ensures { result ≡ asks_open (stage_of stages.now) head }
+{
+    match head {
+        EventHead::Asks(rid) => match stages.get(&rid) {
+            Some(Stage::Open) => true,
+            Some(Stage::Closed) | None => false,
         },
+        EventHead::Answers(_) => false,
     }
 }
 
-fn id_of(event: &TraceEvent) -> u32
-    ensures { result ≡ id_of event.now }
+fn first_open(trace: &TraceFile, stages: &BTreeMap<u32, Stage>) -> Option<u32>
+    ensures { IsFirstOpen (stage_of stages.now) trace.now result }
 {
-    match event {
-        TraceEvent::Asked(rid, _) | TraceEvent::Answered(rid, _) => *rid,
-    }
-}
-
-fn first_open(events: &[TraceEvent], stages: &BTreeMap<u32, Stage>) -> Option<u32>
-    ensures { IsFirstOpen (stage_of stages.now) events.now result }
-{
-    for event in events {
-        if let TraceEvent::Asked(rid, _) = event
-            && stages.get(rid) == Some(&Stage::Open)
-        {
-            return Some(*rid);
+    for place in 0..trace.len() {
+        let head = trace.head(place);
+        if asks_open(stages, head) {
+            return Some(id_of(head));
         }
     }
     None
 }
 
 /// `None` for a balanced trace; else the id of the event that names the fault.
-pub fn first_unbalanced(alloc: Global, trace: &Trace) -> Result<Option<u32>, AllocError>
+pub fn first_unbalanced(alloc: Global, trace: &TraceFile) -> Result<Option<u32>, AllocError>
     ensures { IfOk result (λ r. IsFirstFault trace.now r) }
 {
-    let events = trace.as_slice();
     let mut stages = BTreeMap::new(alloc);
-    for event in events {
-        if !note(&mut stages, event)? {
-            return Ok(Some(id_of(event)));
+    for place in 0..trace.len() {
+        let head = trace.head(place);
+        if !note(&mut stages, head)? {
+            return Ok(Some(id_of(head)));
         }
     }
-    Ok(first_open(events, &stages))
+    Ok(first_open(trace, &stages))
 }
 
 /// A trace is balanced, or one id names its fault, and not another one.

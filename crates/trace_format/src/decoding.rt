@@ -15,7 +15,7 @@ use wire::file::read_file;
 use wire::record::RecordReader;
 
 /// The event at the start of a payload, behind so many requests, and the place behind it.
-fn read_event(
+pub(crate) fn read_event(
     alloc: Global,
     payload: &[u8],
     asked: usize,

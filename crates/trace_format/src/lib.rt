@@ -8,3 +8,4 @@ mod format;
 mod request;
 #[cfg(test)]
 mod tests;
+pub mod trace_file;

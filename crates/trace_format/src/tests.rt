@@ -1,6 +1,7 @@
 use crate::balance::first_unbalanced;
 use crate::decoding::decode;
 use crate::encoding::encode;
+use crate::trace_file::TraceFile;
 use basis::OrMemory;
 use script_tree::request::{Parameters, Request, Response};
 use script_tree::text::Text;
@@ -64,6 +65,19 @@ fn files_of_the_examples(rt: HostRuntime) -> Result<(), Fail> {
 }
 
 #[test]
+fn an_event_of_a_file(rt: HostRuntime) -> Result<(), Fail> {
+    let file = TraceFile::read(rt.alloc(), Vec::from_slice(rt.alloc(), FILE)?)?;
+    assert!(rt; file.len() == 2);
+    if file.len() == 2 {
+        let mut events = Trace::new(rt.alloc());
+        events.push(file.event(rt.alloc(), 0)?)?;
+        events.push(file.event(rt.alloc(), 1)?)?;
+        assert!(rt; is_the_example(&events));
+    }
+    Ok(())
+}
+
+#[test]
 fn unreadable_files(rt: HostRuntime) -> Result<(), Fail> {
     let mut longer = Vec::from_slice(rt.alloc(), FILE)?;
     longer.push(0)?;
@@ -114,7 +128,8 @@ fn faults_of_balance(rt: HostRuntime) -> Result<(), Fail> {
         for (is_request, rid) in events {
             items.push(event_of(rt.alloc(), *is_request, *rid, 0)?)?;
         }
-        let found = first_unbalanced(rt.alloc(), &Trace::from_vec(items))?;
+        let bytes = encode(rt.alloc(), &Trace::from_vec(items))?;
+        let found = first_unbalanced(rt.alloc(), &TraceFile::read(rt.alloc(), bytes)?)?;
         assert_eq!(rt; found, rid);
     }
     Ok(())

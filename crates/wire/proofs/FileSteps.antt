@@ -104,7 +104,7 @@ whole_there field bytes x next p end' =
     (p.0, p.1.spells ∙ ap (λ (r : List ℕ). field.spelling x ++ r) rest ∙ append-nil (field.spelling x))
 
 -- what is the whole payload stands at its start
-start_there : {A : Type 0} (field : Field A) (bytes : List ℕ) (x : A) → field.allows x → bytes ≡ field.spelling x → IsFieldAt field bytes 0 x (length bytes)
+pub start_there : {A : Type 0} (field : Field A) (bytes : List ℕ) (x : A) → field.allows x → bytes ≡ field.spelling x → IsFieldAt field bytes 0 x (length bytes)
 start_there field bytes x allowed e =
     let whole : IsSpelled (field.spelling x ++ []) 0 (field.spelling x) (length (field.spelling x)) = at_front (field.spelling x) [] in
     let Here : List ℕ → Type 0 = λ b. IsSpelled b 0 (field.spelling x) (length (field.spelling x)) in

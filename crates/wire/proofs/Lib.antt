@@ -5,6 +5,7 @@ pub mod FileSteps
 pub mod NumberFields
 pub mod OneSpelling
 pub mod Readings
+pub mod RecordSteps
 pub mod Sequences
 pub mod Spelled
 pub mod ToldApart

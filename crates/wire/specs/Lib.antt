@@ -1,4 +1,6 @@
 pub mod Files
 pub mod Readers
+pub mod Recorded
+pub mod RecordsView
 pub mod Spellings
 pub mod ValueReadings

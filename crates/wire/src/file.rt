@@ -11,7 +11,7 @@ use basis::{Items, OrMemory};
 use std::alloc::{AllocError, Global};
 
 /// The item of the record at a place, and the place behind the record.
-fn read_record<R: RecordReader>(
+pub(crate) fn read_record<R: RecordReader>(
     alloc: Global,
     reader: &mut R,
     bytes: &[u8],

@@ -8,6 +8,7 @@ pub mod file;
 pub mod laws;
 pub mod limits;
 pub mod record;
+pub mod records;
 #[cfg(test)]
 mod tests;
 pub mod value_reading;

@@ -4,5 +4,5 @@ use Rattle.replayer.specs.Standings.{departed_in}
 use Rattle.replayer.proofs.standing.first_not_departed.Given as goal
 
 -- no request so far is the first
-abbrev pub invariant-loop-event : goal.invariant-loop-event
-invariant-loop-event l = first_not_departed (departed_in l.trace l.standings) l.trace ≡ first_not_departed (departed_in l.trace l.standings) (drop l.event-index l.event-items)
+abbrev pub invariant-loop-place : goal.invariant-loop-place
+invariant-loop-place l = first_not_departed (departed_in l.trace l.standings) l.trace ≡ first_not_departed (departed_in l.trace l.standings) (drop l.place l.trace)

@@ -1,7 +1,21 @@
-use Rattle.std.proofs.Common.{◌∙◌, ap}
-use Rattle.replayer.specs.Places.{request_at}
+use Rattle.std.proofs.Common.{◌≡◌, ◌∙◌, Some, ap, sym}
+use Rattle.std.specs.List.{slice_get}
+use Rattle.std.specs.Option.{option_and_then}
+use Rattle.basis.specs.Lists.{nth}
+use Rattle.script_tree.specs.declared.trace.TraceEvent.TheVariants.{Asked, Answered}
+use Rattle.replayer.specs.Places.{the_request}
+use Rattle.replayer.proofs.HeadFacts.{nth_got}
 use Rattle.replayer.proofs.PlaceFacts.{request_found}
 use Rattle.replayer.proofs.indexed_trace.IndexedTrace.request.Goals as goal
 
+pub returns-in-Asked : goal.returns-in-Asked
+returns-in-Asked c = λ r here.
+    let at : slice_get c.args.self.now c.args.place ≡ Some (Asked c.in-Asked.field-0 c.in-Asked.request) =
+    sym (nth_got c.args.self.now c.args.place) ∙ ap (λ es. nth es c.args.place) (sym c.self.view_is) ∙ c.in_ok-request.ensures ∙ ap (λ e. Some e) c.in-Asked.is in
+    ap (option_and_then the_request) (sym at) ∙ request_found r c.args.self.now c.args.place here
+
 pub returns : goal.returns
-returns c = λ r here. c.request_at.ensures ∙ ap (λ es. request_at es c.args.place) c.self.view_is ∙ request_found r c.args.self.now c.args.place here
+returns c = λ r here.
+    let at : slice_get c.args.self.now c.args.place ≡ Some (Answered c.in-Answered.field-0 c.in-Answered.field-1) =
+    sym (nth_got c.args.self.now c.args.place) ∙ ap (λ es. nth es c.args.place) (sym c.self.view_is) ∙ c.in_ok-request.ensures ∙ ap (λ e. Some e) c.in-Answered.is in
+    ap (option_and_then the_request) (sym at) ∙ request_found r c.args.self.now c.args.place here

@@ -22,7 +22,7 @@ returns-clause-step g c = λ r here past scene h.
     let w = opened stage.index.now (request_of stage.trace r) answers (Ends response k.2.0) e in
     let next : next_of stage.index.now stage.trace scene r ≡ Some (Ends response k.2.0) = ap (ending_with stage.index.now (request_of stage.trace r)) (h.answers r) ∙ e in
     record {
-      named = departure_told stage.index.now stage.trace scene r response k.2.0 true next (ap (is_same_response response) (sym (c.response.ensures r here)) ∙ sym c.is_same_response.ensures ∙ c.if-not-is_same_response.false);
+      named = departure_told stage.index.now stage.trace scene r response k.2.0 true next (ap (is_same_response response) (sym (c.in_ok-traced.ensures r here)) ∙ sym c.is_same_response.ensures ∙ c.if-not-is_same_response.false);
       shown = λ _. shows_departure stage.index.now stage.trace past scene (kept_of stage) r w.1 _ h w.3 (puts_at stage.trace ss r c.args.place Departed here inside) refl
           (c.first_waiting-self.ensures ∙ ap (λ xs. stage.waiting + first_waiting (departed_in stage.trace xs) (drop stage.waiting stage.trace)) c.deref.ensures.value);
     }

@@ -1,4 +1,4 @@
-use Rattle.std.proofs.Common.{◌≡◌, ◌∙◌, ◌<◌, Some, length, ap, sym, arith, option_copied}
+use Rattle.std.proofs.Common.{◌≡◌, ◌∙◌, ◌<◌, Some, length, ap, sym, arith}
 use Rattle.script_tree.specs.Traces.{request_of}
 use Rattle.replayer.specs.Standings.{answers_in}
 use Rattle.replayer.specs.Stages.{standing_of}
@@ -13,8 +13,8 @@ next-requires g c =
     let inside : c.args.place < length stage.standings.items = omega (arith, c.requires.within, stage.sized, stage.standings.ok.0) in
     let stands = stands_in stage.trace stage.standings.items rid c.args.place c.index.result.now c.requires.stands inside c.index.ensures in
     let open_ : answers_in (standing_of stage rid) ≡ Some c.as_slice.result.now = ap answers_in (stands ∙ c.in-Open.is) ∙ ap (λ ds. Some ds) (sym c.as_slice.ensures) in
-    let known : request_of stage.trace rid ≡ Some c.in-Some.request.now = sym (c.request.ensures rid c.requires.stands) ∙ ap option_copied c.in-Some.is in
-    stage.defined rid c.in-Some.request.now c.as_slice.result.now known open_
+    let known : request_of stage.trace rid ≡ Some c.in-Some.request = sym (c.in_ok-request.ensures rid c.requires.stands) ∙ c.in-Some.is in
+    stage.defined rid c.in-Some.request c.as_slice.result.now known open_
 
 pub returns-clause-fits : goal.returns-clause-fits
-returns-clause-fits g c = wants_what_fits c.args.self.now c.in-Some.request.now c.as_slice.result.now c.in_ok-next.next c.keeps_limits.ensures c.in_ok-next.ensures
+returns-clause-fits g c = wants_what_fits c.args.self.now c.in-Some.request c.as_slice.result.now c.in_ok-next.next c.keeps_limits.ensures c.in_ok-next.ensures

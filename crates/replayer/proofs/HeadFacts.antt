@@ -1,0 +1,54 @@
+-- What the head of an event tells of it.
+use Rattle.std.proofs.Common.{◌≡◌, ◌∙◌, ◌<◌, ℕ, zero, suc, List, [], ◌∷◌, length, get_or, Option, Some, None, Bool, false, cond, not, ap, sym, refl, arith}
+use Rattle.std.specs.List.{slice_get}
+use Rattle.basis.specs.Lists.{nth}
+use Rattle.basis.proofs.Options.{some_is, none_is_not}
+use Rattle.script_tree.specs.declared.trace.TraceEvent.{TraceEvent}
+use Rattle.script_tree.specs.declared.trace.TraceEvent.TheVariants.{Asked, Answered}
+use Rattle.trace_format.specs.Heads.{head_of}
+use Rattle.trace_format.specs.declared.trace_file.EventHead.TheVariants.{Asks, Answers}
+use Rattle.replayer.specs.Differences.{left_open}
+use Rattle.replayer.specs.Places.{partner_place}
+use Rattle.replayer.specs.Standings.{standing_at, is_departed, departed_in, waits}
+use Rattle.replayer.specs.declared.reason.ReplayReason.TheVariants.{Open as LeftOpen}
+use Rattle.replayer.specs.declared.standing.Standing.{Standing}
+
+pub nth_got : {A : Type 0} (xs : List A) (i : ℕ) → nth xs i ≡ slice_get xs i
+nth_got [] i = refl
+nth_got (x ∷ xs) zero = refl
+nth_got (x ∷ xs) (suc i) = nth_got xs i
+
+-- an event stands at each place
+pub there : (es : List TraceEvent) (i : ℕ) → i < length es → (e : TraceEvent) × (slice_get es i ≡ Some e)
+there [] i lt = absurd (omega (arith, lt))
+there (e ∷ es) zero lt = (e, refl)
+there (e ∷ es) (suc i) lt = there es i (omega (arith, lt))
+
+pub read_there : (es : List TraceEvent) (i : ℕ) (e : TraceEvent) → slice_get es i ≡ Some e → e ≡ get_or es i e
+read_there [] i e at = absurd (none_is_not at)
+read_there (x ∷ es) zero e at = sym (some_is at)
+read_there (x ∷ es) (suc i) e at = read_there es i e at
+
+-- ---- responses that are waited for
+
+pub answers_waits : (trace : List TraceEvent) (ss : List Standing) (e : TraceEvent) (r : ℕ) (o : Option ℕ) (b : Bool) → Answers r ≡ head_of e → o ≡ partner_place trace e
+    → b ≡ is_departed (standing_at ss o) → not b ≡ waits (departed_in trace ss) e
+answers_waits trace ss (Asked q p) r o b is partner told = absurd cc
+answers_waits trace ss (Answered q x) r o b is partner told = ap not (told ∙ ap (λ place. is_departed (standing_at ss place)) partner)
+
+pub asks_waits : (d : ℕ → Bool) (e : TraceEvent) (r : ℕ) → Asks r ≡ head_of e → false ≡ waits d e
+asks_waits d (Asked q p) r is = refl
+asks_waits d (Answered q x) r is = absurd cc
+
+-- ---- requests that have not departed
+
+same_asks : (r q : ℕ) → Asks r ≡ Asks q → r ≡ q
+same_asks r q e = cc
+
+pub asks_left : (d : ℕ → Bool) (e : TraceEvent) (r : ℕ) (b : Bool) → Asks r ≡ head_of e → b ≡ d r → cond b None (Some (LeftOpen r)) ≡ left_open d e
+asks_left d (Asked q p) r b is told = let same : r ≡ q = same_asks r q is in rw (told, same) refl
+asks_left d (Answered q x) r b is told = absurd cc
+
+pub answers_left : (d : ℕ → Bool) (e : TraceEvent) (r : ℕ) → Answers r ≡ head_of e → None ≡ left_open d e
+answers_left d (Asked q p) r is = absurd cc
+answers_left d (Answered q x) r is = refl

@@ -1,3 +1,4 @@
+pub mod AnswersView
 pub mod Differences
 pub mod IndexedTraces
 pub mod Laws

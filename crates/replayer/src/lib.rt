@@ -1,6 +1,7 @@
 //! A schedule against a trace: it agrees, or the first moment that differs, and why.
 #![tactic(auto)]
 
+pub mod answers;
 pub mod indexed_trace;
 pub mod law;
 pub mod plain_runner;

@@ -5,10 +5,11 @@ ghost use Rattle.script_meaning.specs.Explains.{rid_of};
 ghost use Rattle.replayer.specs.Differences.{is_same_response};
 ghost use Rattle.replayer.specs.Standings.{AreDefined};
 
+use crate::answers::Answers;
 use crate::indexed_trace::IndexedTrace;
 use crate::reason::{Reason, ReplayReason};
 use crate::runner::{Next, Runner};
-use crate::standing::{Answers, Standing, all_away, first_not_departed, first_waiting, put_answer};
+use crate::standing::{Standing, all_away, first_not_departed, first_waiting, put_answer};
 use basis::OrMemory;
 use object_set::{ObjectSet, Refused};
 use script_index::Index;
@@ -76,13 +77,13 @@ impl<'a, 'p> Stage<'a, 'p> {
             return Ok(Some(Reason::UnknownRequest));
         };
         match moment {
-            Moment::Arrive(_) => Ok(self.arrive(alloc, place)),
+            Moment::Arrive(_) => Ok(self.arrive(place)),
             Moment::Act(_, choice) => self.act(alloc, runner, place, choice),
             Moment::Depart(_) => self.depart(alloc, runner, place),
         }
     }
 
-    fn arrive(&mut self, alloc: Global, place: usize) -> Option<Reason>
+    fn arrive(&mut self, place: usize) -> Option<Reason>
         requires { IsRequestPlace self.old.trace place }
         ensures step { StepsAt place (λ r. Arrive r) self.old self.new result }
         ensures same { IsStageOf self.old.index.now self.old.trace self.new }
@@ -93,7 +94,7 @@ impl<'a, 'p> Stage<'a, 'p> {
         if self.waiting < place {
             return Some(Reason::TooEarly);
         }
-        self.standings[place] = Standing::Open(Answers::new(alloc));
+        self.standings[place] = Standing::Open(Answers::new());
         None
     }
 
@@ -118,7 +119,7 @@ impl<'a, 'p> Stage<'a, 'p> {
             Err(OrMemory::Other(Refused)) => return Ok(Some(Reason::BadChoice)),
             Err(OrMemory::Memory) => return Err(AllocError),
         };
-        put_answer(&mut self.standings, place, answer)?;
+        put_answer(alloc, &mut self.standings, place, answer)?;
         Ok(None)
     }
 

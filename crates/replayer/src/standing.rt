@@ -4,15 +4,12 @@ ghost use Rattle.replayer.specs.Standings.{standing_at, departed_in, is_departed
 ghost use Rattle.replayer.specs.Standings.{PutsAnswer, IsWaiting, IsLeftOpen};
 ghost use Rattle.replayer.specs.declared.standing.Standing.TheVariants.{Away};
 
+use crate::answers::Answers;
 use crate::indexed_trace::IndexedTrace;
 use crate::reason::ReplayReason;
-use basis::Items;
 use script_tree::value::Value;
 use std::alloc::{AllocError, Global};
 use trace_format::trace_file::EventHead;
-
-/// The answers to a request's operations, in order.
-pub type Answers = Items<Value>;
 
 /// How a request stands.
 #[derive(Drop)]
@@ -39,6 +36,7 @@ pub fn all_away(alloc: Global, count: usize) -> Result<Vec<Standing>, AllocError
 
 /// Gives an open request the answer to its operation.
 pub fn put_answer(
+    alloc: Global,
     standings: &mut Vec<Standing>,
     place: usize,
     answer: Value,
@@ -50,7 +48,7 @@ pub fn put_answer(
     if place < standings.len()
         && let Standing::Open(answers) = &mut standings[place]
     {
-        answers.push(answer)?;
+        answers.push(alloc, answer)?;
     }
     Ok(())
 }

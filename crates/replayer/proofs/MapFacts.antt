@@ -1,5 +1,7 @@
 -- The places of requests and of responses, from the last event to the first.
-use Rattle.std.proofs.Common.{◌≡◌, ◌∙◌, ℕ, suc, List, ◌∷◌, drop, Option, Some, Bool, true, false, cond, nat_eq, ap, sym, refl, arith}
+use Rattle.std.proofs.Common.{◌≡◌, ◌∙◌, ◌<◌, ◌+◌, ℕ, suc, List, length, ◌∷◌, drop, Option, Some, Bool, true, false, cond, nat_eq, ap, sym, refl, arith}
+use Rattle.std.proofs.lemmas.List.{drop_more}
+use Rattle.std.specs.List.{slice_get}
 use Rattle.std.specs.BTreeMap.{BTreeMap, get, is_at, Updates}
 use Rattle.std.specs.Ordering.{nat_cmp}
 use Rattle.std.proofs.lemmas.Bool.{eqb-true}
@@ -8,6 +10,7 @@ use Rattle.script_tree.specs.declared.trace.TraceEvent.{TraceEvent}
 use Rattle.script_tree.specs.declared.trace.TraceEvent.TheVariants.{Asked, Answered}
 use Rattle.trace_format.specs.Heads.{head_of}
 use Rattle.trace_format.specs.declared.trace_file.EventHead.TheVariants.{Asks, Answers}
+use Rattle.replayer.proofs.HeadFacts.{read_there}
 use Rattle.replayer.specs.Places.{is_request, is_response, first_place, TellsRequests, TellsResponses}
 
 other_key : (a b : ℕ) → nat_eq b a ≡ false → is_at (nat_cmp a) b ≡ false
@@ -54,3 +57,7 @@ pub answered_stays : (es : List TraceEvent) (p n rid : ℕ) (e : TraceEvent) (m 
 answered_stays es p n rid (Answered q x) m here next is later r =
     in_front (is_request r) es p n (Answered q x) false (get nat_cmp m r) (get nat_cmp m r) here next refl (later r) refl
 answered_stays es p n rid (Asked q x) m here next is later r = absurd cc
+
+-- the events from a place on
+pub from : (es : List TraceEvent) (p n : ℕ) (e : TraceEvent) → p < length es → p + 1 ≡ n → slice_get es p ≡ Some e → drop p es ≡ e ∷ drop n es
+from es p n e lt next at = drop_more es p e lt ∙ ap (λ x. x ∷ drop (p + 1) es) (sym (read_there es p e at)) ∙ ap (λ k. e ∷ drop k es) next

@@ -1,4 +1,3 @@
-pub mod AnswersView
 pub mod Differences
 pub mod IndexedTraces
 pub mod Laws

@@ -44,19 +44,8 @@ impl<'a> IndexedTrace<'a> {
     pub fn new(alloc: Global, file: &'a TraceFile) -> Result<IndexedTrace<'a>, AllocError>
         ensures { IfOk result (λ trace. trace ≡ file.now) }
     {
-        let mut places = BTreeMap::new(alloc);
-        let mut responses = BTreeMap::new(alloc);
-        for place in (0..file.len()).rev() {
-            let at = as_place(place)?;
-            match file.head(place) {
-                EventHead::Asks(rid) => {
-                    places.insert(rid, at)?;
-                }
-                EventHead::Answers(rid) => {
-                    responses.insert(rid, at)?;
-                }
-            }
-        }
+        let places = request_places(alloc, file)?;
+        let responses = response_places(alloc, file)?;
         let partners = partners_of(alloc, file, &places, &responses)?;
         Ok(IndexedTrace {
             file,
@@ -134,6 +123,32 @@ fn as_place(place: usize) -> Result<u32, AllocError>
     ensures { IfOk result (λ at. at ≡ place) }
 {
     u32::try_from(place).map_err(|_| AllocError)
+}
+
+/// The place of each request, by id.
+fn request_places(alloc: Global, file: &TraceFile) -> Result<BTreeMap<u32, u32>, AllocError>
+    ensures { IfOk result (λ places. TellsRequests places 0 file.now) }
+{
+    let mut places = BTreeMap::new(alloc);
+    for place in (0..file.len()).rev() {
+        if let EventHead::Asks(rid) = file.head(place) {
+            places.insert(rid, as_place(place)?)?;
+        }
+    }
+    Ok(places)
+}
+
+/// The place of each response, by id.
+fn response_places(alloc: Global, file: &TraceFile) -> Result<BTreeMap<u32, u32>, AllocError>
+    ensures { IfOk result (λ places. TellsResponses places 0 file.now) }
+{
+    let mut places = BTreeMap::new(alloc);
+    for place in (0..file.len()).rev() {
+        if let EventHead::Answers(rid) = file.head(place) {
+            places.insert(rid, as_place(place)?)?;
+        }
+    }
+    Ok(places)
 }
 
 /// The place of each event's partner.

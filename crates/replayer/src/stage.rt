@@ -77,25 +77,25 @@ impl<'a, 'p> Stage<'a, 'p> {
             return Ok(Some(Reason::UnknownRequest));
         };
         match moment {
-            Moment::Arrive(_) => Ok(self.arrive(place)),
+            Moment::Arrive(_) => self.arrive(alloc, place),
             Moment::Act(_, choice) => self.act(alloc, runner, place, choice),
             Moment::Depart(_) => self.depart(alloc, runner, place),
         }
     }
 
-    fn arrive(&mut self, place: usize) -> Option<Reason>
+    fn arrive(&mut self, alloc: Global, place: usize) -> Result<Option<Reason>, AllocError>
         requires { IsRequestPlace self.old.trace place }
-        ensures step { StepsAt place (λ r. Arrive r) self.old self.new result }
+        ensures step { IfOk result (StepsAt place (λ r. Arrive r) self.old self.new) }
         ensures same { IsStageOf self.old.index.now self.old.trace self.new }
     {
         let Standing::Away = &self.standings[place] else {
-            return Some(Reason::SecondArrival);
+            return Ok(Some(Reason::SecondArrival));
         };
         if self.waiting < place {
-            return Some(Reason::TooEarly);
+            return Ok(Some(Reason::TooEarly));
         }
-        self.standings[place] = Standing::Open(Answers::new());
-        None
+        self.standings[place] = Standing::Open(Answers::new(alloc)?);
+        Ok(None)
     }
 
     fn act<R: Runner>(
@@ -119,7 +119,7 @@ impl<'a, 'p> Stage<'a, 'p> {
             Err(OrMemory::Other(Refused)) => return Ok(Some(Reason::BadChoice)),
             Err(OrMemory::Memory) => return Err(AllocError),
         };
-        put_answer(alloc, &mut self.standings, place, answer)?;
+        put_answer(&mut self.standings, place, answer)?;
         Ok(None)
     }
 

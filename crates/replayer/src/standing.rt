@@ -36,7 +36,6 @@ pub fn all_away(alloc: Global, count: usize) -> Result<Vec<Standing>, AllocError
 
 /// Gives an open request the answer to its operation.
 pub fn put_answer(
-    alloc: Global,
     standings: &mut Vec<Standing>,
     place: usize,
     answer: Value,
@@ -48,7 +47,7 @@ pub fn put_answer(
     if place < standings.len()
         && let Standing::Open(answers) = &mut standings[place]
     {
-        answers.push(alloc, answer)?;
+        answers.push(answer)?;
     }
     Ok(())
 }

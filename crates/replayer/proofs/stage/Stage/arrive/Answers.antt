@@ -33,9 +33,9 @@ invariant_of-self-clause-defined c =
     let stage = c.args.self.now in
     let ss = stage.standings.items in
     let inside : c.args.place < length ss = omega (arith, c.requires.within, stage.sized, stage.standings.ok.0) in
-    let P : List Datum → Type 0 = λ ds. Puts stage.trace ss (set ss c.args.place (Open c.new.result)) c.requires.rid (Open ds) in
-    defined_more stage.index.now stage.trace ss (set ss c.args.place (Open c.new.result)) c.requires.rid (Open []) stage.defined
-    (subst P c.new.ensures (puts_at stage.trace ss c.requires.rid c.args.place (Open c.new.result) c.requires.stands inside))
+    let P : List Datum → Type 0 = λ ds. Puts stage.trace ss (set ss c.args.place (Open c.in_ok-new.field-0)) c.requires.rid (Open ds) in
+    defined_more stage.index.now stage.trace ss (set ss c.args.place (Open c.in_ok-new.field-0)) c.requires.rid (Open []) stage.defined
+    (subst P c.in_ok-new.ensures (puts_at stage.trace ss c.requires.rid c.args.place (Open c.in_ok-new.field-0) c.requires.stands inside))
     (λ q ds known is_open. begun_defined stage.index.now q ds is_open)
 
 pub returns-clause-step : goal.returns-clause-step
@@ -46,8 +46,8 @@ returns-clause-step c = λ r here past scene h.
     let away : standing_of stage r ≡ Away = stands_in stage.trace ss r c.args.place c.index.result.now here inside c.index.ensures ∙ c.in-Away.is in
     let new : has_arrived past r ≡ false = h.arrived r ∙ ap (λ s. not (is_away s)) away in
     let early = early_where past r (departed_in stage.trace ss) h.departed stage.trace stage.waiting c.args.place h.waits (sym (ap (λ o. unwrap_or o (length stage.trace)) here)) in
-    let P : List Datum → Type 0 = λ ds. Puts stage.trace ss (set ss c.args.place (Open c.new.result)) r (Open ds) in
-    let puts : P [] = subst P c.new.ensures (puts_at stage.trace ss r c.args.place (Open c.new.result) here inside) in
+    let P : List Datum → Type 0 = λ ds. Puts stage.trace ss (set ss c.args.place (Open c.in_ok-new.field-0)) r (Open ds) in
+    let puts : P [] = subst P c.in_ok-new.ensures (puts_at stage.trace ss r c.args.place (Open c.in_ok-new.field-0) here inside) in
     record {
       named = fault_is stage.trace past r false new (sym early ∙ not_below stage.waiting c.args.place c.if-self-place.false);
       shown = λ e. shows_arrival stage.index.now stage.trace past scene (kept_of stage) r _ h away puts refl refl;

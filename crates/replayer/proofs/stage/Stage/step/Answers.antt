@@ -17,7 +17,7 @@ returns-in-Arrive-clause-step g c =
     let stage = c.args.self.now in
     let r = c.in-Arrive.field-0 in
     let here : request_place stage.trace r ≡ Some c.in-Some.place = ap (request_place stage.trace) (sym (c.rid_of.ensures ∙ ap rid_of c.in-Arrive.is)) ∙ sym c.place.ensures.place ∙ c.in-Some.is in
-    rw c.in-Arrive.is (known_step stage c.arrive.new.self (Arrive r) c.in-Some.place c.arrive.result here (c.arrive.ensures.step r here))
+    rw c.in-Arrive.is (IfOk-map c.arrive.result (λ reason step. known_step stage c.arrive.new.self (Arrive r) c.in-Some.place reason here (step r here)) c.arrive.ensures.step)
 
 pub returns-in-Act-clause-step : goal.returns-in-Act-clause-step
 returns-in-Act-clause-step g c =

@@ -3,12 +3,14 @@ use Rattle.std.proofs.Common.{◌≡◌, ◌∙◌, ◌<◌, ℕ, zero, suc, Lis
 use Rattle.std.specs.List.{slice_get}
 use Rattle.basis.specs.Lists.{nth}
 use Rattle.basis.proofs.Options.{some_is, none_is_not}
+use Rattle.script_tree.specs.Requests.{Request}
+use Rattle.script_tree.specs.declared.request.Response.{Response}
 use Rattle.script_tree.specs.declared.trace.TraceEvent.{TraceEvent}
 use Rattle.script_tree.specs.declared.trace.TraceEvent.TheVariants.{Asked, Answered}
 use Rattle.trace_format.specs.Heads.{head_of}
 use Rattle.trace_format.specs.declared.trace_file.EventHead.TheVariants.{Asks, Answers}
 use Rattle.replayer.specs.Differences.{left_open}
-use Rattle.replayer.specs.Places.{partner_place}
+use Rattle.replayer.specs.Places.{IsPartner}
 use Rattle.replayer.specs.Standings.{standing_at, is_departed, departed_in, waits}
 use Rattle.replayer.specs.declared.reason.ReplayReason.TheVariants.{Open as LeftOpen}
 use Rattle.replayer.specs.declared.standing.Standing.{Standing}
@@ -17,6 +19,12 @@ pub nth_got : {A : Type 0} (xs : List A) (i : ℕ) → nth xs i ≡ slice_get xs
 nth_got [] i = refl
 nth_got (x ∷ xs) zero = refl
 nth_got (x ∷ xs) (suc i) = nth_got xs i
+
+pub same_asks : (r q : ℕ) → Asks r ≡ Asks q → r ≡ q
+same_asks r q e = cc
+
+same_answers : (r q : ℕ) → Answers r ≡ Answers q → r ≡ q
+same_answers r q e = cc
 
 -- an event stands at each place
 pub there : (es : List TraceEvent) (i : ℕ) → i < length es → (e : TraceEvent) × (slice_get es i ≡ Some e)
@@ -29,21 +37,27 @@ read_there [] i e at = absurd (none_is_not at)
 read_there (x ∷ es) zero e at = sym (some_is at)
 read_there (x ∷ es) (suc i) e at = read_there es i e at
 
+-- the event of a head
+pub is_asked : (e : TraceEvent) (r : ℕ) → Asks r ≡ head_of e → (q : Request) × (e ≡ Asked r q)
+is_asked (Asked p q) r is = (q, ap (λ n. Asked n q) (sym (same_asks r p is)))
+is_asked (Answered p x) r is = absurd cc
+
+pub is_answered : (e : TraceEvent) (r : ℕ) → Answers r ≡ head_of e → (x : Response) × (e ≡ Answered r x)
+is_answered (Asked p q) r is = absurd cc
+is_answered (Answered p x) r is = (x, ap (λ n. Answered n x) (sym (same_answers r p is)))
+
 -- ---- responses that are waited for
 
-pub answers_waits : (trace : List TraceEvent) (ss : List Standing) (e : TraceEvent) (r : ℕ) (o : Option ℕ) (b : Bool) → Answers r ≡ head_of e → o ≡ partner_place trace e
-    → b ≡ is_departed (standing_at ss o) → not b ≡ waits (departed_in trace ss) e
-answers_waits trace ss (Asked q p) r o b is partner told = absurd cc
-answers_waits trace ss (Answered q x) r o b is partner told = ap not (told ∙ ap (λ place. is_departed (standing_at ss place)) partner)
+pub answers_waits : (trace : List TraceEvent) (ss : List Standing) (place : ℕ) (e : TraceEvent) (r : ℕ) (o : Option ℕ) (b : Bool) → slice_get trace place ≡ Some e → Answers r ≡ head_of e
+    → IsPartner trace place o → b ≡ is_departed (standing_at ss o) → not b ≡ waits (departed_in trace ss) e
+answers_waits trace ss place (Asked q p) r o b at is partner told = absurd cc
+answers_waits trace ss place (Answered q x) r o b at is partner told = ap not (told ∙ ap (λ p. is_departed (standing_at ss p)) (partner.request q x at))
 
 pub asks_waits : (d : ℕ → Bool) (e : TraceEvent) (r : ℕ) → Asks r ≡ head_of e → false ≡ waits d e
 asks_waits d (Asked q p) r is = refl
 asks_waits d (Answered q x) r is = absurd cc
 
 -- ---- requests that have not departed
-
-same_asks : (r q : ℕ) → Asks r ≡ Asks q → r ≡ q
-same_asks r q e = cc
 
 pub asks_left : (d : ℕ → Bool) (e : TraceEvent) (r : ℕ) (b : Bool) → Asks r ≡ head_of e → b ≡ d r → cond b None (Some (LeftOpen r)) ≡ left_open d e
 asks_left d (Asked q p) r b is told = let same : r ≡ q = same_asks r q is in rw (told, same) refl

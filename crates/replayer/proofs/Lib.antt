@@ -2,6 +2,7 @@ mod Completely
 mod Soundly
 mod DifferenceTests
 pub mod MapFacts
+pub mod PartnerFacts
 pub mod PlaceFacts
 pub mod ResultFacts
 pub mod HeadFacts

@@ -1,22 +1,35 @@
 -- Facts on places in a trace.
-use Rattle.std.proofs.Common.{◌≡◌, ◌∙◌, ◌<◌, ◌≤◌, sym, ℕ, zero, suc, ◌+◌, List, [], ◌∷◌, Option, Some, None, Bool, true, false, cond, length, Bor, option_copied, IfSome, refl, ap, arith}
+use Rattle.std.proofs.Common.{◌≡◌, ◌∙◌, ◌<◌, ◌≤◌, sym, subst, get_or, ℕ, zero, suc, ◌+◌, List, [], ◌∷◌, Option, Some, None, Bool, true, false, cond, length, Bor, option_copied, IfSome, refl, ap, arith}
 use Rattle.std.specs.List.{slice_get}
-use Rattle.std.specs.Option.{option_and_then}
+use Rattle.std.specs.Option.{option_and_then, option_flatten}
 use Rattle.std.specs.Slice.{IsItemAt}
 use Rattle.std.proofs.lemmas.Option.{slice_get_read, slice_get_past}
 use Rattle.basis.specs.Lists.{first_answer, or_else}
 use Rattle.script_tree.specs.Traces.{request_in, response_in, request_of, response_of}
 use Rattle.script_tree.specs.declared.trace.TraceEvent.{TraceEvent}
 use Rattle.script_tree.specs.declared.trace.TraceEvent.TheVariants.{Asked, Answered}
-use Rattle.replayer.specs.Places.{is_request, is_response, first_place, request_place, response_place, partner_place, the_request, the_response, request_at, response_at}
+use Rattle.replayer.specs.Places.{is_request, is_response, first_place, request_place, response_place, the_request, the_response, request_at, response_at, IsPartner, ArePartners}
 use Rattle.basis.proofs.Options.{some_one}
 use Rattle.script_tree.specs.Requests.{Request}
+use Rattle.script_tree.specs.declared.request.Response.{Response}
 use Rattle.std.proofs.lemmas.Bool.{eqb-true}
 
 -- what a slice gives at a place
-pub got : (es : List TraceEvent) (i : ℕ) (r : Option (Bor TraceEvent)) → IsItemAt es i r → slice_get es i ≡ option_copied r
-got es i None h = slice_get_past es i h.3
-got es i (Some x) h = slice_get_read es (length es) i x.now refl h.3.0 h.1
+got : {A : Type 0} (xs : List A) (i : ℕ) (r : Option (Bor A)) → IsItemAt xs i r → slice_get xs i ≡ option_copied r
+got xs i None h = slice_get_past xs i h.3
+got xs i (Some x) h = slice_get_read xs (length xs) i x.now refl h.3.0 h.1
+
+got_or : {A : Type 0} (xs : List (Option A)) (i : ℕ) → get_or xs i None ≡ option_flatten (slice_get xs i)
+got_or [] i = refl
+got_or (x ∷ xs) zero = refl
+got_or (x ∷ xs) (suc i) = got_or xs i
+
+-- the partner that is read from a list of partners
+pub partner_told : (es events : List TraceEvent) (partners slice : List (Option ℕ)) (place : ℕ) (r : Option (Bor (Option ℕ))) (found : Option ℕ) → es ≡ events → ArePartners es partners → slice ≡ partners
+    → IsItemAt slice place r → option_flatten (option_copied r) ≡ found → IsPartner events place found
+partner_told es events partners slice place r found is told same lookup read =
+    let at : get_or partners place None ≡ found = ap (λ xs. get_or xs place None) (sym same) ∙ got_or slice place ∙ ap option_flatten (got slice place r lookup) ∙ read in
+    subst (λ xs. IsPartner xs place found) is (subst (λ o. IsPartner es place o) at (told place))
 
 -- a member that passes the test gives its answer, and no other gives one
 abbrev pub Fits : {B : Type 0} → Bool → Option B → Option B → Type 0
@@ -116,27 +129,40 @@ one_id x r i (e ∷ es) p a b = go (λ k l. one_id x r (suc i) es p k l) (is_req
 pub request_place-once : (x r : ℕ) (es : List TraceEvent) (p : ℕ) → request_place es x ≡ Some p → request_place es r ≡ Some p → x ≡ r
 request_place-once x r es p a b = one_id x r 0 es p a b
 
-request_there : (r i : ℕ) (es : List TraceEvent) (p : ℕ) → first_place (is_request r) i es ≡ Some p → (k : ℕ) × (q : Request) × (p ≡ i + k) × (slice_get es k ≡ Some (Asked r q))
-request_there r i [] p h = absurd (cc)
-request_there r i (e ∷ es) p h = go (is_request r e) refl h (λ k. request_there r (suc i) es p k)
+-- an event that passes the test stands at the first place
+first_there : (test : TraceEvent → Bool) (i : ℕ) (es : List TraceEvent) (p : ℕ) → first_place test i es ≡ Some p → (k : ℕ) × (e : TraceEvent) × (p ≡ i + k) × (slice_get es k ≡ Some e) × (test e ≡ true)
+first_there test i [] p h = absurd (cc)
+first_there test i (e ∷ es) p h = go (test e) refl h (λ k. first_there test (suc i) es p k)
   where
-    here : (e : TraceEvent) → is_request r e ≡ true → (q : Request) × (e ≡ Asked r q)
-    here (Asked rid q) t = (q, ap (λ n. Asked n q) (sym (eqb-true r rid t)))
-    here (Answered rid y) t = absurd (cc)
+    go : (b : Bool) → test e ≡ b → cond b (Some i) (first_place test (suc i) es) ≡ Some p
+        → (first_place test (suc i) es ≡ Some p → (k : ℕ) × (x : TraceEvent) × (p ≡ suc i + k) × (slice_get es k ≡ Some x) × (test x ≡ true))
+        → (k : ℕ) × (x : TraceEvent) × (p ≡ i + k) × (slice_get (e ∷ es) k ≡ Some x) × (test x ≡ true)
+    go true t k rest = let e' : i ≡ p = some_one i p k in (0, e, omega (arith, e'), refl, t)
+    go false t k rest = let more = rest k in (suc more.0, more.1, omega (arith, more.2), more.3, more.4)
 
-    go : (b : Bool) → is_request r e ≡ b → cond b (Some i) (first_place (is_request r) (suc i) es) ≡ Some p
-        → (first_place (is_request r) (suc i) es ≡ Some p → (k : ℕ) × (q : Request) × (p ≡ suc i + k) × (slice_get es k ≡ Some (Asked r q)))
-        → (k : ℕ) × (q : Request) × (p ≡ i + k) × (slice_get (e ∷ es) k ≡ Some (Asked r q))
-    go true t k rest = let e' : i ≡ p = some_one i p k in let found = here e t in (0, found.0, omega (arith, e'), ap Some found.1)
-    go false t k rest = let more = rest k in (suc more.0, more.1, omega (arith, more.2), more.3)
+at_first : (test : TraceEvent → Bool) (es : List TraceEvent) (p : ℕ) → first_place test 0 es ≡ Some p → (e : TraceEvent) × (slice_get es p ≡ Some e) × (test e ≡ true)
+at_first test es p h =
+    let there = first_there test 0 es p h in
+    let same : there.0 ≡ p = omega (arith, there.2) in
+    (there.1, ap (slice_get es) (sym same) ∙ there.3, there.4)
 
--- the request of an id stands at its place
+asked_by : (r : ℕ) (e : TraceEvent) → is_request r e ≡ true → (q : Request) × (e ≡ Asked r q)
+asked_by r (Asked rid q) t = (q, ap (λ n. Asked n q) (sym (eqb-true r rid t)))
+asked_by r (Answered rid y) t = absurd (cc)
+
+answered_to : (r : ℕ) (e : TraceEvent) → is_response r e ≡ true → (x : Response) × (e ≡ Answered r x)
+answered_to r (Asked rid q) t = absurd (cc)
+answered_to r (Answered rid y) t = (y, ap (λ n. Answered n y) (sym (eqb-true r rid t)))
+
+-- the request, and the response, of an id stands at its place
 pub request_here : (r : ℕ) (es : List TraceEvent) (p : ℕ) → request_place es r ≡ Some p → (q : Request) × (slice_get es p ≡ Some (Asked r q))
 request_here r es p h =
-    let there = request_there r 0 es p h in
-    let same : there.0 ≡ p = omega (arith, there.2) in
-    (there.1, ap (slice_get es) (sym same) ∙ there.3)
+    let there = at_first (is_request r) es p h in
+    let is = asked_by r there.0 there.2 in
+    (is.0, there.1 ∙ ap Some is.1)
 
--- and its partner is the response
-pub partner_of-request : (r : ℕ) (es : List TraceEvent) (p : ℕ) → request_place es r ≡ Some p → option_and_then (partner_place es) (slice_get es p) ≡ response_place es r
-partner_of-request r es p h = ap (option_and_then (partner_place es)) (request_here r es p h).1
+pub response_here : (r : ℕ) (es : List TraceEvent) (p : ℕ) → response_place es r ≡ Some p → (x : Response) × (slice_get es p ≡ Some (Answered r x))
+response_here r es p h =
+    let there = at_first (is_response r) es p h in
+    let is = answered_to r there.0 there.2 in
+    (is.0, there.1 ∙ ap Some is.1)

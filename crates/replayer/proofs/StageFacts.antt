@@ -20,7 +20,7 @@ use Rattle.script_tree.specs.declared.schedule.Moment.TheVariants.{Arrive, Act, 
 use Rattle.script_tree.specs.Programs.{Program}
 use Rattle.script_tree.specs.declared.trace.TraceEvent.{TraceEvent}
 use Rattle.script_tree.specs.declared.trace.TraceEvent.TheVariants.{Asked, Answered}
-use Rattle.script_meaning.specs.Conduct.{conduct, Ending, Wants, Ends, Undefined}
+use Rattle.script_meaning.specs.Conduct.{Ending, Wants, Ends}
 use Rattle.script_asks.proofs.RunsFurther.{defined_first, defined_next}
 use Rattle.script_meaning.specs.Replay.{Scene, opening, with_request, after, after_act, and_answer, ending_of, ending_with, next_of}
 use Rattle.replayer.specs.Differences.{has_arrived, has_departed, is_arrival, is_departure, is_too_early, first_not_departed, act_fault, departure_fault, is_same_response, moment_fault, fault_of, difference_from, difference_of}
@@ -29,9 +29,10 @@ use Rattle.replayer.specs.declared.reason.ReplayReason.TheVariants.{AtMoment, Op
 use Rattle.replayer.specs.declared.reason.Reason.TheVariants.{BadChoice, OtherResponse, UnknownRequest}
 use Rattle.object_set.specs.ObjectSets.{HeldObjects, objects_of}
 use Rattle.object_set.specs.Applied.{Does}
+use Rattle.replayer.specs.Opened.{Opened, opened_with, with_answer}
 use Rattle.replayer.specs.Places.{first_place, is_request, request_place, the_request}
 use Rattle.replayer.proofs.PlaceFacts.{request_place-once, request_found, request_absent, request_here}
-use Rattle.replayer.specs.Standings.{standing_at, standing_in, answers_in, is_away, departed_in, is_departed, Puts, waits, first_waiting, AreDefined}
+use Rattle.replayer.specs.Standings.{standing_at, standing_in, answers_in, is_away, departed_in, is_departed, Puts, waits, first_waiting, IsOpened, AreOpened}
 use Rattle.replayer.specs.Stages.{Kept, ShowsIn, Shows, IsStageOf, Opens, IsStep, Steps}
 use Rattle.replayer.specs.declared.stage.Stage.{Stage}
 use Rattle.std.specs.Option.{option_and_then}
@@ -199,57 +200,55 @@ apart_arrival r x ne = not-true (nat_eq x r) (λ t. ne (eqb-true x r t))
 
 pub away_is : (s : Standing) → is_away s ≡ true → s ≡ Away
 away_is Away h = refl
-away_is (Open ds) h = cc
+away_is (Open o) h = cc
 away_is Departed h = cc
 
-pub shows_arrival : (program : Program) (trace : List TraceEvent) (past : List Moment) (scene : Scene) (k : Kept) (r : ℕ) (k' : Kept) → ShowsIn trace past scene k
-    → standing_in trace k.standings r ≡ Away → Puts trace k.standings k'.standings r (Open []) → k'.objects ≡ k.objects → k'.waiting ≡ k.waiting
+pub shows_arrival : (program : Program) (trace : List TraceEvent) (past : List Moment) (scene : Scene) (k : Kept) (r : ℕ) (q : Request) (k' : Kept) → ShowsIn trace past scene k
+    → standing_in trace k.standings r ≡ Away → Puts trace k.standings k'.standings r (Open (opened_with q [])) → k'.objects ≡ k.objects → k'.waiting ≡ k.waiting
     → ShowsIn trace (past ++ Arrive r ∷ []) (after program trace scene (Arrive r)) k'
-shows_arrival program trace past scene k r k' h new p registers waiting =
+shows_arrival program trace past scene k r q k' h new p registers waiting =
     let same : is_departed (standing_in trace k.standings r) ≡ false = ap is_departed new in
-    shows_more trace past scene k h (Arrive r) (after program trace scene (Arrive r)) k' r (Open []) p
+    shows_more trace past scene k h (Arrive r) (after program trace scene (Arrive r)) k' r (Open (opened_with q [])) p
     (λ o. h.objects o ∙ ap (λ g. objects_of g o) (sym registers))
     (λ x. refl)
     (ap (λ b. has_arrived past r || b) (eq-eqb r r refl) ∙ or_true (has_arrived past r))
     (λ x ne. apart_arrival r x ne)
     (or-false (has_departed past r) ∙ h.departed r ∙ same)
     (λ x ne. refl)
-    (waiting ∙ h.waits ∙ same_waiting (departed_in trace k.standings) (departed_in trace k'.standings) (same_departed trace k.standings k'.standings r (Open []) p same) trace)
+    (waiting ∙ h.waits ∙ same_waiting (departed_in trace k.standings) (departed_in trace k'.standings) (same_departed trace k.standings k'.standings r (Open (opened_with q [])) p same) trace)
 
 -- ---- after an operation
 
-pub open_is : (s : Standing) (ds : List Datum) → answers_in s ≡ Some ds → s ≡ Open ds
-open_is Away ds h = cc
-open_is (Open es) ds h = let e : es ≡ ds = cc in ap (λ x. Open x) e
-open_is Departed ds h = cc
+pub open_is : (s : Standing) (ds : List Datum) → answers_in s ≡ Some ds → (q : Request) × (s ≡ Open (opened_with q ds))
+open_is Away ds h = absurd (cc)
+open_is (Open o) ds h = let e : o.answers ≡ ds = cc in (o.request, ap (λ x. Open (opened_with o.request x)) e)
+open_is Departed ds h = absurd (cc)
 
-pub shows_act : (program : Program) (trace : List TraceEvent) (past : List Moment) (scene : Scene) (k : Kept) (r : ℕ) (choice : Choice) (op : Op) (ds : List Datum) (d : Datum) (k' : Kept) → ShowsIn trace past scene k
-    → next_of program trace scene r ≡ Some (Wants op) → answers_in (standing_in trace k.standings r) ≡ Some ds → Does op choice k.objects k'.objects d
-    → Puts trace k.standings k'.standings r (Open (ds ++ d ∷ [])) → k'.waiting ≡ k.waiting
+pub shows_act : (program : Program) (trace : List TraceEvent) (past : List Moment) (scene : Scene) (k : Kept) (r : ℕ) (choice : Choice) (op : Op) (o : Opened) (d : Datum) (k' : Kept) → ShowsIn trace past scene k
+    → next_of program trace scene r ≡ Some (Wants op) → standing_in trace k.standings r ≡ Open o → Does op choice k.objects k'.objects d
+    → Puts trace k.standings k'.standings r (Open (with_answer o d)) → k'.waiting ≡ k.waiting
     → ShowsIn trace (past ++ Act r choice ∷ []) (after program trace scene (Act r choice)) k'
-shows_act program trace past scene k r choice op ds d k' h next is_open does p waiting =
-    let at : standing_in trace k.standings r ≡ Open ds = open_is (standing_in trace k.standings r) ds is_open in
+shows_act program trace past scene k r choice op opened d k' h next at does p waiting =
     let same : is_departed (standing_in trace k.standings r) ≡ false = ap is_departed at in
     let S : Option Ending → Type 0 = λ e. ShowsIn trace (past ++ Act r choice ∷ []) (after_act r choice e scene) k' in
-    subst S (sym next) (shows_more trace past scene k h (Act r choice) (after_act r choice (Some (Wants op)) scene) k' r (Open (ds ++ d ∷ [])) p
+    subst S (sym next) (shows_more trace past scene k h (Act r choice) (after_act r choice (Some (Wants op)) scene) k' r (Open (with_answer opened d)) p
     (λ o. ap (λ c. holding op.object (acted op.act choice c).0 scene.objects o) (h.objects op.object)
     ∙ ap (λ c. cond (is_same op.object o) (acted op.act choice (objects_of k.objects op.object)).0 c) (h.objects o)
     ∙ sym (does.left o))
-    (λ x. ap (λ a. with_request r a scene.answers x) (ap (λ c. and_answer (scene.answers r) (acted op.act choice c).1) (h.objects op.object) ∙ ap (λ a. and_answer a (acted op.act choice (objects_of k.objects op.object)).1) (h.answers r ∙ is_open) ∙ ap (λ y. Some (ds ++ y ∷ [])) (sym does.answered)))
+    (λ x. ap (λ a. with_request r a scene.answers x) (ap (λ c. and_answer (scene.answers r) (acted op.act choice c).1) (h.objects op.object) ∙ ap (λ a. and_answer a (acted op.act choice (objects_of k.objects op.object)).1) (h.answers r ∙ ap answers_in at) ∙ ap (λ y. Some (opened.answers ++ y ∷ [])) (sym does.answered)))
     (or-false (has_arrived past r) ∙ h.arrived r ∙ ap (λ s. not (is_away s)) at)
     (λ x ne. refl)
     (or-false (has_departed past r) ∙ h.departed r ∙ same)
     (λ x ne. refl)
-    (waiting ∙ h.waits ∙ same_waiting (departed_in trace k.standings) (departed_in trace k'.standings) (same_departed trace k.standings k'.standings r (Open (ds ++ d ∷ [])) p same) trace))
+    (waiting ∙ h.waits ∙ same_waiting (departed_in trace k.standings) (departed_in trace k'.standings) (same_departed trace k.standings k'.standings r (Open (with_answer opened d)) p same) trace))
 
 -- ---- after a departure
 
-pub shows_departure : (program : Program) (trace : List TraceEvent) (past : List Moment) (scene : Scene) (k : Kept) (r : ℕ) (ds : List Datum) (k' : Kept) → ShowsIn trace past scene k
-    → answers_in (standing_in trace k.standings r) ≡ Some ds → Puts trace k.standings k'.standings r Departed → k'.objects ≡ k.objects
+pub shows_departure : (program : Program) (trace : List TraceEvent) (past : List Moment) (scene : Scene) (k : Kept) (r : ℕ) (o : Opened) (k' : Kept) → ShowsIn trace past scene k
+    → standing_in trace k.standings r ≡ Open o → Puts trace k.standings k'.standings r Departed → k'.objects ≡ k.objects
     → k'.waiting ≡ k.waiting + first_waiting (departed_in trace k'.standings) (drop k.waiting trace)
     → ShowsIn trace (past ++ Depart r ∷ []) (after program trace scene (Depart r)) k'
-shows_departure program trace past scene k r ds k' h is_open p registers waiting =
-    let at : standing_in trace k.standings r ≡ Open ds = open_is (standing_in trace k.standings r) ds is_open in
+shows_departure program trace past scene k r opened k' h at p registers waiting =
     shows_more trace past scene k h (Depart r) (after program trace scene (Depart r)) k' r Departed p
     (λ o. h.objects o ∙ ap (λ g. objects_of g o) (sym registers))
     (λ x. refl)
@@ -268,26 +267,28 @@ shows_departure program trace past scene k r ds k' h is_open p registers waiting
 
 -- ---- runs that go on or end
 
-pub defined_more : (program : Program) (trace : List TraceEvent) (m n : List Standing) (r : ℕ) (s : Standing) → AreDefined program trace m → Puts trace m n r s
-    → ((q : Request) (ds : List Datum) → request_of trace r ≡ Some q → answers_in s ≡ Some ds → ending_of program q ds ≢ Undefined) → AreDefined program trace n
-defined_more program trace m n r s h p here x q ds known open_ = elim (cases_eq x r) [
-  | inl e ↦ here q ds (ap (request_of trace) (sym e) ∙ known) (ap answers_in (sym (put_here p x e)) ∙ open_)
-  | inr ne ↦ h x q ds known (ap answers_in (sym (p.others x ne)) ∙ open_)
+pub opened_more : (program : Program) (trace : List TraceEvent) (m n : List Standing) (r : ℕ) (s : Standing) → AreOpened program trace m → Puts trace m n r s
+    → ((o : Opened) → s ≡ Open o → IsOpened program trace r o) → AreOpened program trace n
+opened_more program trace m n r s h p here x o is = elim (cases_eq x r) [
+  | inl e ↦ subst (λ y. IsOpened program trace y o) (sym e) (here o (sym (put_here p x e) ∙ is))
+  | inr ne ↦ h x o (sym (p.others x ne) ∙ is)
 ]
 
+-- of an open request, what holds of the one that is put there
+one_opened : (program : Program) (trace : List TraceEvent) (r : ℕ) (put : Opened) → IsOpened program trace r put → (o : Opened) → Open put ≡ Open o → IsOpened program trace r o
+one_opened program trace r put h o is = let same : put ≡ o = cc in subst (λ x. IsOpened program trace r x) same h
+
 -- a run without answers goes on or ends
-pub begun_defined : (program : Program) (q : Request) (ds : List Datum) → answers_in (Open []) ≡ Some ds → ending_of program q ds ≢ Undefined
+pub begun_opened : (program : Program) (trace : List TraceEvent) (r : ℕ) (q : Request) → request_of trace r ≡ Some q → (o : Opened) → Open (opened_with q []) ≡ Open o → IsOpened program trace r o
 unfolding ending_of
-begun_defined program q ds is_open =
-    let none : [] ≡ ds = cc in
-    subst (λ (es : List Datum). (conduct program q es).ending ≢ Undefined) none (defined_first program q)
+begun_opened program trace r q known = one_opened program trace r (opened_with q []) (record { traced = known; defined = defined_first program q })
 
 -- so does one with an answer to the operation that it wanted
-pub answered_defined : (program : Program) (q : Request) (ds : List Datum) (d : Datum) (op : Op) → ending_of program q ds ≡ Wants op → (es : List Datum) → answers_in (Open (ds ++ d ∷ [])) ≡ Some es → ending_of program q es ≢ Undefined
+pub answered_opened : (program : Program) (trace : List TraceEvent) (r : ℕ) (asked : Opened) (d : Datum) (op : Op) → request_of trace r ≡ Some asked.request → ending_of program asked.request asked.answers ≡ Wants op
+    → (o : Opened) → Open (with_answer asked d) ≡ Open o → IsOpened program trace r o
 unfolding ending_of
-answered_defined program q ds d op wanted es is_open =
-    let all : ds ++ d ∷ [] ≡ es = cc in
-    subst (λ (xs : List Datum). (conduct program q xs).ending ≢ Undefined) all (defined_next program q ds d op wanted)
+answered_opened program trace r asked d op known wanted =
+    one_opened program trace r (with_answer asked d) (record { traced = known; defined = defined_next program asked.request asked.answers d op wanted })
 
 -- ---- what a request does next
 
@@ -323,8 +324,8 @@ shows_opening trace k away waits = record {
   waits = waits;
 }
 
-pub none_defined : (program : Program) (trace : List TraceEvent) (ss : List Standing) → ((r : ℕ) → standing_in trace ss r ≡ Away) → AreDefined program trace ss
-none_defined program trace ss away r q ds known is_open = absurd (let n : None ≡ Some ds = sym (ap answers_in (away r)) ∙ is_open in cc)
+pub none_opened : (program : Program) (trace : List TraceEvent) (ss : List Standing) → ((r : ℕ) → standing_in trace ss r ≡ Away) → AreOpened program trace ss
+none_opened program trace ss away r o is = absurd (let n : Away ≡ Open o = sym (away r) ∙ is in cc)
 
 -- ---- a moment of a request that is known, or not
 

@@ -1,6 +1,8 @@
 pub mod Differences
 pub mod IndexedTraces
 pub mod Laws
+pub mod Opened
+pub mod OpenedView
 pub mod Places
 pub mod Runners
 pub mod Stages

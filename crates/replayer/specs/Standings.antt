@@ -1,8 +1,7 @@
 -- How the requests of a trace stand, each at its place in the trace.
-use Rattle.std.specs.Prelude.{◌≡◌, ◌≢◌, ℕ, suc, ◌+◌, Bool, true, false, not, if◌then◌else◌, List, [], ◌∷◌, ◌++◌, drop, Option, Some, None, slice_get, slice_set, slice_index_or}
+use Rattle.std.specs.Prelude.{◌≡◌, ◌≢◌, ℕ, suc, ◌+◌, Bool, true, false, not, if◌then◌else◌, List, [], ◌∷◌, drop, Option, Some, None, slice_get, slice_set, slice_index_or}
 use Rattle.script_tree.specs.Datum.{Datum}
 use Rattle.script_tree.specs.Programs.{Program}
-use Rattle.script_tree.specs.Requests.{Request}
 use Rattle.script_tree.specs.Traces.{request_of}
 use Rattle.script_tree.specs.declared.trace.TraceEvent.{TraceEvent}
 use Rattle.script_tree.specs.declared.trace.TraceEvent.TheVariants.{Asked, Answered}
@@ -11,6 +10,7 @@ use Rattle.script_meaning.specs.Replay.{ending_of}
 use Rattle.trace_format.specs.Heads.{head_of}
 use Rattle.trace_format.specs.declared.trace_file.EventHead.{EventHead}
 use Rattle.replayer.specs.Differences.{left_open}
+use Rattle.replayer.specs.Opened.{Opened, with_answer}
 use Rattle.replayer.specs.Places.{request_place}
 use Rattle.replayer.specs.declared.reason.ReplayReason.{ReplayReason}
 use Rattle.replayer.specs.declared.standing.Standing.{Standing}
@@ -26,17 +26,17 @@ standing_in trace ss r = standing_at ss (request_place trace r)
 
 abbrev pub answers_in : Standing → Option (List Datum)
 answers_in Away = None
-answers_in (Open ds) = Some ds
+answers_in (Open o) = Some o.answers
 answers_in Departed = None
 
 abbrev pub is_away : Standing → Bool
 is_away Away = true
-is_away (Open ds) = false
+is_away (Open o) = false
 is_away Departed = false
 
 abbrev pub is_departed : Standing → Bool
 is_departed Away = false
-is_departed (Open ds) = false
+is_departed (Open o) = false
 is_departed Departed = true
 
 abbrev pub departed_in : List TraceEvent → List Standing → ℕ → Bool
@@ -49,7 +49,7 @@ pub record Puts (trace : List TraceEvent) (before after : List Standing) (r : �
 
 -- An open request gets an answer at its place.
 abbrev pub PutsAnswer : List Standing → ℕ → Datum → List Standing → Type 0
-PutsAnswer before place d after = (ds : List Datum) → slice_index_or before place Away ≡ Open ds → after ≡ slice_set before place (Open (ds ++ d ∷ []))
+PutsAnswer before place d after = (o : Opened) → slice_index_or before place Away ≡ Open o → after ≡ slice_set before place (Open (with_answer o d))
 
 -- ---- responses that are waited for
 
@@ -77,8 +77,11 @@ IsLeftOpen trace ss head told = (e : TraceEvent) → head ≡ head_of e → told
 
 -- ---- runs
 
--- Each open request has only answers to operations that it wanted, so that its run goes on or ends.
-abbrev pub AreDefined : Program → List TraceEvent → List Standing → Type 0
-AreDefined program trace ss =
-    (r : ℕ) (q : Request) (ds : List Datum) → request_of trace r ≡ Some q → answers_in (standing_in trace ss r) ≡ Some ds
-    → ending_of program q ds ≢ Undefined
+-- The open request is the trace's of this id, and has only answers to operations that it wanted, so that its run goes on
+-- or ends.
+pub record IsOpened (program : Program) (trace : List TraceEvent) (r : ℕ) (o : Opened) : Type 0 where
+  pub traced : request_of trace r ≡ Some o.request
+  pub defined : ending_of program o.request o.answers ≢ Undefined
+
+abbrev pub AreOpened : Program → List TraceEvent → List Standing → Type 0
+AreOpened program trace ss = (r : ℕ) (o : Opened) → standing_in trace ss r ≡ Open o → IsOpened program trace r o

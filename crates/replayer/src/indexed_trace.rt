@@ -1,9 +1,6 @@
-ghost use Rattle.std.specs.Prelude.{◌≡◌, ◌<◌, IfOk, IfSome, length, map};
-ghost use Rattle.std.specs.Prelude.{Some, slice_get};
-ghost use Rattle.std.specs.Option.{option_and_then};
-ghost use Rattle.replayer.specs.Places.{TellsRequests, TellsResponses, FindsPartner, HasHeadAt};
-ghost use Rattle.replayer.specs.Places.{request_place, partner_place};
-ghost use Rattle.replayer.specs.Places.{IsRequestHere, IsResponseHere};
+ghost use Rattle.std.specs.Prelude.{◌≡◌, ◌<◌, IfOk, IfSome, length};
+ghost use Rattle.replayer.specs.Places.{TellsRequests, ArePartners, IsPartner, IsRequestPlace};
+ghost use Rattle.replayer.specs.Places.{HasHeadAt, request_place, IsRequestHere, IsResponseHere};
 
 use script_tree::request::{Request, Response};
 use script_tree::trace::TraceEvent;
@@ -45,8 +42,7 @@ impl<'a> IndexedTrace<'a> {
         ensures { IfOk result (λ trace. trace ≡ file.now) }
     {
         let places = request_places(alloc, file)?;
-        let responses = response_places(alloc, file)?;
-        let partners = partners_of(alloc, file, &places, &responses)?;
+        let partners = partners_of(alloc, file, &places)?;
         Ok(IndexedTrace {
             file,
             places,
@@ -81,39 +77,37 @@ impl<'a> IndexedTrace<'a> {
     }
 
     /// The request that stands here.
-    pub fn request(&self, alloc: Global, place: usize) -> Result<Option<Request>, AllocError>
-        requires { place < length self.now }
+    pub fn request(&self, alloc: Global, place: usize) -> Result<Request, AllocError>
+        requires { IsRequestPlace self.now place }
         ensures { IfOk result (IsRequestHere self.now place) }
     {
         match self.file.event(alloc, place)? {
-            TraceEvent::Asked(_, request) => Ok(Some(request)),
-            TraceEvent::Answered(..) => Ok(None),
+            TraceEvent::Asked(_, request) => Ok(request),
+            TraceEvent::Answered(..) => unreachable!(),
         }
     }
 
     /// The response of the request that stands here.
     pub fn response(&self, alloc: Global, place: usize) -> Result<Option<Response>, AllocError>
+        requires { IsRequestPlace self.now place }
         ensures { IfOk result (IsResponseHere self.now place) }
     {
         let Some(partner) = self.partner(place) else {
             return Ok(None);
         };
-        if partner >= self.file.len() {
-            return Ok(None);
-        }
         match self.file.event(alloc, partner)? {
             TraceEvent::Answered(_, response) => Ok(Some(response)),
-            TraceEvent::Asked(..) => Ok(None),
+            TraceEvent::Asked(..) => unreachable!(),
         }
     }
 
     /// Where the partner of the event stands that stands here.
     pub fn partner(&self, place: usize) -> Option<usize>
-        ensures { result ≡ option_and_then (partner_place self.now) (slice_get self.now place) }
+        ensures { IsPartner self.now place result }
     {
-        match self.partners.get(place) {
-            Some(Some(partner)) => Some(*partner as usize),
-            Some(None) | None => None,
+        match self.partners.get(place).copied().flatten() {
+            Some(partner) => Some(partner as usize),
+            None => None,
         }
     }
 }
@@ -138,47 +132,24 @@ fn request_places(alloc: Global, file: &TraceFile) -> Result<BTreeMap<u32, u32>,
     Ok(places)
 }
 
-/// The place of each response, by id.
-fn response_places(alloc: Global, file: &TraceFile) -> Result<BTreeMap<u32, u32>, AllocError>
-    ensures { IfOk result (λ places. TellsResponses places 0 file.now) }
-{
-    let mut places = BTreeMap::new(alloc);
-    for place in (0..file.len()).rev() {
-        if let EventHead::Answers(rid) = file.head(place) {
-            places.insert(rid, as_place(place)?)?;
-        }
-    }
-    Ok(places)
-}
-
 /// The place of each event's partner.
 fn partners_of(
     alloc: Global,
     file: &TraceFile,
-    requests: &BTreeMap<u32, u32>,
-    responses: &BTreeMap<u32, u32>,
+    places: &BTreeMap<u32, u32>,
 ) -> Result<Vec<Option<u32>>, AllocError>
-    requires requests { TellsRequests requests.now 0 file.now }
-    requires responses { TellsResponses responses.now 0 file.now }
-    ensures { IfOk result (λ ps. ps.items ≡ map (partner_place file.now) file.now) }
+    requires { TellsRequests places.now 0 file.now }
+    ensures { IfOk result (λ partners. ArePartners file.now partners.items) }
 {
-    let mut partners = Vec::with_capacity(alloc, file.len())?;
-    for place in 0..file.len() {
-        partners.push(partner_of(file.head(place), requests, responses))?;
+    let mut partners = vec![in alloc; None; file.len()]?;
+    for place in (0..file.len()).rev() {
+        if let EventHead::Answers(rid) = file.head(place) {
+            let request = places.get(&rid).copied();
+            partners[place] = request;
+            if let Some(request) = request {
+                partners[request as usize] = Some(as_place(place)?);
+            }
+        }
     }
     Ok(partners)
-}
-
-/// The place of an event's partner.
-fn partner_of(
-    head: EventHead,
-    requests: &BTreeMap<u32, u32>,
-    responses: &BTreeMap<u32, u32>,
-) -> Option<u32>
-    ensures { FindsPartner requests.now responses.now head result }
-{
-    match head {
-        EventHead::Asks(rid) => responses.get(&rid).copied(),
-        EventHead::Answers(rid) => requests.get(&rid).copied(),
-    }
 }

@@ -1,9 +1,9 @@
 //! A schedule against a trace: it agrees, or the first moment that differs, and why.
 #![tactic(auto)]
 
-pub mod answers;
 pub mod indexed_trace;
 pub mod law;
+pub mod open_request;
 pub mod plain_runner;
 pub mod reason;
 pub mod replay;

@@ -3,10 +3,10 @@ ghost use Rattle.script_check.specs.Validity.{IsValid};
 ghost use Rattle.object_set.specs.ObjectSets.{IsSetOf};
 ghost use Rattle.script_meaning.specs.Explains.{rid_of};
 ghost use Rattle.replayer.specs.Differences.{is_same_response};
-ghost use Rattle.replayer.specs.Standings.{AreDefined};
+ghost use Rattle.replayer.specs.Standings.{AreOpened};
 
-use crate::answers::Answers;
 use crate::indexed_trace::IndexedTrace;
+use crate::open_request::OpenRequest;
 use crate::reason::{Reason, ReplayReason};
 use crate::runner::{Next, Runner};
 use crate::standing::{Standing, all_away, first_not_departed, first_waiting, put_answer};
@@ -31,7 +31,7 @@ pub struct Stage<'a, 'p> {
     ghost valid: { IsValid index.now.declarations },
     ghost set: { IsSetOf index.now objects },
     ghost sized: { vec_len standings ≡ length trace },
-    ghost defined: { AreDefined index.now trace standings.items },
+    ghost opened: { AreOpened index.now trace standings.items },
 }
 
 impl<'a, 'p> Stage<'a, 'p> {
@@ -94,7 +94,8 @@ impl<'a, 'p> Stage<'a, 'p> {
         if self.waiting < place {
             return Ok(Some(Reason::TooEarly));
         }
-        self.standings[place] = Standing::Open(Answers::new(alloc)?);
+        let request = self.trace.request(alloc, place)?;
+        self.standings[place] = Standing::Open(OpenRequest::new(alloc, request)?);
         Ok(None)
     }
 
@@ -158,14 +159,12 @@ impl<'a, 'p> Stage<'a, 'p> {
         ensures next { IfOk result (NextAt place self.now) }
         ensures fits { IfOk result (WantsWhatFits self.now) }
     {
-        let Standing::Open(answers) = &self.standings[place] else {
+        let Standing::Open(open) = &self.standings[place] else {
             return Ok(None);
         };
-        let Some(request) = self.trace.request(alloc, place)? else {
-            return Ok(None);
-        };
+        let request = open.request();
         request.keeps_limits();
-        let next = runner.next(alloc, self.index, &request, answers.as_slice())?;
+        let next = runner.next(alloc, self.index, request, open.answers())?;
         Ok(Some(next))
     }
 

@@ -4,8 +4,8 @@ ghost use Rattle.replayer.specs.Standings.{standing_at, departed_in, is_departed
 ghost use Rattle.replayer.specs.Standings.{PutsAnswer, IsWaiting, IsLeftOpen};
 ghost use Rattle.replayer.specs.declared.standing.Standing.TheVariants.{Away};
 
-use crate::answers::Answers;
 use crate::indexed_trace::IndexedTrace;
+use crate::open_request::OpenRequest;
 use crate::reason::ReplayReason;
 use script_tree::value::Value;
 use std::alloc::{AllocError, Global};
@@ -16,8 +16,8 @@ use trace_format::trace_file::EventHead;
 pub enum Standing {
     /// It has not arrived.
     Away,
-    /// It is open, with these answers to its operations.
-    Open(Answers),
+    /// It has arrived and not departed.
+    Open(OpenRequest),
     /// It has departed.
     Departed,
 }
@@ -45,9 +45,9 @@ pub fn put_answer(
     ensures len { vec_len standings.new ≡ vec_len standings.old }
 {
     if place < standings.len()
-        && let Standing::Open(answers) = &mut standings[place]
+        && let Standing::Open(open) = &mut standings[place]
     {
-        answers.push(answer)?;
+        open.push(answer)?;
     }
     Ok(())
 }

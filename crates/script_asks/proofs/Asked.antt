@@ -255,8 +255,8 @@ module _ (w : Setting) (short : IsRequestWithinLimits w.request) (bodies : AreSo
           bind IsWithinLimits IsWithinLimits (eval w later depth vs b) _ (eval_well b s.1) (λ y l. noded (x ∷ y ∷ []) _ (indexed_fine x y k)))
       eval_well (list at es) s = bind (AreAll es) IsWithinLimits (eval_all w later depth vs es) _ (all_well es s) (λ ds k. noded ds _ (checked_fine (v.list (v.data_of ds))))
       eval_well (call at f es) s =
-          bind AreWithinLimits IsWithinLimits _ _ (arguments_well (names_store (callee_in w.program f)) es s)
-          (λ ds k. called_well later well depth f (callee_in w.program f) refl (store_name es) (store_there (names_store (callee_in w.program f)) es s) ds k)
+          bind AreWithinLimits IsWithinLimits _ _ (arguments_well (names_store (callee_in w.program f)) es s.1)
+          (λ ds k. called_well later well depth f (callee_in w.program f) refl (store_name es) (store_there (names_store (callee_in w.program f)) es s.1) ds k)
       eval_well (transact at qs) s =
           bind (AreQueries qs) IsWithinLimits (operands_of_all w later depth vs qs) _ (queries_well qs s.1) (λ us k.
           bind Anything IsWithinLimits (charge (taking (values_of_all us))) _ (charged (taking (values_of_all us))) (λ _ _.

@@ -1,6 +1,6 @@
 -- A tree whose parts name what a program declares, and are within the limits.
 use Rattle.std.proofs.Common.{◌≡◌, ◌≢◌, ℕ, ◌≤◌, Bool, true, false, List, [], ◌∷◌, length, Some}
-use Rattle.script_tree.specs.Declarations.{NumberedTable, DeclaredFunction, table_from, function_from, callee_in}
+use Rattle.script_tree.specs.Declarations.{NumberedTable, DeclaredFunction, Callee, own, built, unknown, table_from, function_from, callee_in}
 use Rattle.script_tree.specs.Fit.{declares_store}
 use Rattle.script_tree.specs.Programs.{Program}
 use Rattle.script_tree.specs.Syntax.{Expression, number, text, truth, null, bracket, variable, call, list, transact, unary, binary, and_, or_, index, Expressions, no_expression, expression, Query, insert, select, update, delete, expect, Queries, no_query, query, Conditions, no_condition, condition, Assignments, no_assignment, assignment, Statement, let_, set_, if_, while_, for_, echo, status, return, do_, Else, no_else, else_, Statements, no_statement, statement}
@@ -14,6 +14,12 @@ use Rattle.script_meaning.specs.Evaluate.{names_store}
 abbrev pub AreColumns : List Name → List Name → Type 0
 AreColumns columns [] = Unit {0}
 AreColumns columns (x ∷ xs) = (has (texts columns) x.text ≡ true) × AreColumns columns xs
+
+-- what is called is there, and a function of the program has so many parameters
+abbrev pub TakesSoMany : Callee → ℕ → Type 0
+TakesSoMany (own f) count = count ≡ length f.parameters
+TakesSoMany (built b) count = Unit {0}
+TakesSoMany unknown count = ⊥
 
 module _ (program : Program) where
   -- the table is declared, and this holds of its columns
@@ -32,7 +38,7 @@ module _ (program : Program) where
     IsSound (null at) = Unit {0}
     IsSound (bracket at e) = IsSound e
     IsSound (variable at x) = Unit {0}
-    IsSound (call at f es) = AreArguments (names_store (callee_in program f)) es
+    IsSound (call at f es) = TakesSoMany (callee_in program f) (how_many es) × AreArguments (names_store (callee_in program f)) es
     IsSound (list at es) = AreSound es
     IsSound (transact at qs) = (qs ≢ no_query) × AreSoundQueries qs
     IsSound (unary at operator e) = IsSound e

@@ -18,10 +18,10 @@ use Rattle.script_tree.specs.declared.syntax.builtin.Builtin.TheVariants.{Get, P
 use Rattle.script_tree.specs.declared.syntax.declaration.Declaration.{Declaration}
 use Rattle.script_tree.specs.declared.syntax.declaration.Declaration.TheVariants.{Store, Table, Function, Page}
 use Rattle.script_check.specs.declared.fault.CheckFaultKind.{CheckFaultKind}
-use Rattle.script_check.specs.declared.fault.CheckFaultKind.TheVariants.{DeclaredTwice, WrongCount, Unknown, KeyWritten, PageTwice}
+use Rattle.script_check.specs.declared.fault.CheckFaultKind.TheVariants.{Undeclared, DeclaredTwice, WrongCount, Unknown, KeyWritten, PageTwice}
 use Rattle.script_check.specs.Validity.{fault, fault_unless, has, texts, how_many, call_faults, names_store as store_first, store_faults, columns_in, is_key, table_faults, row_faults, column_faults, columns_faults, set_faults, expression_faults, expressions_faults, arguments_faults, query_faults, queries_faults, conditions_faults, assignments_faults, known_after, statement_faults, else_faults, statements_faults, block_faults, with_name, with_names, are_some, is_some_name, is_some_set, names_function, declaration_faults, declared_in_turn, in_turn, IsValid}
 use Rattle.script_meaning.specs.Evaluate.{names_store}
-use Rattle.script_asks.proofs.Sound.{AreColumns, IsKnown, IsStoreName, IsSound, AreSound, AreArguments, IsSoundQuery, AreSoundQueries, AreSoundTests, AreSoundSets, IsSoundStatement, IsSoundElse, AreSoundStatements, AreSoundBodies}
+use Rattle.script_asks.proofs.Sound.{AreColumns, TakesSoMany, IsKnown, IsStoreName, IsSound, AreSound, AreArguments, IsSoundQuery, AreSoundQueries, AreSoundTests, AreSoundSets, IsSoundStatement, IsSoundElse, AreSoundStatements, AreSoundBodies}
 
 no_first : {A : Type 0} (xs ys : List A) → xs ++ ys ≡ [] → xs ≡ []
 no_first [] ys e = refl
@@ -94,6 +94,13 @@ module _ (program : Program) (names : KeepsNames program.declarations) where
   first_there f at (Some Remove) o e s = absurd cc
   first_there f at (Some b) o e s = cc
 
+  called_right : (f : List ℕ) (count at : ℕ) (b : Option Builtin) → builtin_of f ≡ b → (o : Option DeclaredFunction) → function_from f ds ≡ o → call_faults at count b o ≡ []
+      → TakesSoMany (callee o b) count
+  called_right f count at (Some b) e None there a = tt
+  called_right f count at (Some b) e (Some g) there a = absurd (none_is_not (sym (names f b e) ∙ there))
+  called_right f count at None e (Some g) there a = eq_count count (length g.parameters) (holds (count == length g.parameters) at WrongCount a)
+  called_right f count at None e None there a = absurd (no_fault at Undeclared a)
+
   store_named : (e : Expression) → store_faults ds e ≡ [] → IsStoreName program e
   store_named (variable at x) f = holds (declares_store ds x) at Unknown f
   store_named e f = absurd cc
@@ -146,8 +153,10 @@ module _ (program : Program) (names : KeepsNames program.declarations) where
     sound vs (variable at x) f = tt
     sound vs (call at g es) f =
         let a = no_first (call_faults at (how_many es) (builtin_of g) (function_from g ds)) (arguments_faults ds vs (store_first (builtin_of g)) es) f in
-        let b = no_second (call_faults at (how_many es) (builtin_of g) (function_from g ds)) (arguments_faults ds vs (store_first (builtin_of g)) es) f in
-        subst (λ c. AreArguments program c es) (sym (same_first g (builtin_of g) refl)) (sound_arguments vs g at (store_first (builtin_of g)) refl es a b)
+        let b = no_second (call_faults at (how_many es) (builtin_of g) (function_from g ds)) (arguments_faults ds vs (store_first (builtin_of g)) es) f in (
+          called_right g (how_many es) at (builtin_of g) refl (function_from g ds) refl a,
+          subst (λ c. AreArguments program c es) (sym (same_first g (builtin_of g) refl)) (sound_arguments vs g at (store_first (builtin_of g)) refl es a b),
+        )
     sound vs (list at es) f = sound_all vs es f
     sound vs (transact at qs) f = (some_of_queries qs at (no_first (fault_unless (are_some qs) at WrongCount) (queries_faults ds vs qs) f), sound_queries vs qs (no_second (fault_unless (are_some qs) at WrongCount) (queries_faults ds vs qs) f))
     sound vs (unary at op e) f = sound vs e f

@@ -1,0 +1,13 @@
+pub mod Blocks
+pub mod Calls
+pub mod Emits
+pub mod Entries
+pub mod Flows
+pub mod Leads
+pub mod Nodes
+pub mod Numbers
+pub mod Pages
+pub mod Slots
+pub mod Spends
+pub mod Transactions
+pub mod Written

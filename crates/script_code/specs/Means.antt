@@ -1,0 +1,18 @@
+-- That code means its program.
+use Rattle.std.specs.Prelude.{◌≡◌, ℕ, ◌+◌, List, [], Option, Some, None}
+use Rattle.script_tree.specs.Datum.{Datum}
+use Rattle.script_tree.specs.Programs.{Program}
+use Rattle.script_tree.specs.Requests.{Request}
+use Rattle.script_meaning.specs.Conduct.{Conduct, conduct, ended, start, no_page}
+use Rattle.script_code.specs.Code.{Instructions, Entry}
+use Rattle.script_code.specs.CodeRun.{exec}
+
+-- what the code does with a request, within so many instructions
+abbrev pub code_conduct : (functions : List ℕ) → Instructions → Option Entry → Request → List Datum → ℕ → Conduct
+code_conduct functions code None request answers k = no_page answers
+code_conduct functions code (Some entry) request answers k = ended entry.number (exec request functions code k [] entry.place [] [] (start answers))
+
+-- For any request and answers the code does what the program does, from some number of instructions on.
+pub record Means (program : Program) (functions : List ℕ) (code : Instructions) (pages : List ℕ → Option Entry) : Type 0 where
+  pub conducts : (request : Request) (answers : List Datum)
+      → (enough : ℕ) × ((k : ℕ) → code_conduct functions code (pages request.path) request answers (enough + k) ≡ conduct program request answers)

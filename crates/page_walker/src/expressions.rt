@@ -268,7 +268,7 @@ impl Frame<'_, '_, '_> {
             self.walker.request(),
             store,
             builtin,
-            values,
+            values.as_slice(),
         ))
     }
 

@@ -25,4 +25,4 @@ made (operation op) = operation_made op
 
 -- the call with these arguments
 abbrev pub call_with : Request → (store : List ℕ) → Builtin → Arguments → Call
-call_with q store b as' = built_in q store b (as'.first ∷ as'.second ∷ as'.third ∷ [])
+call_with q store b as' = built_in q store b (as'.first.now ∷ as'.second.now ∷ as'.third.now ∷ [])

@@ -1,27 +1,30 @@
 ghost use Rattle.std.specs.Prelude.{◌≡◌};
 ghost use Rattle.script_meaning.specs.Operands.{first, second, third};
+ghost use Rattle.script_tree.specs.Datum.{null};
 
 use script_tree::value::Value;
 
-/// The arguments of a call; one that isn't there is null.
-#[derive(Drop)]
-pub struct Arguments {
-    pub first: Value,
-    pub second: Value,
-    pub third: Value,
+/// The arguments of a call; for one that isn't there another value stands.
+#[derive(Clone, Copy)]
+pub struct Arguments<'a> {
+    pub first: &'a Value,
+    pub second: &'a Value,
+    pub third: &'a Value,
 }
 
-impl Arguments {
-    pub fn new(values: Vec<Value>) -> Arguments
-        ensures first { result.first ≡ first values.items }
-        ensures second { result.second ≡ second values.items }
-        ensures third { result.third ≡ third values.items }
+impl<'a> Arguments<'a> {
+    /// The arguments with these values.
+    pub fn new(values: &'a [Value], absent: &'a Value) -> Arguments<'a>
+        requires { absent.now ≡ null }
+        ensures first { result.first.now ≡ first values.now }
+        ensures second { result.second.now ≡ second values.now }
+        ensures third { result.third.now ≡ third values.now }
     {
-        let mut values = values.into_iter();
+        let mut values = values.iter();
         Arguments {
-            first: values.next().unwrap_or(Value::null()),
-            second: values.next().unwrap_or(Value::null()),
-            third: values.next().unwrap_or(Value::null()),
+            first: values.next().unwrap_or(absent),
+            second: values.next().unwrap_or(absent),
+            third: values.next().unwrap_or(absent),
         }
     }
 }

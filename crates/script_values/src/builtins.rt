@@ -34,12 +34,13 @@ pub fn call_of(
     request: &Request,
     store: &[u8],
     builtin: Builtin,
-    values: Vec<Value>,
+    values: &[Value],
 ) -> Result<Called, Faulted>
-    ensures { Answers (λ c. c) (made (built_in request.now store.now builtin values.items)) result }
+    ensures { Answers (λ c. c) (made (built_in request.now store.now builtin values.now)) result }
 {
-    let arguments = Arguments::new(values);
-    call_with(alloc, request, store, builtin, &arguments)
+    let absent = Value::null();
+    let arguments = Arguments::new(values, &absent);
+    call_with(alloc, request, store, builtin, arguments)
 }
 
 fn call_with(
@@ -47,9 +48,10 @@ fn call_with(
     request: &Request,
     store: &[u8],
     builtin: Builtin,
-    arguments: &Arguments,
+    arguments: Arguments,
 ) -> Result<Called, Faulted>
-    ensures { Answers (λ c. c) (made (call_with request.now store.now builtin arguments.now)) result }
+    ensures { Answers (λ c. c)
+        (made (call_with request.now store.now builtin arguments.entry)) result }
 {
     let Arguments {
         first,

@@ -15,10 +15,11 @@ mod order;
 mod texts;
 mod transactions;
 
+pub use arguments::Arguments;
 pub use builtins::{Called, call_of};
 pub use faults::Faulted;
 pub use kinds::{as_list, bool_in};
-pub use lists::listed;
+pub use lists::{copied, listed};
 pub use operations::status_in;
 pub use operators::{binary, indexed, unary};
 pub use texts::printed;

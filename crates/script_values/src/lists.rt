@@ -45,7 +45,7 @@ pub fn list_part(alloc: Global, values: &Values, from: i64, to: i64) -> Result<V
 }
 
 /// The same values.
-fn copied(alloc: Global, values: &[Value]) -> Result<Vec<Value>, AllocError>
+pub fn copied(alloc: Global, values: &[Value]) -> Result<Vec<Value>, AllocError>
     ensures { IfOk result (λ copies. copies.items ≡ values.now) }
 {
     let mut copies = Vec::with_capacity(alloc, values.len())?;

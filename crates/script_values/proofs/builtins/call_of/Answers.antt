@@ -10,5 +10,5 @@ returns c =
     let q = c.args.request.now in
     let store = c.args.store.now in
     let seen = c.new-arguments.ensures in
-    let same = (λ i. built_in q store c.args.builtin (seen.first i ∷ seen.second i ∷ seen.third i ∷ [])) ∙ first_three q store c.args.builtin c.args.values.items in
+    let same = (λ i. built_in q store c.args.builtin (seen.first i ∷ seen.second i ∷ seen.third i ∷ [])) ∙ first_three q store c.args.builtin c.args.values.now in
     subst (λ call. Answers (λ x. x) (made call) c.call_with.result) same c.call_with.ensures

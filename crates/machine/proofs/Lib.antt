@@ -1,0 +1,6 @@
+mod Cells
+mod Following
+mod Parts
+mod Runs
+mod Stacks
+mod Trails

@@ -1,0 +1,104 @@
+-- That a machine stands where the program stands after some answers.
+use Rattle.std.specs.Prelude.{◌≡◌, ℕ, ◌+◌, List, [], ◌++◌, Some, None}
+use Rattle.script_tree.specs.Datum.{Datum}
+use Rattle.script_tree.specs.Programs.{Program}
+use Rattle.script_tree.specs.Requests.{Request}
+use Rattle.script_meaning.specs.Conduct.{start}
+use Rattle.script_meaning.specs.Evaluate.{Flow}
+use Rattle.script_meaning.specs.Operations.{Op}
+use Rattle.script_meaning.specs.Run.{Outcome, stops}
+use Rattle.script_meaning.specs.declared.run.Stop.TheVariants.{AnswerFault as answer_fault}
+use Rattle.script_code.specs.Code.{Entry}
+use Rattle.script_code.specs.CodeRun.{exec}
+use Rattle.script_code.specs.Translated.{IsCodeOf, pages_of}
+use Rattle.script_code.specs.declared.translate.Code.{Code}
+use Rattle.machine.specs.Does.{onward, answered_on}
+use Rattle.machine.specs.Gives.{progress_of}
+use Rattle.machine.specs.declared.ending.MachineStep.{MachineStep}
+use Rattle.machine.specs.declared.ending.MachineStep.TheVariants.{Wants, Ends}
+use Rattle.machine.specs.declared.machine.Machine.{Machine}
+use Rattle.machine.specs.declared.machine.Phase.{Phase}
+use Rattle.machine.specs.declared.machine.Phase.TheVariants.{Running, Waiting, Refused, NoPage, Over}
+use Rattle.machine.specs.declared.run.Run.{Run}
+
+-- ---- what a machine can be asked for
+
+abbrev pub ready_in : Phase → Type 0
+ready_in Running = Unit {0}
+ready_in Waiting = ⊥
+ready_in Refused = Unit {0}
+ready_in NoPage = Unit {0}
+ready_in Over = ⊥
+
+-- it can be run
+abbrev pub IsReady : Machine → Type 0
+IsReady m = ready_in m.phase
+
+-- it waits for an answer
+abbrev pub IsWaiting : Machine → Type 0
+IsWaiting m = m.phase ≡ Waiting
+
+-- Where it wants an operation, it waits for the answer.
+abbrev pub WaitsAfter : MachineStep → Machine → Type 0
+WaitsAfter (Wants op) m = IsWaiting m
+WaitsAfter (Ends response path) m = Unit {0}
+
+-- ---- where it stands
+
+-- one run of instructions leads to another: after some number of them it does what the other does
+abbrev pub Reaches : (ℕ → Outcome Flow) → (ℕ → Outcome Flow) → Type 0
+Reaches here there = (n : ℕ) × ((k : ℕ) → here (n + k) ≡ there k)
+
+-- the run of a page from its start with these answers, within so many instructions
+abbrev pub begun : Request → Code → Entry → List Datum → ℕ → Outcome Flow
+begun q code entry answers k = exec q code.functions.items code.instructions.items k [] entry.place [] [] (start answers)
+
+-- Whatever answers are still to come, the run from its start leads there.
+pub record Leads (q : Request) (code : Code) (entry : Entry) (answers : List Datum) (there : (ops : List Op) (more : List Datum) → ℕ → Outcome Flow) : Type 0 where
+  -- the operations that were answered, the last one first
+  pub ops : List Op
+  pub leads : (more : List Datum) → Reaches (begun q code entry (answers ++ more)) (there ops more)
+
+-- the run goes on where the machine stands
+abbrev pub going : Request → Code → Run → (ops : List Op) (more : List Datum) → ℕ → Outcome Flow
+going q code r ops more k = onward (exec q code.functions.items code.instructions.items k) r ops more
+
+-- it goes on there with the answer to this operation
+abbrev pub wanting : Request → Code → Run → Op → (ops : List Op) (more : List Datum) → ℕ → Outcome Flow
+wanting q code r op ops more k = answered_on (exec q code.functions.items code.instructions.items k) r op ops more
+
+-- it stops at an answer beyond the limits of a value
+abbrev pub refused : Run → (ops : List Op) (more : List Datum) → ℕ → Outcome Flow
+refused r ops more k = stops answer_fault (progress_of r.state.account ops more)
+
+abbrev pub IsThere : Request → Code → Entry → List Datum → Run → Phase → Type 0
+IsThere q code entry answers r Running = Leads q code entry answers (going q code r)
+IsThere q code entry answers r Waiting = (op : Op) × Leads q code entry answers (wanting q code r op)
+IsThere q code entry answers r Refused = Leads q code entry answers (refused r)
+IsThere q code entry answers r NoPage = ⊥
+IsThere q code entry answers r Over = Unit {0}
+
+-- on the page of the request's path
+abbrev pub OnPage : Request → Code → List Datum → (page : ℕ) → Run → Phase → Type 0
+OnPage q code answers page r phase = (entry : Entry) × (pages_of code q.path ≡ Some entry) × (entry.number ≡ page) × IsThere q code entry answers r phase
+
+abbrev pub StandsIn : Request → Code → List Datum → (page : ℕ) → Run → Phase → Type 0
+StandsIn q code answers page r Running = OnPage q code answers page r Running
+StandsIn q code answers page r Waiting = OnPage q code answers page r Waiting
+StandsIn q code answers page r Refused = OnPage q code answers page r Refused
+StandsIn q code answers page r NoPage = (pages_of code q.path ≡ None) × (answers ≡ [])
+StandsIn q code answers page r Over = Unit {0}
+
+-- at a place of the code, with nothing done
+pub record IsFresh (place : ℕ) (r : Run) : Type 0 where
+  pub frames : r.frames ≡ []
+  pub place' : r.place ≡ place
+  pub stack : r.state.stack ≡ []
+  pub slots : r.state.slots.items ≡ []
+  pub account : (answers : List Datum) → progress_of r.state.account [] answers ≡ start answers
+
+-- After these answers the machine of this request stands where the program stands.
+pub record Follows (program : Program) (q : Request) (answers : List Datum) (m : Machine) : Type 0 where
+  pub code : IsCodeOf program m.code.now
+  pub request : m.request ≡ q
+  pub stands : StandsIn q m.code.now answers m.page m.run m.phase

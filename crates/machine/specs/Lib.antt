@@ -1,0 +1,11 @@
+pub mod CellView
+pub mod Decided
+pub mod Does
+pub mod Follows
+pub mod FrameCode
+pub mod FramesView
+pub mod Gives
+pub mod OperandView
+pub mod Places
+pub mod Statuses
+pub mod Told

@@ -1,0 +1,8 @@
+-- The value of an operand.
+use Rattle.script_tree.specs.Datum.{Datum}
+use Rattle.machine.specs.declared.operand.Held.{Held}
+use Rattle.machine.specs.declared.operand.Held.TheVariants.{Lent, Own}
+
+abbrev pub operand_of : Held → Datum
+operand_of (Lent value) = value.now
+operand_of (Own value) = value

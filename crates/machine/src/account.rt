@@ -1,0 +1,23 @@
+ghost use Rattle.std.specs.Prelude.{◌≤◌};
+ghost use Rattle.script_tree.specs.declared.limits.TheConstants.{MOST_STEPS, MOST_OPERATIONS};
+
+use script_tree::limits::{MOST_OPERATIONS, MOST_STEPS};
+
+/// What is left of a decision, or of an operation: that there was one.
+#[derive(Clone, Copy)]
+pub(crate) enum Trace {
+    Decided(bool),
+    Issued,
+}
+
+/// What a run spent and did so far.
+#[derive(Drop)]
+pub(crate) struct Account {
+    pub(crate) steps: u32,
+    pub(crate) operations: u32,
+    pub(crate) trail: Vec<Trace>,
+    pub(crate) status: u16,
+    pub(crate) body: Vec<u8>,
+    ghost spent: { steps ≤ MOST_STEPS },
+    ghost issued: { operations ≤ MOST_OPERATIONS },
+}

@@ -1,0 +1,75 @@
+ghost use Rattle.std.specs.Prelude.{◌≡◌, [], List, IfOk};
+ghost use Rattle.script_tree.specs.Datum.{Datum};
+ghost use Rattle.script_meaning.specs.Conduct.{no_page, fault_response, path_of, response_of};
+ghost use Rattle.script_meaning.specs.Conduct.{Ends};
+ghost use Rattle.script_meaning.specs.Operations.{Op as Operation};
+ghost use Rattle.machine.specs.Gives.{progress_of};
+ghost use Rattle.machine.specs.Told.{ending_of};
+
+use crate::account::Account;
+use script_meaning::status::{FAULT_STATUS, NO_PAGE_STATUS};
+use script_tree::fault::ScriptFault;
+use script_tree::operation::Op;
+use script_tree::path::{Decisions, End, Path};
+use script_tree::request::Response;
+use script_tree::text::Text;
+use std::alloc::{AllocError, Global};
+
+/// What a run wants next, or how it is over.
+#[derive(Drop)]
+pub enum MachineStep {
+    Wants(Op),
+    Ends(Response, Path),
+}
+
+/// The end of a run on this page that met no fault.
+pub(crate) fn ended(alloc: Global, page: u32, account: Account) -> Result<MachineStep, AllocError>
+    ensures { (ops : List Operation) (more : List Datum) → IfOk result (λ step. ending_of step
+        ≡ Ends (response_of (progress_of account ops more))
+        (path_of page (progress_of account ops more) End.Normal)) }
+{
+    let path = account.path(alloc, page, End::Normal)?;
+    Ok(MachineStep::Ends(account.into_response(), path))
+}
+
+/// The end of a run on this page at a fault, which is told so.
+pub(crate) fn faulted(
+    alloc: Global,
+    page: u32,
+    account: &Account,
+    fault: ScriptFault,
+    end: End,
+) -> Result<MachineStep, AllocError>
+    ensures { (ops : List Operation) (more : List Datum) → IfOk result (λ step. ending_of step
+        ≡ Ends (fault_response fault) (path_of page (progress_of account.now ops more) end)) }
+{
+    let response = fault_response(alloc, fault)?;
+    Ok(MachineStep::Ends(response, account.path(alloc, page, end)?))
+}
+
+/// The response to a path that no page has.
+pub(crate) fn no_page(alloc: Global) -> Result<MachineStep, AllocError>
+    ensures { IfOk result (λ step. ending_of step ≡ (no_page []).ending) }
+{
+    let response = Response {
+        status: NO_PAGE_STATUS,
+        body: Text::from_vec(b"no page\n".to_vec(alloc)?),
+    };
+    let path = Path {
+        page: None,
+        decisions: Decisions::new(alloc),
+        steps: 0,
+        end: End::Normal,
+    };
+    Ok(MachineStep::Ends(response, path))
+}
+
+fn fault_response(alloc: Global, fault: ScriptFault) -> Result<Response, AllocError>
+    ensures { IfOk result (λ response. response ≡ fault_response fault) }
+{
+    let line = format!(in alloc; "{fault}\n")?;
+    Ok(Response {
+        status: FAULT_STATUS,
+        body: Text::from_vec(line.into_bytes()),
+    })
+}

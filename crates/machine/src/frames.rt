@@ -1,0 +1,66 @@
+ghost use Rattle.std.specs.Prelude.{◌≡◌, ◌∷◌, [], MatchOption, length, OnOk};
+ghost use Rattle.machine.specs.FramesView.{frame_of};
+
+use crate::stack::Stack;
+use script_tree::value::Value;
+use std::alloc::{AllocError, Global};
+use std::marker::Model;
+
+/// Where a call goes on when its function is over.
+#[derive(Drop)]
+pub(crate) struct Frame<'c> {
+    pub(crate) place: usize,
+    pub(crate) stack: Stack<'c>,
+    pub(crate) slots: Vec<Value>,
+}
+
+/// The calls that are not over. Contracts see the newest first.
+#[derive(Drop)]
+pub(crate) struct Frames<'c> {
+    frames: Vec<Frame<'c>>,
+}
+
+impl<'c> Model for Frames<'c> {
+    ghost use Rattle.std.specs.Prelude.{List, map, reverse};
+    ghost use Rattle.std.specs.Coded.{coded_list};
+    ghost use Rattle.script_code.specs.CodeRun.{Frame as Meant};
+    ghost use Rattle.machine.specs.FrameCode.{coded_frame};
+
+    ghost Value = { List Meant };
+
+    ghost coded = { coded_list coded_frame };
+
+    ghost use Rattle.machine.specs.FramesView.{frame_of};
+
+    ghost view = { λ a. map frame_of (reverse a.frames.items) };
+}
+
+impl<'c> Frames<'c> {
+    pub(crate) fn new(alloc: Global) -> Frames<'c>
+        ensures { result ≡ [] }
+    {
+        Frames {
+            frames: Vec::new(alloc),
+        }
+    }
+
+    pub(crate) fn len(&self) -> usize
+        ensures { result ≡ length self.now }
+    {
+        self.frames.len()
+    }
+
+    pub(crate) fn push(&mut self, frame: Frame<'c>) -> Result<(), AllocError>
+        ensures { OnOk result (self.new ≡ frame_of frame.entry ∷ self.old) }
+    {
+        self.frames.push(frame)?;
+        Ok(())
+    }
+
+    pub(crate) fn pop(&mut self) -> Option<Frame<'c>>
+        ensures { MatchOption result ((self.old ≡ []) × (self.new ≡ []))
+            (λ frame. self.old ≡ frame_of frame ∷ self.new) }
+    {
+        self.frames.pop()
+    }
+}

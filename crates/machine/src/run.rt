@@ -1,0 +1,300 @@
+ghost use Rattle.std.specs.Prelude.{◌≡◌, ◌<◌, ◌+◌, ℕ, length, Ok, OnOk};
+ghost use Rattle.script_tree.specs.Requests.{Request as Asked};
+ghost use Rattle.script_code.specs.declared.instruction.Instruction.TheVariants as instruction;
+ghost use Rattle.machine.specs.Does.{Acts, ActsFor, Falls, Returns, Runs, StepsOn};
+ghost use Rattle.machine.specs.Places.{IsPlaceOf, Charges};
+ghost use Rattle.machine.specs.declared.stopped.Went.TheVariants.{On};
+
+use crate::cell::Next;
+use crate::frames::{Frame, Frames};
+use crate::operand::Operand;
+use crate::stack::Stack;
+use crate::state::State;
+use crate::stopped::{Stopped, Went};
+use script_code::instruction::Instruction;
+use script_code::translate::Code;
+use script_tree::fault::ScriptFault;
+use script_tree::limits::MOST_CALL_DEPTH;
+use script_tree::request::Request;
+use script_tree::value::Value;
+use std::mem;
+
+/// Where a run is in the code.
+#[derive(Drop)]
+pub(crate) struct Run<'c> {
+    /// The calls that are not over.
+    pub(crate) frames: Frames<'c>,
+    /// The place of the instruction that is next.
+    pub(crate) place: usize,
+    pub(crate) state: State<'c>,
+}
+
+impl<'c> Run<'c> {
+    /// Passes so many instructions after this one.
+    fn jump(&mut self, place: usize, count: usize, len: usize) -> Result<Went, Stopped>
+        requires { IsPlaceOf len place }
+        ensures acts { Acts (instruction.Jump count) len place self.old result self.new }
+        ensures forward { result ≡ Ok On → place < self.new.place }
+        ensures frames { self.new.frames ≡ self.old.frames }
+        ensures state { self.new.state ≡ self.old.state }
+    {
+        if count > len {
+            return Err(Stopped::Fault(ScriptFault::WrongKind));
+        }
+        self.place = place + 1 + count;
+        Ok(Went::On)
+    }
+
+    /// Begins a loop over a list: what is left of it is the whole list.
+    fn each(&mut self, place: usize, count: usize, len: usize) -> Result<Went, Stopped>
+        requires { IsPlaceOf len place }
+        ensures acts { Acts (instruction.Each count) len place self.old result self.new }
+        ensures forward { result ≡ Ok On → place < self.new.place }
+        ensures frames { self.new.frames ≡ self.old.frames }
+        ensures steps { self.new.state.account.steps ≡ self.old.state.account.steps }
+    {
+        let whole = self.state.pop()?;
+        let left = whole.value().clone()?;
+        self.state.stack.push(whole)?;
+        self.state.stack.push(Operand::own(left))?;
+        self.jump(place, count, len)
+    }
+
+    fn and(&mut self, place: usize, count: usize, len: usize) -> Result<Went, Stopped>
+        requires { IsPlaceOf len place }
+        ensures acts { Acts (instruction.And count) len place self.old result self.new }
+        ensures charges { Charges self.old result self.new }
+    {
+        let operand = self.state.pop()?;
+        if self.state.account.decide(operand.value())? {
+            self.place = place + 1;
+            Ok(Went::On)
+        } else {
+            self.state.stack.push(operand)?;
+            self.jump(place, count, len)
+        }
+    }
+
+    fn or(&mut self, place: usize, count: usize, len: usize) -> Result<Went, Stopped>
+        requires { IsPlaceOf len place }
+        ensures acts { Acts (instruction.Or count) len place self.old result self.new }
+        ensures charges { Charges self.old result self.new }
+    {
+        let operand = self.state.pop()?;
+        if self.state.account.decide(operand.value())? {
+            self.state.stack.push(operand)?;
+            self.jump(place, count, len)
+        } else {
+            self.place = place + 1;
+            Ok(Went::On)
+        }
+    }
+
+    fn branch(&mut self, place: usize, count: usize, len: usize) -> Result<Went, Stopped>
+        requires { IsPlaceOf len place }
+        ensures acts { Acts (instruction.Branch count) len place self.old result self.new }
+        ensures charges { Charges self.old result self.new }
+    {
+        let operand = self.state.pop()?;
+        if self.state.account.decide(operand.value())? {
+            self.place = place + 1;
+            Ok(Went::On)
+        } else {
+            self.jump(place, count, len)
+        }
+    }
+
+    fn again(&mut self, place: usize, count: usize, len: usize) -> Result<Went, Stopped>
+        requires { IsPlaceOf len place }
+        ensures acts { Acts (instruction.Again count) len place self.old result self.new }
+        ensures charges { Charges self.old result self.new }
+    {
+        let operand = self.state.pop()?;
+        if self.state.account.decide(operand.value())? {
+            self.place = place.saturating_sub(count);
+        } else {
+            self.place = place + 1;
+        }
+        Ok(Went::On)
+    }
+
+    /// Begins the next turn of a loop over a list, or ends it.
+    fn turn(&mut self, place: usize, count: usize, len: usize) -> Result<Went, Stopped>
+        requires { IsPlaceOf len place }
+        ensures acts { Acts (instruction.Turn count) len place self.old result self.new }
+        ensures charges { Charges self.old result self.new }
+    {
+        let mut left = self.state.stack.pop_cell()?;
+        let whole = self.state.stack.pop_cell()?;
+        match left.next()? {
+            Next::NoList => {
+                self.state.account.charge()?;
+                Err(Stopped::Fault(ScriptFault::WrongKind))
+            }
+            Next::Over => {
+                self.state.account.decide_so(false)?;
+                self.place = place + 1;
+                Ok(Went::On)
+            }
+            Next::Member(value) => {
+                self.state.account.decide_so(true)?;
+                self.state.slots.push(value)?;
+                self.state.stack.push_cell(whole)?;
+                self.state.stack.push_cell(left)?;
+                self.place = place.saturating_sub(count);
+                Ok(Went::On)
+            }
+        }
+    }
+
+    /// Calls the function of this number with so many arguments.
+    fn call(
+        &mut self,
+        functions: &[usize],
+        place: usize,
+        function: usize,
+        count: usize,
+        len: usize,
+    ) -> Result<Went, Stopped>
+        requires { IsPlaceOf len place }
+        ensures acts { (q : Asked) → ActsFor q functions.now (instruction.Call function count) len
+            place self.old result self.new }
+        ensures steps { OnOk result
+            (self.new.state.account.steps ≡ self.old.state.account.steps + 1) }
+        ensures frames { OnOk result (length self.new.frames ≡ length self.old.frames + 1) }
+    {
+        let alloc = self.state.alloc;
+        let values = self.state.stack.take(alloc, count)?;
+        self.state.account.charge()?;
+        let Some(start) = functions.get(function) else {
+            return Err(Stopped::Fault(ScriptFault::WrongKind));
+        };
+        if self.frames.len() == MOST_CALL_DEPTH as usize {
+            return Err(Stopped::Fault(ScriptFault::TooDeep));
+        }
+        let frame = Frame {
+            place: place + 1,
+            stack: mem::replace(&mut self.state.stack, Stack::new(alloc)),
+            slots: mem::replace(&mut self.state.slots, values),
+        };
+        self.frames.push(frame)?;
+        self.place = *start;
+        Ok(Went::On)
+    }
+
+    /// Gives the value back from a function; ends a page.
+    fn give_back(&mut self) -> Result<Went, Stopped>
+        ensures acts { (len place : ℕ) → Acts instruction.Return len place self.old result self.new }
+        ensures steps { result ≡ Ok On
+            → self.new.state.account.steps ≡ self.old.state.account.steps + 1 }
+        ensures frames { result ≡ Ok On → length self.old.frames ≡ length self.new.frames + 1 }
+    {
+        let operand = self.state.pop()?;
+        self.state.account.charge()?;
+        self.back(operand)
+    }
+
+    /// Goes back to where the call was with a value; without one the page is over.
+    fn back(&mut self, operand: Operand<'c>) -> Result<Went, Stopped>
+        ensures returns { Returns operand.entry self.old result self.new }
+        ensures steps { self.new.state.account.steps ≡ self.old.state.account.steps }
+        ensures frames { result ≡ Ok On → length self.old.frames ≡ length self.new.frames + 1 }
+    {
+        match self.frames.pop() {
+            None => Ok(Went::Over),
+            Some(frame) => {
+                let Frame {
+                    place,
+                    mut stack,
+                    slots,
+                } = frame;
+                stack.push(operand)?;
+                self.place = place;
+                let _callee = mem::replace(&mut self.state.stack, stack);
+                self.state.slots = slots;
+                Ok(Went::On)
+            }
+        }
+    }
+
+    /// Does the instruction at a place.
+    fn act(
+        &mut self,
+        code: &'c Code,
+        request: &Request,
+        place: usize,
+        instruction: &'c Instruction,
+    ) -> Result<Went, Stopped>
+        requires { IsPlaceOf (length code.now.instructions.items) place }
+        ensures acts { ActsFor request.now code.now.functions.items instruction.now
+            (length code.now.instructions.items) place self.old result self.new }
+        ensures falls { result ≡ Ok On
+            → Falls (length code.now.instructions.items) place self.old self.new }
+    {
+        let len = code.instructions.len();
+        self.place = place + 1;
+        match instruction {
+            Instruction::Push(value) => self.state.push(value),
+            Instruction::Load(slot) => self.state.load(*slot),
+            Instruction::Unary(operator) => self.state.unary(*operator),
+            Instruction::Binary(operator) => self.state.binary(*operator),
+            Instruction::Index => self.state.index(),
+            Instruction::List(count) => self.state.list(*count),
+            Instruction::CallBuiltin(builtin, count) => {
+                self.state.call_builtin(request, *builtin, *count)
+            }
+            Instruction::CallStore(builtin, store, count) => {
+                self.state.call_store(request, *builtin, store, *count)
+            }
+            Instruction::CallUnknown(count) => self.state.call_unknown(*count),
+            Instruction::Transact(shapes) => self.state.transact(shapes.as_slice()),
+            Instruction::Leave(count) => self.state.leave(*count),
+            Instruction::Declare => self.state.declare(),
+            Instruction::Assign(slot) => self.state.assign(*slot),
+            Instruction::Echo => self.state.echo(),
+            Instruction::Status => self.state.status(),
+            Instruction::Discard => self.state.discard(),
+            Instruction::Call(function, count) => {
+                self.call(code.functions.as_slice(), place, *function, *count, len)
+            }
+            Instruction::And(count) => self.and(place, *count, len),
+            Instruction::Or(count) => self.or(place, *count, len),
+            Instruction::Branch(count) => self.branch(place, *count, len),
+            Instruction::Again(count) => self.again(place, *count, len),
+            Instruction::Jump(count) => self.jump(place, *count, len),
+            Instruction::Each(count) => self.each(place, *count, len),
+            Instruction::Turn(count) => self.turn(place, *count, len),
+            Instruction::Return => self.give_back(),
+            Instruction::End => self.back(Operand::own(Value::null())),
+            Instruction::Halt => Ok(Went::Over),
+        }
+    }
+
+    /// Does the instruction that is next.
+    fn step(&mut self, code: &'c Code, request: &Request) -> Result<Went, Stopped>
+        ensures gives { StepsOn request.now code.now.functions.items code.now.instructions.items
+            self.old result self.new }
+        ensures falls { result ≡ Ok On
+            → Falls (length code.now.instructions.items) self.old.place self.old self.new }
+    {
+        let place = self.place;
+        match code.instructions.get(place) {
+            None => Err(Stopped::Fault(ScriptFault::WrongKind)),
+            Some(instruction) => self.act(code, request, place, instruction),
+        }
+    }
+
+    /// Does instructions up to the next operation that is wanted, or to the end.
+    pub(crate) fn run(&mut self, code: &'c Code, request: &Request) -> Result<(), Stopped>
+        ensures { Runs request.now code.now.functions.items code.now.instructions.items
+            self.old result self.new }
+    {
+        loop {
+            match self.step(code, request) {
+                Ok(Went::On) => {}
+                Ok(Went::Over) => return Ok(()),
+                Err(stopped) => return Err(stopped),
+            }
+        }
+    }
+}

@@ -1,0 +1,91 @@
+ghost use Rattle.std.specs.Prelude.{◌≡◌, ◌∷◌, [], ◌≤◌, length, drop, IfOk, OnOk};
+ghost use Rattle.script_code.specs.CodeRun.{topmost};
+ghost use Rattle.machine.specs.Gives.{Pops};
+
+use crate::cell::Cell;
+use crate::operand::Operand;
+use crate::stopped::Stopped;
+use script_tree::fault::ScriptFault;
+use script_tree::value::Value;
+use std::alloc::{AllocError, Global};
+use std::marker::Model;
+
+/// The values that are at hand. Contracts see the topmost first.
+#[derive(Drop)]
+pub(crate) struct Stack<'c> {
+    cells: Vec<Cell<'c>>,
+}
+
+impl<'c> Model for Stack<'c> {
+    ghost use Rattle.std.specs.Prelude.{List, reverse};
+    ghost use Rattle.std.specs.Coded.{coded_list};
+    ghost use Rattle.script_tree.specs.Datum.{Datum};
+    ghost use Rattle.script_tree.specs.DatumCode.{coded_datum};
+
+    ghost Value = { List Datum };
+
+    ghost coded = { coded_list coded_datum };
+
+    ghost view = { λ a. reverse a.cells.items };
+}
+
+impl<'c> Stack<'c> {
+    pub(crate) fn new(alloc: Global) -> Stack<'c>
+        ensures { result ≡ [] }
+    {
+        Stack {
+            cells: Vec::new(alloc),
+        }
+    }
+
+    pub(crate) fn len(&self) -> usize
+        ensures { result ≡ length self.now }
+    {
+        self.cells.len()
+    }
+
+    pub(crate) fn push(&mut self, operand: Operand<'c>) -> Result<(), AllocError>
+        ensures { OnOk result (self.new ≡ operand.entry ∷ self.old) }
+    {
+        self.push_cell(Cell::new(operand))
+    }
+
+    pub(crate) fn push_cell(&mut self, cell: Cell<'c>) -> Result<(), AllocError>
+        ensures { OnOk result (self.new ≡ cell.entry ∷ self.old) }
+    {
+        self.cells.push(cell)?;
+        Ok(())
+    }
+
+    /// Takes the topmost value; the kind of values is wrong where there is none.
+    pub(crate) fn pop(&mut self, alloc: Global) -> Result<Operand<'c>, Stopped>
+        ensures { Pops self.old self.new result }
+    {
+        let cell = self.pop_cell()?;
+        Ok(cell.into_operand(alloc)?)
+    }
+
+    pub(crate) fn pop_cell(&mut self) -> Result<Cell<'c>, Stopped>
+        ensures { Pops self.old self.new result }
+    {
+        match self.cells.pop() {
+            Some(cell) => Ok(cell),
+            None => Err(Stopped::Fault(ScriptFault::WrongKind)),
+        }
+    }
+
+    /// Takes so many of the topmost values, the topmost last, or all where there are fewer.
+    pub(crate) fn take(&mut self, alloc: Global, count: usize) -> Result<Vec<Value>, AllocError>
+        ensures values { IfOk result (λ values. values.items ≡ topmost count self.old []) }
+        ensures left { OnOk result (self.new ≡ drop count self.old) }
+        ensures fits { length self.old ≤ usize.MAX }
+    {
+        let kept = self.cells.len().saturating_sub(count);
+        let mut values = Vec::with_capacity(alloc, self.cells.len() - kept)?;
+        let mut left = self.cells.split_off(kept)?.into_iter();
+        while let Some(cell) = left.next() {
+            values.push(cell.into_operand(alloc)?.into_value()?)?;
+        }
+        Ok(values)
+    }
+}

@@ -1,0 +1,265 @@
+ghost use Rattle.std.specs.Prelude.{◌≡◌};
+ghost use Rattle.basis.specs.UnlessMemory.{Answers};
+ghost use Rattle.script_meaning.specs.BuiltinCalls.{Call};
+ghost use Rattle.script_values.specs.CallsMade.{made};
+ghost use Rattle.machine.specs.Gives.{Pops};
+ghost use Rattle.machine.specs.Does.{Does, DoesFor, Issues, Calls, Rises};
+ghost use Rattle.script_code.specs.declared.instruction.Instruction.TheVariants as instruction;
+
+use crate::account::Account;
+use crate::operand::Operand;
+use crate::stack::Stack;
+use crate::stopped::{Stopped, Went};
+use script_code::instruction::Shape;
+use script_nodes::filling::{all_filled, all_taken};
+use script_tree::fault::ScriptFault;
+use script_tree::operation::Op;
+use script_tree::request::Request;
+use script_tree::syntax::builtin::Builtin;
+use script_tree::syntax::operator::{BinaryOperator, UnaryOperator};
+use script_tree::text::Text;
+use script_tree::value::Value;
+use script_values::{Called, Faulted};
+use std::alloc::Global;
+
+/// What the function that runs has at hand, and what the run spent and did. Its methods do the
+/// instructions after which the next one is done.
+#[derive(Drop)]
+pub(crate) struct State<'c> {
+    pub(crate) alloc: Global,
+    pub(crate) stack: Stack<'c>,
+    /// The variables.
+    pub(crate) slots: Vec<Value>,
+    pub(crate) account: Account,
+}
+
+impl<'c> State<'c> {
+    /// Puts a literal on the stack.
+    pub(crate) fn push(&mut self, value: &'c Value) -> Result<Went, Stopped>
+        ensures does { Does (instruction.Push value.now) self.old result self.new }
+        ensures rises { Rises self.old result self.new }
+    {
+        self.account.charge()?;
+        self.stack.push(Operand::lent(value))?;
+        Ok(Went::On)
+    }
+
+    /// Puts the value of a slot on the stack.
+    pub(crate) fn load(&mut self, slot: usize) -> Result<Went, Stopped>
+        ensures does { Does (instruction.Load slot) self.old result self.new }
+        ensures rises { Rises self.old result self.new }
+    {
+        self.account.charge()?;
+        let value = match self.slots.get(slot) {
+            Some(value) => value.clone()?,
+            None => Value::null(),
+        };
+        self.stack.push(Operand::own(value))?;
+        Ok(Went::On)
+    }
+
+    pub(crate) fn unary(&mut self, operator: UnaryOperator) -> Result<Went, Stopped>
+        ensures does { Does (instruction.Unary operator) self.old result self.new }
+        ensures rises { Rises self.old result self.new }
+    {
+        let operand = self.pop()?;
+        self.account.charge()?;
+        let value = script_values::unary(operator, operand.value())?;
+        self.stack.push(Operand::own(value))?;
+        Ok(Went::On)
+    }
+
+    pub(crate) fn binary(&mut self, operator: BinaryOperator) -> Result<Went, Stopped>
+        ensures does { Does (instruction.Binary operator) self.old result self.new }
+        ensures rises { Rises self.old result self.new }
+    {
+        let right = self.pop()?;
+        let left = self.pop()?;
+        self.account.charge()?;
+        let value = script_values::binary(self.alloc, operator, left.value(), right.value())?;
+        self.stack.push(Operand::own(value))?;
+        Ok(Went::On)
+    }
+
+    pub(crate) fn index(&mut self) -> Result<Went, Stopped>
+        ensures does { Does instruction.Index self.old result self.new }
+        ensures rises { Rises self.old result self.new }
+    {
+        let place = self.pop()?;
+        let whole = self.pop()?;
+        self.account.charge()?;
+        let value = script_values::indexed(self.alloc, whole.value(), place.value())?;
+        self.stack.push(Operand::own(value))?;
+        Ok(Went::On)
+    }
+
+    /// Makes a list of so many values.
+    pub(crate) fn list(&mut self, count: usize) -> Result<Went, Stopped>
+        ensures does { Does (instruction.List count) self.old result self.new }
+        ensures rises { Rises self.old result self.new }
+    {
+        let values = self.stack.take(self.alloc, count)?;
+        self.account.charge()?;
+        self.stack
+            .push(Operand::own(script_values::listed(values)?))?;
+        Ok(Went::On)
+    }
+
+    /// Calls a built-in function with so many arguments.
+    pub(crate) fn call_builtin(
+        &mut self,
+        request: &Request,
+        builtin: Builtin,
+        count: usize,
+    ) -> Result<Went, Stopped>
+        ensures does { DoesFor request.now (instruction.CallBuiltin builtin count)
+            self.old result self.new }
+        ensures rises { Rises self.old result self.new }
+    {
+        let values = self.stack.take(self.alloc, count)?;
+        let called = script_values::call_of(self.alloc, request, &[], builtin, values.as_slice());
+        self.called(called)
+    }
+
+    /// Calls a built-in function on a store, with so many arguments more.
+    pub(crate) fn call_store(
+        &mut self,
+        request: &Request,
+        builtin: Builtin,
+        store: &Text,
+        count: usize,
+    ) -> Result<Went, Stopped>
+        ensures does { DoesFor request.now (instruction.CallStore builtin store.now count)
+            self.old result self.new }
+        ensures rises { Rises self.old result self.new }
+    {
+        let values = self.stack.take(self.alloc, count)?;
+        let called = script_values::call_of(
+            self.alloc,
+            request,
+            store.as_bytes(),
+            builtin,
+            values.as_slice(),
+        );
+        self.called(called)
+    }
+
+    /// Spends the step of a call, and has its value or issues its operation.
+    fn called(&mut self, called: Result<Called, Faulted>) -> Result<Went, Stopped>
+        ensures does { (c : Call) → Answers (λ x. x) (made c) called
+            → Calls c self.old result self.new }
+        ensures rises { Rises self.old result self.new }
+    {
+        self.account.charge()?;
+        match called? {
+            Called::Value(value) => {
+                self.stack.push(Operand::own(value))?;
+                Ok(Went::On)
+            }
+            Called::Operation(op) => self.issue(op),
+        }
+    }
+
+    /// Stops for the answer to an operation, where any may still be issued.
+    fn issue(&mut self, op: Op) -> Result<Went, Stopped>
+        ensures does { Issues op self.old result self.new }
+        ensures rises { Rises self.old result self.new }
+    {
+        self.account.count_operation()?;
+        Err(Stopped::Wants(op))
+    }
+
+    /// Takes the topmost value.
+    pub(crate) fn pop(&mut self) -> Result<Operand<'c>, Stopped>
+        ensures pops { Pops self.old.stack self.new.stack result }
+        ensures slots { self.new.slots ≡ self.old.slots }
+        ensures account { self.new.account ≡ self.old.account }
+    {
+        let alloc = self.alloc;
+        self.stack.pop(alloc)
+    }
+
+    /// Calls a name that nothing has.
+    pub(crate) fn call_unknown(&mut self, count: usize) -> Result<Went, Stopped>
+        ensures does { Does (instruction.CallUnknown count) self.old result self.new }
+        ensures rises { Rises self.old result self.new }
+    {
+        self.account.charge()?;
+        Err(Stopped::Fault(ScriptFault::WrongKind))
+    }
+
+    /// Issues the transaction of these statements, with their values.
+    pub(crate) fn transact(&mut self, shapes: &[Shape]) -> Result<Went, Stopped>
+        ensures does { Does (instruction.Transact shapes.now) self.old result self.new }
+        ensures rises { Rises self.old result self.new }
+    {
+        let alloc = self.alloc;
+        let values = self.stack.take(alloc, all_taken(shapes))?;
+        self.account.charge()?;
+        let statements = all_filled(alloc, shapes, values.as_slice())?;
+        let op = script_values::transact_op(alloc, statements)?;
+        self.issue(op)
+    }
+
+    /// Leaves so many slots.
+    pub(crate) fn leave(&mut self, count: usize) -> Result<Went, Stopped>
+        ensures does { Does (instruction.Leave count) self.old result self.new }
+        ensures rises { Rises self.old result self.new }
+    {
+        self.slots.truncate(count);
+        Ok(Went::On)
+    }
+
+    /// Puts the value in a slot of its own.
+    pub(crate) fn declare(&mut self) -> Result<Went, Stopped>
+        ensures does { Does instruction.Declare self.old result self.new }
+        ensures rises { Rises self.old result self.new }
+    {
+        let operand = self.pop()?;
+        self.account.charge()?;
+        self.slots.push(operand.into_value()?)?;
+        Ok(Went::On)
+    }
+
+    /// Puts the value in this slot.
+    pub(crate) fn assign(&mut self, slot: usize) -> Result<Went, Stopped>
+        ensures does { Does (instruction.Assign slot) self.old result self.new }
+        ensures rises { Rises self.old result self.new }
+    {
+        let operand = self.pop()?;
+        self.account.charge()?;
+        if slot < self.slots.len() {
+            self.slots[slot] = operand.into_value()?;
+        }
+        Ok(Went::On)
+    }
+
+    pub(crate) fn echo(&mut self) -> Result<Went, Stopped>
+        ensures does { Does instruction.Echo self.old result self.new }
+        ensures rises { Rises self.old result self.new }
+    {
+        let operand = self.pop()?;
+        self.account.charge()?;
+        self.account.print_value(self.alloc, operand.value())?;
+        Ok(Went::On)
+    }
+
+    pub(crate) fn status(&mut self) -> Result<Went, Stopped>
+        ensures does { Does instruction.Status self.old result self.new }
+        ensures rises { Rises self.old result self.new }
+    {
+        let operand = self.pop()?;
+        self.account.charge()?;
+        self.account.set_status(operand.value())?;
+        Ok(Went::On)
+    }
+
+    pub(crate) fn discard(&mut self) -> Result<Went, Stopped>
+        ensures does { Does instruction.Discard self.old result self.new }
+        ensures rises { Rises self.old result self.new }
+    {
+        let _operand = self.pop()?;
+        self.account.charge()?;
+        Ok(Went::On)
+    }
+}

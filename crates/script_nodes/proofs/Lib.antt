@@ -1,0 +1,3 @@
+mod Filled
+pub mod Nodes
+pub mod ValueFaults

@@ -28,7 +28,7 @@ use Rattle.machine.specs.declared.ending.MachineStep.TheVariants as code
 use Rattle.machine.specs.Gives.{progress_of, marks_of, IsNoted}
 use Rattle.machine.specs.declared.account.Account.{Account}
 use Rattle.machine.specs.declared.machine.Machine.{Machine}
-use Rattle.machine.specs.declared.machine.Phase.TheVariants.{Running, Waiting, Refused, NoPage}
+use Rattle.machine.specs.declared.machine.Phase.TheVariants.{Running, Waiting, Refused, NoPage, Over}
 use Rattle.machine.specs.declared.run.Run.{Run}
 use Rattle.machine.specs.declared.stopped.Stopped.TheVariants.{Wants, Fault}
 use Rattle.machine.proofs.Runs.{reaches_on}
@@ -181,7 +181,7 @@ no_page_tells program q answers m f none =
 not_over : (op : Op) (r : Response) (p : Path) → meant.Wants op ≡ meant.Ends r p → ⊥
 not_over op r p h = grind arith
 
--- no answer is wanted where the run is over
-pub waits_over : (step : MachineStep) (m : Machine) (r : Response) (p : Path) → ending_of step ≡ meant.Ends r p → WaitsAfter step m
-waits_over (code.Wants op) m r p h = absurd (not_over op r p h)
-waits_over (code.Ends response path) m r p h = tt
+-- the end of a run is told, and the machine is over
+pub waits_over : (step : MachineStep) (m : Machine) (r : Response) (p : Path) → m.phase ≡ Over → ending_of step ≡ meant.Ends r p → WaitsAfter step m
+waits_over (code.Wants op) m r p over h = absurd (not_over op r p h)
+waits_over (code.Ends response path) m r p over h = over

@@ -38,10 +38,14 @@ IsReady m = ready_in m.phase
 abbrev pub IsWaiting : Machine → Type 0
 IsWaiting m = m.phase ≡ Waiting
 
--- Where it wants an operation, it waits for the answer.
+-- its run is over
+abbrev pub IsOver : Machine → Type 0
+IsOver m = m.phase ≡ Over
+
+-- Where it wants an operation, it waits for the answer; where it ends, its run is over.
 abbrev pub WaitsAfter : MachineStep → Machine → Type 0
 WaitsAfter (Wants op) m = IsWaiting m
-WaitsAfter (Ends response path) m = Unit {0}
+WaitsAfter (Ends response path) m = IsOver m
 
 -- ---- where it stands
 

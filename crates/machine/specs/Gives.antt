@@ -11,20 +11,20 @@ use Rattle.script_meaning.specs.declared.run.Mark.{Mark}
 use Rattle.script_meaning.specs.declared.run.Mark.TheVariants.{Decided as decided, Issued as issued}
 use Rattle.script_meaning.specs.declared.run.Stop.TheVariants.{Fault as fault}
 use Rattle.machine.specs.declared.account.Account.{Account}
-use Rattle.machine.specs.declared.account.Trace.{Trace}
-use Rattle.machine.specs.declared.account.Trace.TheVariants as left
+use Rattle.machine.specs.declared.account.BareMark.{BareMark}
+use Rattle.machine.specs.declared.account.BareMark.TheVariants as left
 use Rattle.machine.specs.declared.stopped.Stopped.{Stopped}
 use Rattle.machine.specs.declared.stopped.Stopped.TheVariants.{Memory, Wants, Fault}
 
 -- The marks of a trail that is read backwards, as are the operations that belong in their places.
-abbrev pub marks_back : List Trace → List Op → List Mark
+abbrev pub marks_back : List BareMark → List Op → List Mark
 marks_back [] ops = []
 marks_back (left.Decided b ∷ ts) ops = decided b ∷ marks_back ts ops
 marks_back (left.Issued ∷ ts) [] = marks_back ts []
 marks_back (left.Issued ∷ ts) (op ∷ ops) = issued op ∷ marks_back ts ops
 
 -- the marks of a trail with these operations, the last one first
-abbrev pub marks_of : List Trace → List Op → List Mark
+abbrev pub marks_of : List BareMark → List Op → List Mark
 marks_of ts ops = reverse (marks_back (reverse ts) ops)
 
 -- the progress of a run that issued these operations, the last one first, and whose operations to come get these answers

@@ -3,9 +3,9 @@ ghost use Rattle.script_tree.specs.declared.limits.TheConstants.{MOST_STEPS, MOS
 
 use script_tree::limits::{MOST_OPERATIONS, MOST_STEPS};
 
-/// What is left of a decision, or of an operation: that there was one.
+/// A mark of a run's trail; of an operation only that there was one.
 #[derive(Clone, Copy)]
-pub(crate) enum Trace {
+pub(crate) enum BareMark {
     Decided(bool),
     Issued,
 }
@@ -15,7 +15,7 @@ pub(crate) enum Trace {
 pub(crate) struct Account {
     pub(crate) steps: u32,
     pub(crate) operations: u32,
-    pub(crate) trail: Vec<Trace>,
+    pub(crate) trail: Vec<BareMark>,
     pub(crate) status: u16,
     pub(crate) body: Vec<u8>,
     ghost spent: { steps ≤ MOST_STEPS },

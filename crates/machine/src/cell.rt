@@ -31,7 +31,7 @@ impl<'c> Model for Cell<'c> {
 
 /// What is next of a value that a loop goes over.
 #[derive(Drop)]
-pub(crate) enum Next {
+pub(crate) enum NextMember {
     /// It isn't a list.
     NoList,
     Over,
@@ -46,17 +46,17 @@ impl<'c> Cell<'c> {
     }
 
     /// Passes the next member of a list, and gives it.
-    pub(crate) fn next(&mut self) -> Result<Next, AllocError>
+    pub(crate) fn next(&mut self) -> Result<NextMember, AllocError>
         ensures { IfOk result (IsNext self.old self.new) }
     {
         match as_list(self.operand.value()) {
-            None => Ok(Next::NoList),
+            None => Ok(NextMember::NoList),
             Some(values) => match values.as_slice().get(self.passed) {
-                None => Ok(Next::Over),
+                None => Ok(NextMember::Over),
                 Some(value) => {
                     let value = value.clone()?;
                     self.passed += 1;
-                    Ok(Next::Member(value))
+                    Ok(NextMember::Member(value))
                 }
             },
         }

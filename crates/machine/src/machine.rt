@@ -50,7 +50,7 @@ pub struct Machine<'c> {
 }
 
 impl<'c> Machine<'c> {
-    /// At the start of the request's page.
+    /// At the start of the request's page. Where no page has its path, the run only ends.
     pub fn start(alloc: Global, code: &'c Code, request: Request) -> Machine<'c>
         ensures ready { IsReady result }
         ensures follows { (program : Meant) → IsCodeOf program code.now
@@ -97,6 +97,7 @@ impl<'c> Machine<'c> {
                 )
             }
             Phase::Running => self.go_on(),
+            // No caller comes here.
             Phase::Waiting | Phase::Over => Err(AllocError),
         }
     }
@@ -131,7 +132,8 @@ impl<'c> Machine<'c> {
         }
     }
 
-    /// Takes the answer to the operation that was wanted.
+    /// Takes the answer to the operation that was wanted. One that is beyond the limits of a value
+    /// ends the run.
     pub fn answer(&mut self, value: Value) -> Result<(), AllocError>
         requires { IsWaiting self.old }
         ensures follows { (program : Meant) (q : Asked) (answers : List Datum)

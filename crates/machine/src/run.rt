@@ -5,7 +5,7 @@ ghost use Rattle.machine.specs.Does.{Acts, ActsFor, Falls, Returns, Runs, StepsO
 ghost use Rattle.machine.specs.Places.{IsPlaceOf, Charges};
 ghost use Rattle.machine.specs.declared.stopped.Went.TheVariants.{On};
 
-use crate::cell::Next;
+use crate::cell::NextMember;
 use crate::frames::{Frame, Frames};
 use crate::operand::Operand;
 use crate::stack::Stack;
@@ -127,16 +127,16 @@ impl<'c> Run<'c> {
         let mut left = self.state.stack.pop_cell()?;
         let whole = self.state.stack.pop_cell()?;
         match left.next()? {
-            Next::NoList => {
+            NextMember::NoList => {
                 self.state.account.charge()?;
                 Err(Stopped::Fault(ScriptFault::WrongKind))
             }
-            Next::Over => {
+            NextMember::Over => {
                 self.state.account.decide_so(false)?;
                 self.place = place + 1;
                 Ok(Went::On)
             }
-            Next::Member(value) => {
+            NextMember::Member(value) => {
                 self.state.account.decide_so(true)?;
                 self.state.slots.push(value)?;
                 self.state.stack.push_cell(whole)?;
@@ -184,7 +184,8 @@ impl<'c> Run<'c> {
 
     /// Gives the value back from a function; ends a page.
     fn give_back(&mut self) -> Result<Went, Stopped>
-        ensures acts { (len place : ℕ) → Acts instruction.Return len place self.old result self.new }
+        ensures acts { (len place : ℕ)
+            → Acts instruction.Return len place self.old result self.new }
         ensures steps { result ≡ Ok On
             → self.new.state.account.steps ≡ self.old.state.account.steps + 1 }
         ensures frames { result ≡ Ok On → length self.old.frames ≡ length self.new.frames + 1 }

@@ -9,7 +9,7 @@ ghost use Rattle.machine.specs.Gives.{Gives, IsNoted, progress_of, spend, decide
 ghost use Rattle.machine.specs.Statuses.{set_status_in};
 ghost use Rattle.machine.specs.Decided.{decided_in};
 
-use crate::account::{Account, Trace};
+use crate::account::{Account, BareMark};
 use crate::stopped::Stopped;
 use script_meaning::status::USUAL_STATUS;
 use script_tree::fault::ScriptFault;
@@ -88,7 +88,7 @@ impl Account {
             ≡ goes tt (progress_of self.new ops more)) }
         ensures steps { self.new.steps ≡ self.old.steps }
     {
-        self.trail.push(Trace::Decided(holds))?;
+        self.trail.push(BareMark::Decided(holds))?;
         Ok(())
     }
 
@@ -96,7 +96,7 @@ impl Account {
     pub(crate) fn note_operation(&mut self) -> Result<(), AllocError>
         ensures { OnOk result (IsNoted self.old self.new) }
     {
-        self.trail.push(Trace::Issued)?;
+        self.trail.push(BareMark::Issued)?;
         Ok(())
     }
 
@@ -162,14 +162,14 @@ impl Account {
 }
 
 /// The decisions of a trail.
-fn decisions_of(alloc: Global, trail: &[Trace]) -> Result<Decisions, AllocError>
+fn decisions_of(alloc: Global, trail: &[BareMark]) -> Result<Decisions, AllocError>
     ensures { IfOk result (λ made. made ≡ decided_in trail.now) }
 {
     let mut made = Decisions::new(alloc);
-    for trace in trail {
-        match trace {
-            Trace::Decided(holds) => made.push(*holds)?,
-            Trace::Issued => {}
+    for mark in trail {
+        match mark {
+            BareMark::Decided(holds) => made.push(*holds)?,
+            BareMark::Issued => {}
         }
     }
     Ok(made)

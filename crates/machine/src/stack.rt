@@ -38,12 +38,6 @@ impl<'c> Stack<'c> {
         }
     }
 
-    pub(crate) fn len(&self) -> usize
-        ensures { result ≡ length self.now }
-    {
-        self.cells.len()
-    }
-
     pub(crate) fn push(&mut self, operand: Operand<'c>) -> Result<(), AllocError>
         ensures { OnOk result (self.new ≡ operand.entry ∷ self.old) }
     {

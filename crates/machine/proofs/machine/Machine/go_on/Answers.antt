@@ -1,4 +1,4 @@
-use Rattle.std.proofs.Common.{◌≡◌, [], Err, ap, subst, ◌∙◌}
+use Rattle.std.proofs.Common.{◌≡◌, [], Err, refl, ap, subst, ◌∙◌}
 use Rattle.std.proofs.lemmas.Result.{IfOk-weaker}
 use Rattle.script_tree.specs.declared.path.End.TheVariants.{Normal, Fault as FaultEnd}
 use Rattle.script_meaning.specs.Conduct.{Ends, conduct, fault_response, path_of, response_of}
@@ -20,7 +20,7 @@ returns-in-Ok-clause-tells c program q answers f =
     (λ step e. e ∙ ends ∙ over_tells program q answers m f c.requires new c.in-Ok.ensures) (c.ended.ensures ops [])
 
 pub returns-in-Ok-clause-waits : goal.returns-in-Ok-clause-waits
-returns-in-Ok-clause-waits c = IfOk-weaker c.ended.result _ _ (λ step e. waits_over step _ _ _ e) (c.ended.ensures [] [])
+returns-in-Ok-clause-waits c = IfOk-weaker c.ended.result _ _ (λ step e. waits_over step _ _ _ refl e) (c.ended.ensures [] [])
 
 pub returns-in-Err-Wants-clause-tells : goal.returns-in-Err-Wants-clause-tells
 returns-in-Err-Wants-clause-tells c program q answers f =
@@ -47,4 +47,4 @@ returns-in-Err-Fault-clause-tells c program q answers f =
     (λ step e. e ∙ fault_tells program q answers m f c.requires new j runs) (c.faulted.ensures (ops_so_far program q answers m f c.requires) [])
 
 pub returns-in-Err-Fault-clause-waits : goal.returns-in-Err-Fault-clause-waits
-returns-in-Err-Fault-clause-waits c = IfOk-weaker c.faulted.result _ _ (λ step e. waits_over step _ _ _ e) (c.faulted.ensures [] [])
+returns-in-Err-Fault-clause-waits c = IfOk-weaker c.faulted.result _ _ (λ step e. waits_over step _ _ _ refl e) (c.faulted.ensures [] [])

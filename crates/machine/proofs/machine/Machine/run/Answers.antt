@@ -1,4 +1,4 @@
-use Rattle.std.proofs.Common.{◌≡◌, [], ◌∙◌}
+use Rattle.std.proofs.Common.{◌≡◌, [], refl, ◌∙◌}
 use Rattle.std.proofs.lemmas.Result.{IfOk-weaker}
 use Rattle.script_tree.specs.declared.fault.ScriptFault.TheVariants.{TooLarge}
 use Rattle.script_tree.specs.declared.path.End.TheVariants.{AnswerFault}
@@ -21,4 +21,4 @@ returns-in-Refused-clause-tells c program q answers f =
     (λ step e. e ∙ t.1) (c.faulted.ensures t.0 [])
 
 pub returns-in-Refused-clause-waits : goal.returns-in-Refused-clause-waits
-returns-in-Refused-clause-waits c = IfOk-weaker c.faulted.result _ _ (λ step e. waits_over step _ _ _ e) (c.faulted.ensures [] [])
+returns-in-Refused-clause-waits c = IfOk-weaker c.faulted.result _ _ (λ step e. waits_over step _ _ _ refl e) (c.faulted.ensures [] [])

@@ -39,6 +39,7 @@ pub(crate) enum NextMember {
 }
 
 impl<'c> Cell<'c> {
+    #[inline(always)]
     pub(crate) fn new(operand: Operand<'c>) -> Cell<'c>
         ensures { result ≡ operand.entry }
     {
@@ -63,6 +64,7 @@ impl<'c> Cell<'c> {
     }
 
     /// The value as an operand. Where a loop passed members of it, the others are put in a list.
+    #[inline(always)]
     pub(crate) fn into_operand(self, alloc: Global) -> Result<Operand<'c>, AllocError>
         ensures { IfOk result (λ operand. operand ≡ self.entry) }
     {

@@ -120,9 +120,9 @@ impl<'c> Machine<'c> {
                 ended(alloc, self.page, account)
             }
             Err(Stopped::Memory) => Err(AllocError),
-            Err(Stopped::Wants(op)) => {
+            Err(Stopped::Wants(wanted)) => {
                 self.phase = Phase::Waiting;
-                Ok(MachineStep::Wants(op))
+                Ok(MachineStep::Wants(wanted.into_op()))
             }
             Err(Stopped::Fault(fault)) => {
                 self.phase = Phase::Over;

@@ -219,6 +219,7 @@ impl<'c> Run<'c> {
     }
 
     /// Does the instruction at a place.
+    #[inline(always)]
     fn act(
         &mut self,
         code: &'c Code,
@@ -272,6 +273,7 @@ impl<'c> Run<'c> {
     }
 
     /// Does the instruction that is next.
+    #[inline(always)]
     fn step(&mut self, code: &'c Code, request: &Request) -> Result<Went, Stopped>
         ensures gives { StepsOn request.now code.now.functions.items code.now.instructions.items
             self.old result self.new }

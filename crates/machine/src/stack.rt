@@ -38,12 +38,14 @@ impl<'c> Stack<'c> {
         }
     }
 
+    #[inline(always)]
     pub(crate) fn push(&mut self, operand: Operand<'c>) -> Result<(), AllocError>
         ensures { OnOk result (self.new ≡ operand.entry ∷ self.old) }
     {
         self.push_cell(Cell::new(operand))
     }
 
+    #[inline(always)]
     pub(crate) fn push_cell(&mut self, cell: Cell<'c>) -> Result<(), AllocError>
         ensures { OnOk result (self.new ≡ cell.entry ∷ self.old) }
     {
@@ -52,6 +54,7 @@ impl<'c> Stack<'c> {
     }
 
     /// Takes the topmost value; the kind of values is wrong where there is none.
+    #[inline(always)]
     pub(crate) fn pop(&mut self, alloc: Global) -> Result<Operand<'c>, Stopped>
         ensures { Pops self.old self.new result }
     {
@@ -59,6 +62,7 @@ impl<'c> Stack<'c> {
         Ok(cell.into_operand(alloc)?)
     }
 
+    #[inline(always)]
     pub(crate) fn pop_cell(&mut self) -> Result<Cell<'c>, Stopped>
         ensures { Pops self.old self.new result }
     {

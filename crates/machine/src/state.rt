@@ -9,7 +9,7 @@ ghost use Rattle.script_code.specs.declared.instruction.Instruction.TheVariants 
 use crate::account::Account;
 use crate::operand::Operand;
 use crate::stack::Stack;
-use crate::stopped::{Stopped, Went};
+use crate::stopped::{Stopped, Wanted, Went};
 use script_code::instruction::Shape;
 use script_nodes::filling::{all_filled, all_taken};
 use script_tree::fault::ScriptFault;
@@ -166,7 +166,7 @@ impl<'c> State<'c> {
         ensures rises { Rises self.old result self.new }
     {
         self.account.count_operation()?;
-        Err(Stopped::Wants(op))
+        Err(Stopped::Wants(Wanted::new(self.alloc, op)?))
     }
 
     /// Takes the topmost value.

@@ -1,7 +1,7 @@
 use Rattle.std.proofs.Common.{◌≡◌, [], Err, refl, ap, subst, ◌∙◌}
 use Rattle.std.proofs.lemmas.Result.{IfOk-weaker}
 use Rattle.script_tree.specs.declared.path.End.TheVariants.{Normal, Fault as FaultEnd}
-use Rattle.script_meaning.specs.Conduct.{Ends, conduct, fault_response, path_of, response_of}
+use Rattle.script_meaning.specs.Conduct.{Wants, Ends, conduct, fault_response, path_of, response_of}
 use Rattle.machine.specs.Does.{Runs}
 use Rattle.machine.specs.Gives.{progress_of}
 use Rattle.machine.specs.Told.{ending_of}
@@ -24,7 +24,8 @@ returns-in-Ok-clause-waits c = IfOk-weaker c.ended.result _ _ (λ step e. waits_
 
 pub returns-in-Err-Wants-clause-tells : goal.returns-in-Err-Wants-clause-tells
 returns-in-Err-Wants-clause-tells c program q answers f =
-    wants_tells program q answers c.args.self.now f c.requires c.run.new.self c.in-Err-Wants.op
+    ap Wants c.into_op.ensures
+    ∙ wants_tells program q answers c.args.self.now f c.requires c.run.new.self c.in-Err-Wants.wanted
     (subst (λ e. Runs c.args.self.now.request c.args.self.now.code.now.functions.items c.args.self.now.code.now.instructions.items c.args.self.now.run (Err e) c.run.new.self) c.in-Err-Wants.field-0-is c.in-Err-Wants.ensures)
 
 pub returns-in-Err-Wants-clause-follows : goal.returns-in-Err-Wants-clause-follows
@@ -32,7 +33,7 @@ returns-in-Err-Wants-clause-follows c program q answers f = record {
   code = f.code;
   request = f.request;
   stands =
-      wants_follows program q answers c.args.self.now f c.requires c.run.new.self c.in-Err-Wants.op
+      wants_follows program q answers c.args.self.now f c.requires c.run.new.self c.in-Err-Wants.wanted
       (subst (λ e. Runs c.args.self.now.request c.args.self.now.code.now.functions.items c.args.self.now.code.now.instructions.items c.args.self.now.run (Err e) c.run.new.self) c.in-Err-Wants.field-0-is c.in-Err-Wants.ensures);
 }
 

@@ -1,0 +1,10 @@
+//! An object whose calls have one order, whichever seats they come from, and what its history is.
+#![tactic(auto)]
+
+pub mod bench;
+pub mod held;
+#[cfg(test)]
+mod tests;
+
+pub use bench::{Bench, Call};
+pub use held::{Held, HeldOf};

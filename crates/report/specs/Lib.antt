@@ -1,0 +1,2 @@
+pub mod GroupView
+pub mod Groups

@@ -1,0 +1,7 @@
+pub mod ActFields
+pub mod ObjectFields
+pub mod ReadAgain
+pub mod RecordFields
+pub mod RecordOrder
+pub mod StatementFields
+pub mod Tags

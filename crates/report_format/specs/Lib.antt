@@ -1,0 +1,11 @@
+pub mod LentView
+pub mod OperationLaws
+pub mod Operations
+pub mod PairLaws
+pub mod Parts
+pub mod RecordKinds
+pub mod ReportLaws
+pub mod Reports
+pub mod RowLaws
+pub mod SimpleLaws
+pub mod TransactionLaws

@@ -1,0 +1,122 @@
+-- How operations are spelled: the objects, the acts, and the statements of transactions.
+use Rattle.std.specs.Prelude.{◌≡◌, ℕ, ℤ, List, [], ◌∷◌, ◌++◌}
+use Rattle.std.specs.Int.{w32}
+use Rattle.script_tree.specs.Datum.{Datum}
+use Rattle.script_tree.specs.declared.comparison.Comparison.{Comparison}
+use Rattle.script_tree.specs.declared.comparison.Comparison.TheVariants.{Equal, Unequal, Less, AtMost, Greater, AtLeast}
+use Rattle.script_tree.specs.declared.operation.Act.{Act}
+use Rattle.script_tree.specs.declared.operation.Act.TheVariants.{Read, Write, Get, Put, Remove, Transact, Now, Roll}
+use Rattle.script_tree.specs.declared.operation.Object.{Object}
+use Rattle.script_tree.specs.declared.operation.Object.TheVariants.{Register, Store, Tables, Clock, Dice}
+use Rattle.script_tree.specs.declared.transaction.Test.{Test}
+use Rattle.script_tree.specs.declared.transaction.Change.{Change}
+use Rattle.script_tree.specs.declared.transaction.Statement.{Statement}
+use Rattle.script_tree.specs.declared.transaction.Statement.TheVariants.{Insert, Select, Update, Delete, Expect}
+use Rattle.wire.specs.Spellings.{Field, number_field, integer_field, bytes_field, value_field}
+use Rattle.report_format.specs.Parts.{pair_field, both, seen_as, list_field}
+
+abbrev pub id_field : Field ℕ
+id_field = number_field w32
+
+-- ---- transactions
+
+abbrev pub comparison_code : Comparison → ℕ
+comparison_code Equal = 1
+comparison_code Unequal = 2
+comparison_code Less = 3
+comparison_code AtMost = 4
+comparison_code Greater = 5
+comparison_code AtLeast = 6
+
+abbrev pub comparison_field : Field Comparison
+comparison_field = record { allows = λ c. Unit {0}; spelling = λ c. comparison_code c ∷ [] }
+
+abbrev pub test_field : Field Test
+test_field = seen_as (λ t. (t.column, (t.comparison, t.value))) (both id_field (both comparison_field value_field))
+
+abbrev pub change_field : Field Change
+change_field = seen_as (λ c. (c.column, c.value)) (both id_field value_field)
+
+abbrev pub tests_field : Field (List Test)
+tests_field = list_field test_field
+
+-- what stands behind the tag of each statement: a table first, but for a count that is expected
+abbrev pub insert_field : Field (ℕ × List Datum)
+insert_field = both id_field (list_field value_field)
+
+abbrev pub select_field : Field (ℕ × (List ℕ × List Test))
+select_field = both id_field (both (list_field id_field) tests_field)
+
+abbrev pub update_field : Field (ℕ × (List Change × List Test))
+update_field = both id_field (both (list_field change_field) tests_field)
+
+abbrev pub delete_field : Field (ℕ × List Test)
+delete_field = both id_field tests_field
+
+abbrev pub expect_field : Field (ℤ × (ℕ × List Test))
+expect_field = both integer_field delete_field
+
+abbrev pub statement_spelling : Statement → List ℕ
+statement_spelling (Insert table row) = 1 ∷ insert_field.spelling (table, row)
+statement_spelling (Select table columns tests) = 2 ∷ select_field.spelling (table, (columns, tests))
+statement_spelling (Update table changes tests) = 3 ∷ update_field.spelling (table, (changes, tests))
+statement_spelling (Delete table tests) = 4 ∷ delete_field.spelling (table, tests)
+statement_spelling (Expect count table tests) = 5 ∷ expect_field.spelling (count, (table, tests))
+
+abbrev pub IsStatement : Statement → Type 0
+IsStatement (Insert table row) = insert_field.allows (table, row)
+IsStatement (Select table columns tests) = select_field.allows (table, (columns, tests))
+IsStatement (Update table changes tests) = update_field.allows (table, (changes, tests))
+IsStatement (Delete table tests) = delete_field.allows (table, tests)
+IsStatement (Expect count table tests) = expect_field.allows (count, (table, tests))
+
+abbrev pub statement_field : Field Statement
+statement_field = record { allows = λ s. IsStatement s; spelling = λ s. statement_spelling s }
+
+-- ---- operations
+
+abbrev pub object_spelling : Object → List ℕ
+object_spelling (Register name) = 1 ∷ bytes_field.spelling name
+object_spelling (Store name) = 2 ∷ bytes_field.spelling name
+object_spelling Tables = 3 ∷ []
+object_spelling Clock = 4 ∷ []
+object_spelling Dice = 5 ∷ []
+
+abbrev pub IsObject : Object → Type 0
+IsObject (Register name) = bytes_field.allows name
+IsObject (Store name) = bytes_field.allows name
+IsObject Tables = Unit {0}
+IsObject Clock = Unit {0}
+IsObject Dice = Unit {0}
+
+abbrev pub object_field : Field Object
+object_field = record { allows = λ o. IsObject o; spelling = λ o. object_spelling o }
+
+abbrev pub put_field : Field (List ℕ × Datum)
+put_field = both bytes_field value_field
+
+abbrev pub statements_field : Field (List Statement)
+statements_field = list_field statement_field
+
+abbrev pub act_spelling : Act → List ℕ
+act_spelling Read = 1 ∷ []
+act_spelling (Write value) = 2 ∷ value_field.spelling value
+act_spelling (Get key) = 3 ∷ bytes_field.spelling key
+act_spelling (Put key value) = 4 ∷ put_field.spelling (key, value)
+act_spelling (Remove key) = 5 ∷ bytes_field.spelling key
+act_spelling (Transact statements) = 6 ∷ statements_field.spelling statements
+act_spelling Now = 7 ∷ []
+act_spelling (Roll bound) = 8 ∷ integer_field.spelling bound
+
+abbrev pub IsAct : Act → Type 0
+IsAct Read = Unit {0}
+IsAct (Write value) = value_field.allows value
+IsAct (Get key) = bytes_field.allows key
+IsAct (Put key value) = put_field.allows (key, value)
+IsAct (Remove key) = bytes_field.allows key
+IsAct (Transact statements) = statements_field.allows statements
+IsAct Now = Unit {0}
+IsAct (Roll bound) = integer_field.allows bound
+
+abbrev pub act_field : Field Act
+act_field = record { allows = λ a. IsAct a; spelling = λ a. act_spelling a }

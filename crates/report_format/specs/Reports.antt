@@ -1,0 +1,90 @@
+-- How a report is spelled.
+use Rattle.std.specs.Prelude.{◌≡◌, ◌≢◌, ℕ, ◌≤◌, List, [], ◌∷◌, ◌++◌, map, codes}
+use Rattle.basis.specs.UnlessMemory.{UnlessMemory}
+use Rattle.script_tree.specs.declared.operation.Act.{Act}
+use Rattle.script_tree.specs.declared.operation.Choice.{Choice}
+use Rattle.wire.specs.Spellings.{Field, Reading, choice_field}
+use Rattle.wire.specs.Files.{Format, Spells, IsFault, IsFileWithin}
+use Rattle.wire.specs.declared.limits.TheConstants.{MOST_FILE_BYTES}
+use Rattle.report.specs.Groups.{IsSome}
+use Rattle.report.specs.declared.Count.{Count}
+use Rattle.report.specs.declared.Log.{Log}
+use Rattle.report.specs.declared.LogEntry.{LogEntry}
+use Rattle.report.specs.declared.Report.{Report}
+use Rattle.report_format.specs.Parts.{both, seen_as, list_field, AllAllowed}
+use Rattle.report_format.specs.Operations.{id_field, act_field, object_field}
+use Rattle.report_format.specs.declared.format.ReportRecord.{ReportRecord}
+use Rattle.report_format.specs.declared.format.ReportRecord.TheVariants as it
+
+abbrev pub count_field : Field Count
+count_field = seen_as (λ c. (c.rid, c.operations)) (both id_field id_field)
+
+abbrev pub entry_field : Field LogEntry
+entry_field = seen_as (λ e. (e.rid, (e.number, (e.act, e.choice)))) (both id_field (both id_field (both act_field choice_field)))
+
+abbrev pub log_field : Field Log
+log_field = seen_as (λ l. (l.object, l.entries)) (both object_field (list_field entry_field))
+
+-- the ids of a group, at least one
+abbrev pub group_field : Field (List ℕ)
+group_field = record {
+  allows = λ rids. IsSome rids × (list_field id_field).allows rids;
+  spelling = λ rids. (list_field id_field).spelling rids;
+}
+
+abbrev pub record_payload : ReportRecord → List ℕ
+record_payload (it.Count c) = 1 ∷ count_field.spelling c
+record_payload (it.Log l) = 2 ∷ log_field.spelling l
+record_payload (it.Group g) = 3 ∷ group_field.spelling g
+
+abbrev pub IsRecord : ReportRecord → Type 0
+IsRecord (it.Count c) = count_field.allows c
+IsRecord (it.Log l) = log_field.allows l
+IsRecord (it.Group g) = group_field.allows g
+
+abbrev pub any_record_field : Field ReportRecord
+any_record_field = record { allows = λ r. IsRecord r; spelling = λ r. record_payload r }
+
+-- ---- the order of the records: counts, before logs, before groups
+
+abbrev pub rank : ReportRecord → ℕ
+rank (it.Count c) = 1
+rank (it.Log l) = 2
+rank (it.Group g) = 3
+
+abbrev pub last_rank_from : ℕ → List ReportRecord → ℕ
+last_rank_from n [] = n
+last_rank_from n (r ∷ rs) = last_rank_from (rank r) rs
+
+-- the rank of the last of them
+abbrev pub last_rank : List ReportRecord → ℕ
+last_rank rs = last_rank_from 1 rs
+
+abbrev pub report_format : Format ReportRecord
+report_format = record {
+  magic = codes "SSCORPT1";
+  payload = λ r. record_payload r;
+  allows = λ before r. IsRecord r × (last_rank before ≤ rank r);
+}
+
+-- ---- the whole
+
+abbrev pub records_of : Report → List ReportRecord
+records_of report = map it.Count report.counts ++ (map it.Log report.logs ++ map it.Group report.groups)
+
+-- The file spells this report, or is at fault there, unless memory ran out.
+abbrev pub DecodesReport : List ℕ → Reading Report → Type 0
+DecodesReport bytes result =
+    UnlessMemory (λ report. Spells report_format bytes (records_of report)) (λ fault. IsFault report_format bytes fault.at) result
+
+-- Its numbers have their widths, and its values are within the limits.
+pub record IsSpellable (report : Report) : Type 0 where
+  pub counts : AllAllowed count_field report.counts
+  pub logs : AllAllowed log_field report.logs
+  pub groups : AllAllowed group_field report.groups
+
+-- Bytes within the limit of a file that spell a report are read as it.
+abbrev pub IsReadAgain : Type 0
+IsReadAgain =
+    (report : Report) (bytes : List ℕ)
+    → IsSpellable report → IsFileWithin report_format MOST_FILE_BYTES (records_of report) bytes → Spells report_format bytes (records_of report)

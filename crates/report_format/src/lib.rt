@@ -1,0 +1,13 @@
+//! Reports in their binary format.
+#![tactic(auto)]
+
+pub mod decoding;
+pub mod encoding;
+mod fields;
+pub mod format;
+mod operations;
+mod parts;
+mod records;
+#[cfg(test)]
+mod tests;
+mod value_room;

@@ -1,0 +1,416 @@
+//! Fields of operations: objects, acts, and the statements of transactions.
+ghost use Rattle.std.specs.Prelude.{◌≡◌, ◌++◌, ◌<◌, ◌^◌, length, OnOk};
+ghost use Rattle.wire.specs.Files.{LeavesRoom};
+ghost use Rattle.wire.specs.Spellings.{TakesPart};
+
+use crate::fields::{ComparisonField, FieldKind, IdField, NumberField, TextField, ValueField};
+use crate::parts::{List, Pair, room_behind_list, write_list};
+use basis::OrMemory;
+use script_tree::operation::{Act, Object};
+use script_tree::transaction::{Change, Statement, Test};
+use script_tree::value::Values;
+use std::alloc::{AllocError, Global};
+use wire::fault::Unreadable;
+use wire::field::read_u8;
+use wire::writing::write_u8;
+
+type TestParts = Pair<IdField, Pair<ComparisonField, ValueField>>;
+
+type ChangeParts = Pair<IdField, ValueField>;
+
+type Tests = List<TestField>;
+
+type InsertParts = Pair<IdField, List<ValueField>>;
+
+type SelectParts = Pair<IdField, Pair<List<IdField>, Tests>>;
+
+type UpdateParts = Pair<IdField, Pair<List<ChangeField>, Tests>>;
+
+type DeleteParts = Pair<IdField, Tests>;
+
+type ExpectParts = Pair<NumberField, DeleteParts>;
+
+type PutParts = Pair<TextField, ValueField>;
+
+pub(crate) struct TestField;
+
+impl FieldKind for TestField {
+    ghost use Rattle.report_format.specs.Operations.{test_field};
+    ghost use Rattle.report_format.specs.TransactionLaws.{test_one, test_some};
+
+    type Item = Test;
+
+    ghost field = { test_field };
+
+    ghost one = { test_one };
+
+    ghost some = { test_some };
+
+    fn read(alloc: Global, bytes: &[u8], at: usize) -> Result<(Test, usize), OrMemory<Unreadable>> {
+        let ((column, (comparison, value)), next) = TestParts::read(alloc, bytes, at)?;
+        Ok((
+            Test {
+                column,
+                comparison,
+                value,
+            },
+            next,
+        ))
+    }
+
+    fn room_behind(room: usize, test: &Test) -> Option<usize> {
+        let left = IdField::room_behind(room, &test.column)?;
+        let left = ComparisonField::room_behind(left, &test.comparison)?;
+        ValueField::room_behind(left, &test.value)
+    }
+
+    fn write(out: &mut Vec<u8>, test: &Test) -> Result<(), AllocError> {
+        IdField::write(out, &test.column)?;
+        ComparisonField::write(out, &test.comparison)?;
+        ValueField::write(out, &test.value)
+    }
+}
+
+pub(crate) struct ChangeField;
+
+impl FieldKind for ChangeField {
+    ghost use Rattle.report_format.specs.Operations.{change_field};
+    ghost use Rattle.report_format.specs.TransactionLaws.{change_one, change_some};
+
+    type Item = Change;
+
+    ghost field = { change_field };
+
+    ghost one = { change_one };
+
+    ghost some = { change_some };
+
+    fn read(
+        alloc: Global,
+        bytes: &[u8],
+        at: usize,
+    ) -> Result<(Change, usize), OrMemory<Unreadable>> {
+        let ((column, value), next) = ChangeParts::read(alloc, bytes, at)?;
+        Ok((Change { column, value }, next))
+    }
+
+    fn room_behind(room: usize, change: &Change) -> Option<usize> {
+        let left = IdField::room_behind(room, &change.column)?;
+        ValueField::room_behind(left, &change.value)
+    }
+
+    fn write(out: &mut Vec<u8>, change: &Change) -> Result<(), AllocError> {
+        IdField::write(out, &change.column)?;
+        ValueField::write(out, &change.value)
+    }
+}
+
+pub(crate) struct StatementField;
+
+impl FieldKind for StatementField {
+    ghost use Rattle.report_format.specs.Operations.{statement_field};
+    ghost use Rattle.report_format.specs.TransactionLaws.{statement_one, statement_some};
+
+    type Item = Statement;
+
+    ghost field = { statement_field };
+
+    ghost one = { statement_one };
+
+    ghost some = { statement_some };
+
+    fn read(
+        alloc: Global,
+        bytes: &[u8],
+        at: usize,
+    ) -> Result<(Statement, usize), OrMemory<Unreadable>> {
+        let (tag, next) = read_u8(bytes, at)?;
+        match tag {
+            1 => {
+                let ((table, row), next) = InsertParts::read(alloc, bytes, next)?;
+                let row = Values::from_vec(row.into_vec())?;
+                Ok((Statement::Insert { table, row }, next))
+            }
+            2 => {
+                let ((table, (columns, tests)), next) = SelectParts::read(alloc, bytes, next)?;
+                Ok((
+                    Statement::Select {
+                        table,
+                        columns,
+                        tests,
+                    },
+                    next,
+                ))
+            }
+            3 => {
+                let ((table, (changes, tests)), next) = UpdateParts::read(alloc, bytes, next)?;
+                Ok((
+                    Statement::Update {
+                        table,
+                        changes,
+                        tests,
+                    },
+                    next,
+                ))
+            }
+            4 => {
+                let ((table, tests), next) = DeleteParts::read(alloc, bytes, next)?;
+                Ok((Statement::Delete { table, tests }, next))
+            }
+            5 => {
+                let ((count, (table, tests)), next) = ExpectParts::read(alloc, bytes, next)?;
+                Ok((
+                    Statement::Expect {
+                        count,
+                        table,
+                        tests,
+                    },
+                    next,
+                ))
+            }
+            _ => Err(OrMemory::Other(Unreadable { at })),
+        }
+    }
+
+    fn room_behind(room: usize, statement: &Statement) -> Option<usize> {
+        let left = room.checked_sub(1)?;
+        match statement {
+            Statement::Insert { table, row } => {
+                let left = IdField::room_behind(left, table)?;
+                room_behind_list::<ValueField>(left, row.as_slice())
+            }
+            Statement::Select {
+                table,
+                columns,
+                tests,
+            } => {
+                let left = IdField::room_behind(left, table)?;
+                let left = List::<IdField>::room_behind(left, columns)?;
+                Tests::room_behind(left, tests)
+            }
+            Statement::Update {
+                table,
+                changes,
+                tests,
+            } => {
+                let left = IdField::room_behind(left, table)?;
+                let left = List::<ChangeField>::room_behind(left, changes)?;
+                Tests::room_behind(left, tests)
+            }
+            Statement::Delete { table, tests } => {
+                let left = IdField::room_behind(left, table)?;
+                Tests::room_behind(left, tests)
+            }
+            Statement::Expect {
+                count,
+                table,
+                tests,
+            } => {
+                let left = NumberField::room_behind(left, count)?;
+                let left = IdField::room_behind(left, table)?;
+                Tests::room_behind(left, tests)
+            }
+        }
+    }
+
+    fn write(out: &mut Vec<u8>, statement: &Statement) -> Result<(), AllocError> {
+        match statement {
+            Statement::Insert { table, row } => {
+                write_u8(out, 1)?;
+                IdField::write(out, table)?;
+                write_list::<ValueField>(out, row.as_slice())
+            }
+            Statement::Select {
+                table,
+                columns,
+                tests,
+            } => {
+                write_u8(out, 2)?;
+                IdField::write(out, table)?;
+                List::<IdField>::write(out, columns)?;
+                Tests::write(out, tests)
+            }
+            Statement::Update {
+                table,
+                changes,
+                tests,
+            } => {
+                write_u8(out, 3)?;
+                IdField::write(out, table)?;
+                List::<ChangeField>::write(out, changes)?;
+                Tests::write(out, tests)
+            }
+            Statement::Delete { table, tests } => {
+                write_u8(out, 4)?;
+                IdField::write(out, table)?;
+                Tests::write(out, tests)
+            }
+            Statement::Expect {
+                count,
+                table,
+                tests,
+            } => {
+                write_u8(out, 5)?;
+                NumberField::write(out, count)?;
+                IdField::write(out, table)?;
+                Tests::write(out, tests)
+            }
+        }
+    }
+}
+
+pub(crate) struct ObjectField;
+
+impl FieldKind for ObjectField {
+    ghost use Rattle.report_format.specs.Operations.{object_field};
+    ghost use Rattle.report_format.specs.OperationLaws.{object_one, object_some};
+
+    type Item = Object;
+
+    ghost field = { object_field };
+
+    ghost one = { object_one };
+
+    ghost some = { object_some };
+
+    fn read(
+        alloc: Global,
+        bytes: &[u8],
+        at: usize,
+    ) -> Result<(Object, usize), OrMemory<Unreadable>> {
+        let (tag, next) = read_u8(bytes, at)?;
+        match tag {
+            1 => {
+                let (name, next) = TextField::read(alloc, bytes, next)?;
+                Ok((Object::Register(name), next))
+            }
+            2 => {
+                let (name, next) = TextField::read(alloc, bytes, next)?;
+                Ok((Object::Store(name), next))
+            }
+            3 => Ok((Object::Tables, next)),
+            4 => Ok((Object::Clock, next)),
+            5 => Ok((Object::Dice, next)),
+            _ => Err(OrMemory::Other(Unreadable { at })),
+        }
+    }
+
+    fn room_behind(room: usize, object: &Object) -> Option<usize> {
+        let left = room.checked_sub(1)?;
+        match object {
+            Object::Register(name) | Object::Store(name) => TextField::room_behind(left, name),
+            Object::Tables | Object::Clock | Object::Dice => Some(left),
+        }
+    }
+
+    fn write(out: &mut Vec<u8>, object: &Object) -> Result<(), AllocError> {
+        match object {
+            Object::Register(name) => {
+                write_u8(out, 1)?;
+                TextField::write(out, name)
+            }
+            Object::Store(name) => {
+                write_u8(out, 2)?;
+                TextField::write(out, name)
+            }
+            Object::Tables => write_u8(out, 3),
+            Object::Clock => write_u8(out, 4),
+            Object::Dice => write_u8(out, 5),
+        }
+    }
+}
+
+pub(crate) struct ActField;
+
+impl FieldKind for ActField {
+    ghost use Rattle.report_format.specs.Operations.{act_field};
+    ghost use Rattle.report_format.specs.OperationLaws.{act_one, act_some};
+
+    type Item = Act;
+
+    ghost field = { act_field };
+
+    ghost one = { act_one };
+
+    ghost some = { act_some };
+
+    fn read(alloc: Global, bytes: &[u8], at: usize) -> Result<(Act, usize), OrMemory<Unreadable>> {
+        let (tag, next) = read_u8(bytes, at)?;
+        match tag {
+            1 => Ok((Act::Read, next)),
+            2 => {
+                let (value, next) = ValueField::read(alloc, bytes, next)?;
+                Ok((Act::Write(value), next))
+            }
+            3 => {
+                let (key, next) = TextField::read(alloc, bytes, next)?;
+                Ok((Act::Get(key), next))
+            }
+            4 => {
+                let ((key, value), next) = PutParts::read(alloc, bytes, next)?;
+                Ok((Act::Put(key, value), next))
+            }
+            5 => {
+                let (key, next) = TextField::read(alloc, bytes, next)?;
+                Ok((Act::Remove(key), next))
+            }
+            6 => {
+                let (statements, next) = List::<StatementField>::read(alloc, bytes, next)?;
+                Ok((Act::Transact(statements), next))
+            }
+            7 => Ok((Act::Now, next)),
+            8 => {
+                let (bound, next) = NumberField::read(alloc, bytes, next)?;
+                Ok((Act::Roll(bound), next))
+            }
+            _ => Err(OrMemory::Other(Unreadable { at })),
+        }
+    }
+
+    fn room_behind(room: usize, act: &Act) -> Option<usize> {
+        let left = room.checked_sub(1)?;
+        match act {
+            Act::Read | Act::Now => Some(left),
+            Act::Write(value) => ValueField::room_behind(left, value),
+            Act::Get(key) | Act::Remove(key) => TextField::room_behind(left, key),
+            Act::Put(key, value) => {
+                let left = TextField::room_behind(left, key)?;
+                ValueField::room_behind(left, value)
+            }
+            Act::Transact(statements) => List::<StatementField>::room_behind(left, statements),
+            Act::Roll(bound) => NumberField::room_behind(left, bound),
+        }
+    }
+
+    fn write(out: &mut Vec<u8>, act: &Act) -> Result<(), AllocError> {
+        match act {
+            Act::Read => write_u8(out, 1),
+            Act::Write(value) => {
+                write_u8(out, 2)?;
+                ValueField::write(out, value)
+            }
+            Act::Get(key) => {
+                write_u8(out, 3)?;
+                TextField::write(out, key)
+            }
+            Act::Put(key, value) => {
+                write_u8(out, 4)?;
+                TextField::write(out, key)?;
+                ValueField::write(out, value)
+            }
+            Act::Remove(key) => {
+                write_u8(out, 5)?;
+                TextField::write(out, key)
+            }
+            Act::Transact(statements) => {
+                write_u8(out, 6)?;
+                List::<StatementField>::write(out, statements)
+            }
+            Act::Now => write_u8(out, 7),
+            Act::Roll(bound) => {
+                write_u8(out, 8)?;
+                NumberField::write(out, bound)
+            }
+        }
+    }
+}

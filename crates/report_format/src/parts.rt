@@ -1,0 +1,133 @@
+ghost use Rattle.std.specs.Prelude.{◌≡◌, ◌++◌, ◌<◌, ◌^◌, length, OnOk};
+ghost use Rattle.wire.specs.Files.{LeavesRoom};
+ghost use Rattle.wire.specs.Spellings.{TakesPart};
+ghost use Rattle.report_format.specs.Parts.{list_field, row_field};
+ghost use Rattle.report_format.specs.RowLaws.{list_one, list_some};
+ghost use Rattle.report_format.specs.PairLaws.{both_one, both_some};
+
+use crate::fields::FieldKind;
+use basis::{Items, OrMemory};
+use std::alloc::{AllocError, Global};
+use std::marker::PhantomData;
+use wire::fault::Unreadable;
+use wire::field::read_u32;
+use wire::writing::write_u32;
+
+/// A field, and another one behind it.
+pub(crate) struct Pair<F, G> {
+    first: PhantomData<F>,
+    second: PhantomData<G>,
+}
+
+impl<F: FieldKind, G: FieldKind> FieldKind for Pair<F, G> {
+    ghost use Rattle.report_format.specs.Parts.{both};
+
+    type Item = (F::Item, G::Item);
+
+    ghost field = { both F.field G.field };
+
+    ghost one = { both_one F.field G.field F.one G.one };
+
+    ghost some = { both_some F.field G.field F.some };
+
+    fn read(
+        alloc: Global,
+        bytes: &[u8],
+        at: usize,
+    ) -> Result<((F::Item, G::Item), usize), OrMemory<Unreadable>> {
+        let (first, next) = F::read(alloc, bytes, at)?;
+        let (second, next) = G::read(alloc, bytes, next)?;
+        Ok(((first, second), next))
+    }
+
+    fn room_behind(room: usize, pair: &(F::Item, G::Item)) -> Option<usize> {
+        let (first, second) = pair;
+        let left = F::room_behind(room, first)?;
+        G::room_behind(left, second)
+    }
+
+    fn write(out: &mut Vec<u8>, pair: &(F::Item, G::Item)) -> Result<(), AllocError> {
+        let (first, second) = pair;
+        F::write(out, first)?;
+        G::write(out, second)
+    }
+}
+
+/// How many fields of a kind there are, and these.
+pub(crate) struct List<F> {
+    member: PhantomData<F>,
+}
+
+impl<F: FieldKind> FieldKind for List<F> {
+    type Item = Items<F::Item>;
+
+    ghost field = { list_field F.field };
+
+    ghost one = { list_one F.field F.one };
+
+    ghost some = { list_some F.field };
+
+    fn read(
+        alloc: Global,
+        bytes: &[u8],
+        at: usize,
+    ) -> Result<(Items<F::Item>, usize), OrMemory<Unreadable>> {
+        let (count, next) = read_u32(bytes, at)?;
+        read_row::<F>(alloc, bytes, next, count)
+    }
+
+    fn room_behind(room: usize, items: &Items<F::Item>) -> Option<usize> {
+        room_behind_list::<F>(room, items.as_slice())
+    }
+
+    fn write(out: &mut Vec<u8>, items: &Items<F::Item>) -> Result<(), AllocError> {
+        write_list::<F>(out, items.as_slice())
+    }
+}
+
+/// What is left of so much room behind a list, or `None` where it has more bytes.
+pub(crate) fn room_behind_list<F: FieldKind>(room: usize, items: &[F::Item]) -> Option<usize>
+    ensures { LeavesRoom room ((list_field F.field).spelling items.now) result }
+{
+    let mut left = room.checked_sub(4)?;
+    for item in items {
+        left = F::room_behind(left, item)?;
+    }
+    Some(left)
+}
+
+/// Writes how many there are, and these.
+pub(crate) fn write_list<F: FieldKind>(
+    out: &mut Vec<u8>,
+    items: &[F::Item],
+) -> Result<(), AllocError>
+    requires allowed { (list_field F.field).allows items.now }
+    requires short { length ((list_field F.field).spelling items.now) < 2 ^ 32 }
+    ensures { OnOk result
+        (out.new.items ≡ out.old.items ++ (list_field F.field).spelling items.now) }
+{
+    write_u32(out, items.len() as u32)?;
+    for item in items {
+        F::write(out, item)?;
+    }
+    Ok(())
+}
+
+/// So many fields of a kind, one behind the other.
+fn read_row<F: FieldKind>(
+    alloc: Global,
+    bytes: &[u8],
+    at: usize,
+    count: u32,
+) -> Result<(Items<F::Item>, usize), OrMemory<Unreadable>>
+    ensures { TakesPart (λ x. x) (row_field F.field count) bytes.now at result }
+{
+    let mut items = Vec::new(alloc);
+    let mut place = at;
+    for _ in 0..count {
+        let (item, next) = F::read(alloc, bytes, place)?;
+        items.push(item)?;
+        place = next;
+    }
+    Ok((Items::from_vec(items), place))
+}

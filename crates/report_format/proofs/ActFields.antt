@@ -1,6 +1,5 @@
 -- No act stands where its tag or a part of it is missed.
-use Rattle.std.proofs.Common.{◌≡◌, ℕ, ◌+◌, ◌<◌, ◌==◌, List, [], ◌∷◌, MatchBool, sym, subst, ◌∙◌, arith}
-use Rattle.script_tree.specs.declared.operation.Act.{Act}
+use Rattle.std.proofs.Common.{◌≡◌, ℕ, ◌+◌, ◌==◌, List, [], ◌∷◌, MatchBool, sym, subst, ◌∙◌, arith}
 use Rattle.script_tree.specs.declared.operation.Act.TheVariants.{Read, Write, Get, Put, Remove, Transact, Now, Roll}
 use Rattle.wire.specs.Spellings.{IsFieldAt, NoneIsAt, byte_field, bytes_field, integer_field, value_field}
 use Rattle.report_format.specs.Operations.{put_field, statements_field, act_field}

@@ -1,5 +1,5 @@
 -- Records of a payload: none stands where its tag is missed, and a payload is one of them at most.
-use Rattle.std.proofs.Common.{◌≡◌, ◌≢◌, ℕ, ◌+◌, ◌<◌, ◌≤◌, List, Result, Err, [], ◌∷◌, length, subst, arith}
+use Rattle.std.proofs.Common.{◌≡◌, ◌≢◌, ℕ, ◌+◌, List, Result, Err, [], ◌∷◌, length, arith}
 use Rattle.std.specs.Prelude.{IsErrAnd}
 use Rattle.basis.specs.declared.or_memory.OrMemory.{OrMemory}
 use Rattle.basis.specs.declared.or_memory.OrMemory.TheVariants.{Memory, Other}
@@ -8,7 +8,7 @@ use Rattle.wire.specs.Spellings.{IsFieldAt, NoneIsAt, HasOneSpelling, byte_field
 use Rattle.wire.specs.Files.{payload_field, TakesPayload, SpellsNone, IsExact}
 use Rattle.wire.proofs.FileLaws.{file_is_exact}
 use Rattle.wire.proofs.FileSteps.{one_payload, no_payload, not_whole}
-use Rattle.wire.proofs.Spelled.{first_part, same_field}
+use Rattle.wire.proofs.Spelled.{first_part}
 use Rattle.report_format.specs.ReportLaws.{record_one}
 use Rattle.report_format.specs.Reports.{count_field, log_field, group_field, any_record_field, report_format}
 use Rattle.report_format.specs.declared.format.ReportRecord.{ReportRecord}

@@ -1,6 +1,5 @@
 -- No statement stands where its tag or a part of it is missed.
-use Rattle.std.proofs.Common.{◌≡◌, ℕ, ◌+◌, ◌<◌, ◌==◌, List, [], ◌∷◌, MatchBool, sym, subst, ◌∙◌, arith}
-use Rattle.script_tree.specs.declared.transaction.Statement.{Statement}
+use Rattle.std.proofs.Common.{◌≡◌, ℕ, ◌+◌, ◌==◌, List, [], ◌∷◌, MatchBool, sym, subst, ◌∙◌, arith}
 use Rattle.script_tree.specs.declared.transaction.Statement.TheVariants.{Insert, Select, Update, Delete, Expect}
 use Rattle.wire.specs.Spellings.{IsFieldAt, NoneIsAt, byte_field}
 use Rattle.report_format.specs.Operations.{insert_field, select_field, update_field, delete_field, expect_field, statement_field}

@@ -1,15 +1,12 @@
 -- Operations: no two objects or acts are spelled alike, and each has a byte.
-use Rattle.std.proofs.Common.{◌≡◌, ℕ, ℤ, ◌<◌, List, ◌∷◌, ◌++◌, length, ap, refl, arith}
+use Rattle.std.proofs.Common.{ℕ, ℤ, List, ◌++◌, ap, refl}
 use Rattle.script_tree.specs.Datum.{Datum}
-use Rattle.script_tree.specs.declared.operation.Act.{Act}
 use Rattle.script_tree.specs.declared.operation.Act.TheVariants.{Read, Write, Get, Put, Remove, Transact, Now, Roll}
-use Rattle.script_tree.specs.declared.operation.Object.{Object}
 use Rattle.script_tree.specs.declared.operation.Object.TheVariants.{Register, Store, Tables, Clock, Dice}
 use Rattle.script_tree.specs.declared.transaction.Statement.{Statement}
 use Rattle.wire.specs.Spellings.{HasOneSpelling, integer_field, bytes_field, value_field}
 use Rattle.wire.proofs.OneSpelling.{integer_one, bytes_one}
 use Rattle.wire.proofs.ValueSpellings.{value_one}
-use Rattle.report_format.specs.Parts.{both}
 use Rattle.report_format.specs.Operations.{object_field, put_field, statement_field, statements_field, act_field}
 use Rattle.report_format.specs.PairLaws.{both_one}
 use Rattle.report_format.specs.RowLaws.{list_one}
@@ -46,13 +43,6 @@ object_one Dice (Store n') r s p q e = absurd (cc)
 object_one Dice Tables r s p q e = absurd (cc)
 object_one Dice Clock r s p q e = absurd (cc)
 object_one Dice Dice r s p q e = (refl, rest_is 5 5 r s e)
-
-pub object_some : (x : Object) → 0 < length (object_field.spelling x)
-object_some (Register n) = omega arith
-object_some (Store n) = omega arith
-object_some Tables = omega arith
-object_some Clock = omega arith
-object_some Dice = omega arith
 
 -- ---- acts
 
@@ -139,13 +129,3 @@ act_one (Roll n) Now r s p q e = absurd (cc)
 act_one (Roll n) (Roll n') r s p q e =
     let same = integer_one n n' r s p q (rest_is 8 8 (integer_field.spelling n ++ r) (integer_field.spelling n' ++ s) e) in
     (ap (λ (z : ℤ). Roll z) same.0, same.1)
-
-pub act_some : (x : Act) → 0 < length (act_field.spelling x)
-act_some Read = omega arith
-act_some (Write d) = omega arith
-act_some (Get k) = omega arith
-act_some (Put k d) = omega arith
-act_some (Remove k) = omega arith
-act_some (Transact ss) = omega arith
-act_some Now = omega arith
-act_some (Roll n) = omega arith

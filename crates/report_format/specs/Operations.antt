@@ -1,5 +1,5 @@
 -- How operations are spelled: the objects, the acts, and the statements of transactions.
-use Rattle.std.specs.Prelude.{◌≡◌, ℕ, ℤ, List, [], ◌∷◌, ◌++◌}
+use Rattle.std.specs.Prelude.{ℕ, ℤ, List, [], ◌∷◌}
 use Rattle.std.specs.Int.{w32}
 use Rattle.script_tree.specs.Datum.{Datum}
 use Rattle.script_tree.specs.declared.comparison.Comparison.{Comparison}
@@ -13,7 +13,7 @@ use Rattle.script_tree.specs.declared.transaction.Change.{Change}
 use Rattle.script_tree.specs.declared.transaction.Statement.{Statement}
 use Rattle.script_tree.specs.declared.transaction.Statement.TheVariants.{Insert, Select, Update, Delete, Expect}
 use Rattle.wire.specs.Spellings.{Field, number_field, integer_field, bytes_field, value_field}
-use Rattle.report_format.specs.Parts.{pair_field, both, seen_as, list_field}
+use Rattle.report_format.specs.Parts.{both, seen_as, list_field}
 
 abbrev pub id_field : Field ℕ
 id_field = number_field w32

@@ -1,5 +1,5 @@
 -- Reports: no two counts, entries, logs, groups or records are spelled alike, and each has a byte.
-use Rattle.std.proofs.Common.{◌≡◌, ℕ, ◌<◌, List, ◌∷◌, ◌++◌, length, ap, arith}
+use Rattle.std.proofs.Common.{ℕ, List, ◌++◌, ap}
 use Rattle.script_tree.specs.declared.operation.Act.{Act}
 use Rattle.script_tree.specs.declared.operation.Choice.{Choice}
 use Rattle.script_tree.specs.declared.operation.Object.{Object}
@@ -11,19 +11,16 @@ use Rattle.report.specs.declared.LogEntry.{LogEntry}
 use Rattle.report_format.specs.Parts.{both, list_field}
 use Rattle.report_format.specs.Operations.{id_field, act_field, object_field}
 use Rattle.report_format.specs.Reports.{count_field, entry_field, log_field, group_field, any_record_field}
-use Rattle.report_format.specs.PairLaws.{both_one, both_some}
-use Rattle.report_format.specs.RowLaws.{list_one, list_some}
-use Rattle.report_format.specs.SimpleLaws.{id_one, id_some, rest_is}
-use Rattle.report_format.specs.OperationLaws.{act_one, object_one, object_some}
+use Rattle.report_format.specs.PairLaws.{both_one}
+use Rattle.report_format.specs.RowLaws.{list_one}
+use Rattle.report_format.specs.SimpleLaws.{id_one, rest_is}
+use Rattle.report_format.specs.OperationLaws.{act_one, object_one}
 use Rattle.report_format.specs.declared.format.ReportRecord.TheVariants as it
 
 pub count_one : HasOneSpelling count_field
 count_one x y r s p q e =
     let same = both_one id_field id_field id_one id_one (x.rid, x.operations) (y.rid, y.operations) r s p q e in
     (ap (λ (z : ℕ × ℕ). record { rid = z.0; operations = z.1 }) same.0, same.1)
-
-pub count_some : (c : Count) → 0 < length (count_field.spelling c)
-count_some c = both_some id_field id_field id_some (c.rid, c.operations)
 
 pub entry_one : HasOneSpelling entry_field
 entry_one x y r s p q e =
@@ -32,22 +29,13 @@ entry_one x y r s p q e =
     let same = parts (x.rid, (x.number, (x.act, x.choice))) (y.rid, (y.number, (y.act, y.choice))) r s p q e in
     (ap (λ (z : ℕ × (ℕ × (Act × Choice))). record { rid = z.0; number = z.1.0; act = z.1.1.0; choice = z.1.1.1 }) same.0, same.1)
 
-pub entry_some : (e : LogEntry) → 0 < length (entry_field.spelling e)
-entry_some e = both_some id_field (both id_field (both act_field choice_field)) id_some (e.rid, (e.number, (e.act, e.choice)))
-
 pub log_one : HasOneSpelling log_field
 log_one x y r s p q e =
     let same = both_one object_field (list_field entry_field) object_one (list_one entry_field entry_one) (x.object, x.entries) (y.object, y.entries) r s p q e in
     (ap (λ (z : Object × List LogEntry). record { object = z.0; entries = z.1 }) same.0, same.1)
 
-pub log_some : (l : Log) → 0 < length (log_field.spelling l)
-log_some l = both_some object_field (list_field entry_field) object_some (l.object, l.entries)
-
 pub group_one : HasOneSpelling group_field
 group_one x y r s p q e = list_one id_field id_one x y r s p.1 q.1 e
-
-pub group_some : (rids : List ℕ) → 0 < length (group_field.spelling rids)
-group_some rids = list_some id_field rids
 
 pub record_one : HasOneSpelling any_record_field
 record_one (it.Count c) (it.Count c') r s p q e =

@@ -1,10 +1,11 @@
 -- How a report is spelled.
-use Rattle.std.specs.Prelude.{◌≡◌, ◌≢◌, ℕ, ◌≤◌, List, [], ◌∷◌, ◌++◌, map, codes}
+use Rattle.std.specs.Prelude.{ℕ, ◌≤◌, List, [], ◌∷◌, ◌++◌, map, codes, Result}
 use Rattle.basis.specs.UnlessMemory.{UnlessMemory}
-use Rattle.script_tree.specs.declared.operation.Act.{Act}
-use Rattle.script_tree.specs.declared.operation.Choice.{Choice}
 use Rattle.wire.specs.Spellings.{Field, Reading, choice_field}
-use Rattle.wire.specs.Files.{Format, Spells, IsFault, IsFileWithin}
+use Rattle.wire.specs.Files.{Format, Spells, Encodes, IsFault, IsFileWithin}
+use Rattle.wire.specs.declared.fault.PastLimit.{PastLimit}
+use Rattle.basis.specs.declared.or_memory.OrMemory.{OrMemory}
+use Rattle.std.specs.declared.vec.Vec.{Vec}
 use Rattle.wire.specs.declared.limits.TheConstants.{MOST_FILE_BYTES}
 use Rattle.report.specs.Groups.{IsSome}
 use Rattle.report.specs.declared.Count.{Count}
@@ -76,6 +77,10 @@ records_of report = map it.Count report.counts ++ (map it.Log report.logs ++ map
 abbrev pub DecodesReport : List ℕ → Reading Report → Type 0
 DecodesReport bytes result =
     UnlessMemory (λ report. Spells report_format bytes (records_of report)) (λ fault. IsFault report_format bytes fault.at) result
+
+-- The file of this report, or the first of its records that would end behind the limit, unless memory ran out.
+abbrev pub EncodesReport : {A : Type 0} → Report → Result (Vec ℕ A) (OrMemory PastLimit) → Type 0
+EncodesReport report result = Encodes (λ out. out.items) report_format MOST_FILE_BYTES (records_of report) result
 
 -- Its numbers have their widths, and its values are within the limits.
 pub record IsSpellable (report : Report) : Type 0 where

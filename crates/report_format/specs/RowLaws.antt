@@ -1,10 +1,10 @@
 -- Fields of one kind, one behind the other, and how many there are before them.
-use Rattle.std.proofs.Common.{◌≡◌, ℕ, ◌+◌, ◌<◌, ◌≤◌, ◌^◌, List, [], ◌∷◌, ◌++◌, length, take, drop, refl, sym, ap, subst, ◌∙◌, append_assoc, arith}
-use Rattle.std.specs.Int.{w32, to_be_bytes}
+use Rattle.std.proofs.Common.{◌≡◌, ℕ, ◌+◌, ◌<◌, List, [], ◌∷◌, ◌++◌, length, take, drop, refl, sym, ap, subst, ◌∙◌, append_assoc, arith}
+use Rattle.std.specs.Int.{w32}
 use Rattle.std.proofs.lemmas.List.{append-nil, length-append, take-append-drop, length-take, length-drop}
 use Rattle.wire.specs.Spellings.{Field, IsSpelled, IsFieldAt, NoneIsAt, HasOneSpelling, number_field}
 use Rattle.wire.proofs.Spelled.{joined, first_part, second_part, same_field}
-use Rattle.wire.proofs.Sequences.{pair_field, both_there, no_first, no_second, pair_one}
+use Rattle.wire.proofs.Sequences.{pair_field, no_first, pair_one}
 use Rattle.wire.proofs.OneSpelling.{one_of_32}
 use Rattle.report_format.specs.Parts.{all_spelled, AllAllowed, row_field, list_field}
 
@@ -79,22 +79,3 @@ module _ {A : Type 0} (field : Field A) (one : HasOneSpelling field) where
 
   pub no_count : (bytes : List ℕ) (at : ℕ) → NoneIsAt (number_field w32) bytes at → NoneIsAt (list_field field) bytes at
   no_count bytes at none = no_parts bytes at (no_first (number_field w32) (λ n. row_field field n) bytes at none)
-
-  pub no_row : (bytes : List ℕ) (at count mid : ℕ) → IsFieldAt (number_field w32) bytes at count mid → NoneIsAt (row_field field count) bytes mid → NoneIsAt (list_field field) bytes at
-  no_row bytes at count mid here none = no_parts bytes at (no_second (number_field w32) (λ n. row_field field n) one_of_32 bytes at count mid here none)
-
-  pub list_there : (bytes : List ℕ) (at count mid : ℕ) (xs : List A) (next : ℕ) → IsFieldAt (number_field w32) bytes at count mid → IsFieldAt (row_field field count) bytes mid xs next → IsFieldAt (list_field field) bytes at xs next
-  list_there bytes at count mid xs next here row =
-      let both = both_there (number_field w32) (λ n. row_field field n) bytes at count mid xs next here row in
-      let Counted : ℕ → Type 0 = λ n. IsFieldAt list_parts bytes at (n, xs) next in
-      let there = subst Counted (sym row.0.0) both in
-      ((there.0.0, there.0.1.1), there.1)
-
-module _ {A : Type 0} (field : Field A) where
-  pub list_some : (xs : List A) → 0 < length ((list_field field).spelling xs)
-  list_some xs = omega (arith, length-append (to_be_bytes w32 (length xs)) (all_spelled field xs))
-
-  -- there are no more of them than they have bytes
-  pub few_members : ((x : A) → 0 < length (field.spelling x)) → (xs : List A) → length xs ≤ length (all_spelled field xs)
-  few_members some [] = omega arith
-  few_members some (x ∷ xs) = omega (arith, few_members some xs, some x, length-append (field.spelling x) (all_spelled field xs))

@@ -1,19 +1,18 @@
 -- Transactions: no two tests, changes or statements are spelled alike, and each has a byte.
-use Rattle.std.proofs.Common.{◌≡◌, ℕ, ℤ, ◌<◌, List, ◌∷◌, ◌++◌, length, ap, refl, arith}
+use Rattle.std.proofs.Common.{ℕ, ℤ, List, ◌++◌, ap}
 use Rattle.script_tree.specs.Datum.{Datum}
 use Rattle.script_tree.specs.declared.comparison.Comparison.{Comparison}
 use Rattle.script_tree.specs.declared.transaction.Change.{Change}
 use Rattle.script_tree.specs.declared.transaction.Test.{Test}
-use Rattle.script_tree.specs.declared.transaction.Statement.{Statement}
 use Rattle.script_tree.specs.declared.transaction.Statement.TheVariants.{Insert, Select, Update, Delete, Expect}
 use Rattle.wire.specs.Spellings.{HasOneSpelling, integer_field, value_field}
 use Rattle.wire.proofs.OneSpelling.{integer_one}
 use Rattle.wire.proofs.ValueSpellings.{value_one}
 use Rattle.report_format.specs.Parts.{both, list_field}
 use Rattle.report_format.specs.Operations.{id_field, comparison_field, test_field, change_field, tests_field, insert_field, select_field, update_field, delete_field, expect_field, statement_field}
-use Rattle.report_format.specs.PairLaws.{both_one, both_some}
+use Rattle.report_format.specs.PairLaws.{both_one}
 use Rattle.report_format.specs.RowLaws.{list_one}
-use Rattle.report_format.specs.SimpleLaws.{id_one, id_some, comparison_one, rest_is}
+use Rattle.report_format.specs.SimpleLaws.{id_one, comparison_one, rest_is}
 
 pub test_one : HasOneSpelling test_field
 test_one x y r s p q e =
@@ -21,16 +20,10 @@ test_one x y r s p q e =
     let same = parts (x.column, (x.comparison, x.value)) (y.column, (y.comparison, y.value)) r s p q e in
     (ap (λ (z : ℕ × (Comparison × Datum)). record { column = z.0; comparison = z.1.0; value = z.1.1 }) same.0, same.1)
 
-pub test_some : (t : Test) → 0 < length (test_field.spelling t)
-test_some t = both_some id_field (both comparison_field value_field) id_some (t.column, (t.comparison, t.value))
-
 pub change_one : HasOneSpelling change_field
 change_one x y r s p q e =
     let same = both_one id_field value_field id_one value_one (x.column, x.value) (y.column, y.value) r s p q e in
     (ap (λ (z : ℕ × Datum). record { column = z.0; value = z.1 }) same.0, same.1)
-
-pub change_some : (c : Change) → 0 < length (change_field.spelling c)
-change_some c = both_some id_field value_field id_some (c.column, c.value)
 
 -- ---- statements
 
@@ -88,10 +81,3 @@ statement_one (Expect n t ts) (Delete t' ts') r s p q e = absurd (cc)
 statement_one (Expect n t ts) (Expect n' t' ts') r s p q e =
     let same = expect_one (n, (t, ts)) (n', (t', ts')) r s p q (rest_is 5 5 (expect_field.spelling (n, (t, ts)) ++ r) (expect_field.spelling (n', (t', ts')) ++ s) e) in
     (ap (λ (z : ℤ × (ℕ × List Test)). Expect z.0 z.1.0 z.1.1) same.0, same.1)
-
-pub statement_some : (x : Statement) → 0 < length (statement_field.spelling x)
-statement_some (Insert t row) = omega arith
-statement_some (Select t cs ts) = omega arith
-statement_some (Update t cs ts) = omega arith
-statement_some (Delete t ts) = omega arith
-statement_some (Expect n t ts) = omega arith

@@ -1,6 +1,6 @@
 ghost use Rattle.std.specs.Prelude.{◌≡◌, ◌<◌, ◌++◌, ◌^◌, length, IfOk, OnOk};
-ghost use Rattle.wire.specs.Files.{Encodes, LeavesRoom};
-ghost use Rattle.report_format.specs.Reports.{report_format, records_of, IsSpellable, IsReadAgain};
+ghost use Rattle.wire.specs.Files.{LeavesRoom};
+ghost use Rattle.report_format.specs.Reports.{report_format, records_of, IsSpellable, EncodesReport, IsReadAgain};
 ghost use Rattle.report_format.specs.Reports.{count_field, log_field, group_field};
 ghost use Rattle.report_format.specs.declared.format.ReportRecord.TheVariants as it;
 
@@ -144,7 +144,7 @@ fn lent_records(alloc: Global, report: &Report) -> Result<Items<LentRecord<'_>>,
 /// The file that spells the report, or the first record that would end past the limit of a file.
 pub fn encode(alloc: Global, report: &Report) -> Result<Vec<u8>, OrMemory<PastLimit>>
     requires { IsSpellable report.now }
-    ensures { Encodes (λ out. out.items) report_format MOST_FILE_BYTES (records_of report.now) result }
+    ensures { EncodesReport report.now result }
 {
     let records = lent_records(alloc, report)?;
     write_file_within::<LentRecords>(alloc, MOST_FILE_BYTES, &records)

@@ -35,15 +35,11 @@ pub(crate) trait FieldKind {
 
     /// Writes the field.
     fn write(out: &mut Vec<u8>, item: &Self::Item) -> Result<(), AllocError>
-        requires allowed { field.allows item.now }
-        requires short { length (field.spelling item.now) < 2 ^ 32 }
+        requires { field.allows item.now }
         ensures { OnOk result (out.new.items ≡ out.old.items ++ field.spelling item.now) };
 
     /// No two are spelled alike, and none begins another.
     ghost one: { HasOneSpelling field };
-
-    /// Each has at least one byte.
-    ghost some: { (x : Self.Item) → 0 < length (field.spelling x) };
 }
 
 /// An id, the number of an operation, a table or a column, or how many there are of something.
@@ -51,15 +47,13 @@ pub(crate) struct IdField;
 
 impl FieldKind for IdField {
     ghost use Rattle.report_format.specs.Operations.{id_field};
-    ghost use Rattle.report_format.specs.SimpleLaws.{id_one, id_some};
+    ghost use Rattle.report_format.specs.SimpleLaws.{id_one};
 
     type Item = u32;
 
     ghost field = { id_field };
 
     ghost one = { id_one };
-
-    ghost some = { id_some };
 
     fn read(_alloc: Global, bytes: &[u8], at: usize) -> Result<(u32, usize), OrMemory<Unreadable>> {
         Ok(read_u32(bytes, at)?)
@@ -80,15 +74,12 @@ pub(crate) struct NumberField;
 impl FieldKind for NumberField {
     ghost use Rattle.wire.specs.Spellings.{integer_field};
     ghost use Rattle.wire.proofs.OneSpelling.{integer_one};
-    ghost use Rattle.report_format.specs.SimpleLaws.{number_some};
 
     type Item = i64;
 
     ghost field = { integer_field };
 
     ghost one = { integer_one };
-
-    ghost some = { number_some };
 
     fn read(_alloc: Global, bytes: &[u8], at: usize) -> Result<(i64, usize), OrMemory<Unreadable>> {
         Ok(read_i64(bytes, at)?)
@@ -108,15 +99,12 @@ pub(crate) struct TextField;
 impl FieldKind for TextField {
     ghost use Rattle.wire.specs.Spellings.{bytes_field};
     ghost use Rattle.wire.proofs.OneSpelling.{bytes_one};
-    ghost use Rattle.report_format.specs.SimpleLaws.{text_some};
 
     type Item = Text;
 
     ghost field = { bytes_field };
 
     ghost one = { bytes_one };
-
-    ghost some = { text_some };
 
     fn read(alloc: Global, bytes: &[u8], at: usize) -> Result<(Text, usize), OrMemory<Unreadable>> {
         let (text, next) = read_bytes(bytes, at)?;
@@ -137,15 +125,12 @@ pub(crate) struct ValueField;
 impl FieldKind for ValueField {
     ghost use Rattle.wire.specs.Spellings.{value_field};
     ghost use Rattle.wire.proofs.ValueSpellings.{value_one};
-    ghost use Rattle.report_format.specs.SimpleLaws.{value_some};
 
     type Item = Value;
 
     ghost field = { value_field };
 
     ghost one = { value_one };
-
-    ghost some = { value_some };
 
     fn read(
         alloc: Global,
@@ -169,15 +154,12 @@ pub(crate) struct ChoiceField;
 impl FieldKind for ChoiceField {
     ghost use Rattle.wire.specs.Spellings.{choice_field};
     ghost use Rattle.wire.proofs.OneSpelling.{choice_one};
-    ghost use Rattle.report_format.specs.SimpleLaws.{choice_some};
 
     type Item = Choice;
 
     ghost field = { choice_field };
 
     ghost one = { choice_one };
-
-    ghost some = { choice_some };
 
     fn read(
         _alloc: Global,
@@ -203,15 +185,13 @@ pub(crate) struct ComparisonField;
 
 impl FieldKind for ComparisonField {
     ghost use Rattle.report_format.specs.Operations.{comparison_field};
-    ghost use Rattle.report_format.specs.SimpleLaws.{comparison_one, comparison_some};
+    ghost use Rattle.report_format.specs.SimpleLaws.{comparison_one};
 
     type Item = Comparison;
 
     ghost field = { comparison_field };
 
     ghost one = { comparison_one };
-
-    ghost some = { comparison_some };
 
     fn read(
         _alloc: Global,

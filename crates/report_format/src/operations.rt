@@ -36,15 +36,13 @@ pub(crate) struct TestField;
 
 impl FieldKind for TestField {
     ghost use Rattle.report_format.specs.Operations.{test_field};
-    ghost use Rattle.report_format.specs.TransactionLaws.{test_one, test_some};
+    ghost use Rattle.report_format.specs.TransactionLaws.{test_one};
 
     type Item = Test;
 
     ghost field = { test_field };
 
     ghost one = { test_one };
-
-    ghost some = { test_some };
 
     fn read(alloc: Global, bytes: &[u8], at: usize) -> Result<(Test, usize), OrMemory<Unreadable>> {
         let ((column, (comparison, value)), next) = TestParts::read(alloc, bytes, at)?;
@@ -75,15 +73,13 @@ pub(crate) struct ChangeField;
 
 impl FieldKind for ChangeField {
     ghost use Rattle.report_format.specs.Operations.{change_field};
-    ghost use Rattle.report_format.specs.TransactionLaws.{change_one, change_some};
+    ghost use Rattle.report_format.specs.TransactionLaws.{change_one};
 
     type Item = Change;
 
     ghost field = { change_field };
 
     ghost one = { change_one };
-
-    ghost some = { change_some };
 
     fn read(
         alloc: Global,
@@ -109,15 +105,13 @@ pub(crate) struct StatementField;
 
 impl FieldKind for StatementField {
     ghost use Rattle.report_format.specs.Operations.{statement_field};
-    ghost use Rattle.report_format.specs.TransactionLaws.{statement_one, statement_some};
+    ghost use Rattle.report_format.specs.TransactionLaws.{statement_one};
 
     type Item = Statement;
 
     ghost field = { statement_field };
 
     ghost one = { statement_one };
-
-    ghost some = { statement_some };
 
     fn read(
         alloc: Global,
@@ -263,15 +257,13 @@ pub(crate) struct ObjectField;
 
 impl FieldKind for ObjectField {
     ghost use Rattle.report_format.specs.Operations.{object_field};
-    ghost use Rattle.report_format.specs.OperationLaws.{object_one, object_some};
+    ghost use Rattle.report_format.specs.OperationLaws.{object_one};
 
     type Item = Object;
 
     ghost field = { object_field };
 
     ghost one = { object_one };
-
-    ghost some = { object_some };
 
     fn read(
         alloc: Global,
@@ -324,15 +316,13 @@ pub(crate) struct ActField;
 
 impl FieldKind for ActField {
     ghost use Rattle.report_format.specs.Operations.{act_field};
-    ghost use Rattle.report_format.specs.OperationLaws.{act_one, act_some};
+    ghost use Rattle.report_format.specs.OperationLaws.{act_one};
 
     type Item = Act;
 
     ghost field = { act_field };
 
     ghost one = { act_one };
-
-    ghost some = { act_some };
 
     fn read(alloc: Global, bytes: &[u8], at: usize) -> Result<(Act, usize), OrMemory<Unreadable>> {
         let (tag, next) = read_u8(bytes, at)?;

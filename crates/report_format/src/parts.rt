@@ -2,8 +2,8 @@ ghost use Rattle.std.specs.Prelude.{◌≡◌, ◌++◌, ◌<◌, ◌^◌, lengt
 ghost use Rattle.wire.specs.Files.{LeavesRoom};
 ghost use Rattle.wire.specs.Spellings.{TakesPart};
 ghost use Rattle.report_format.specs.Parts.{list_field, row_field};
-ghost use Rattle.report_format.specs.RowLaws.{list_one, list_some};
-ghost use Rattle.report_format.specs.PairLaws.{both_one, both_some};
+ghost use Rattle.report_format.specs.RowLaws.{list_one};
+ghost use Rattle.report_format.specs.PairLaws.{both_one};
 
 use crate::fields::FieldKind;
 use basis::{Items, OrMemory};
@@ -27,8 +27,6 @@ impl<F: FieldKind, G: FieldKind> FieldKind for Pair<F, G> {
     ghost field = { both F.field G.field };
 
     ghost one = { both_one F.field G.field F.one G.one };
-
-    ghost some = { both_some F.field G.field F.some };
 
     fn read(
         alloc: Global,
@@ -65,8 +63,6 @@ impl<F: FieldKind> FieldKind for List<F> {
 
     ghost one = { list_one F.field F.one };
 
-    ghost some = { list_some F.field };
-
     fn read(
         alloc: Global,
         bytes: &[u8],
@@ -101,8 +97,7 @@ pub(crate) fn write_list<F: FieldKind>(
     out: &mut Vec<u8>,
     items: &[F::Item],
 ) -> Result<(), AllocError>
-    requires allowed { (list_field F.field).allows items.now }
-    requires short { length ((list_field F.field).spelling items.now) < 2 ^ 32 }
+    requires { (list_field F.field).allows items.now }
     ensures { OnOk result
         (out.new.items ≡ out.old.items ++ (list_field F.field).spelling items.now) }
 {

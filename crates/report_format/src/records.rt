@@ -24,15 +24,13 @@ pub(crate) struct CountField;
 
 impl FieldKind for CountField {
     ghost use Rattle.report_format.specs.Reports.{count_field};
-    ghost use Rattle.report_format.specs.ReportLaws.{count_one, count_some};
+    ghost use Rattle.report_format.specs.ReportLaws.{count_one};
 
     type Item = Count;
 
     ghost field = { count_field };
 
     ghost one = { count_one };
-
-    ghost some = { count_some };
 
     fn read(
         alloc: Global,
@@ -58,15 +56,13 @@ pub(crate) struct EntryField;
 
 impl FieldKind for EntryField {
     ghost use Rattle.report_format.specs.Reports.{entry_field};
-    ghost use Rattle.report_format.specs.ReportLaws.{entry_one, entry_some};
+    ghost use Rattle.report_format.specs.ReportLaws.{entry_one};
 
     type Item = LogEntry;
 
     ghost field = { entry_field };
 
     ghost one = { entry_one };
-
-    ghost some = { entry_some };
 
     fn read(
         alloc: Global,
@@ -104,15 +100,13 @@ pub(crate) struct LogField;
 
 impl FieldKind for LogField {
     ghost use Rattle.report_format.specs.Reports.{log_field};
-    ghost use Rattle.report_format.specs.ReportLaws.{log_one, log_some};
+    ghost use Rattle.report_format.specs.ReportLaws.{log_one};
 
     type Item = Log;
 
     ghost field = { log_field };
 
     ghost one = { log_one };
-
-    ghost some = { log_some };
 
     fn read(alloc: Global, bytes: &[u8], at: usize) -> Result<(Log, usize), OrMemory<Unreadable>> {
         let ((object, entries), next) = LogParts::read(alloc, bytes, at)?;
@@ -134,15 +128,13 @@ pub(crate) struct GroupField;
 
 impl FieldKind for GroupField {
     ghost use Rattle.report_format.specs.Reports.{group_field};
-    ghost use Rattle.report_format.specs.ReportLaws.{group_one, group_some};
+    ghost use Rattle.report_format.specs.ReportLaws.{group_one};
 
     type Item = Group;
 
     ghost field = { group_field };
 
     ghost one = { group_one };
-
-    ghost some = { group_some };
 
     fn read(
         alloc: Global,

@@ -1,4 +1,4 @@
-use Rattle.std.proofs.Common.{◌≡◌, List, ◌∷◌, [], ℕ, length, arith, refl, sym, subst, ◌∙◌}
+use Rattle.std.proofs.Common.{◌≡◌, List, ◌∷◌, [], length, arith, refl, sym, subst, ◌∙◌}
 use Rattle.std.specs.Vec.Iter.{into_iter_items}
 use Rattle.report_format.specs.declared.format.ReportRecord.{ReportRecord}
 use Rattle.report_format.proofs.RecordOrder.{IsHalf, all_kinds}

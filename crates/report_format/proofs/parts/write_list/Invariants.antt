@@ -1,4 +1,4 @@
-use Rattle.std.proofs.Common.{◌≡◌, ◌++◌, ◌<◌, ◌^◌, length, drop}
+use Rattle.std.proofs.Common.{◌≡◌, ◌++◌, drop}
 use Rattle.report_format.specs.Parts.{all_spelled, AllAllowed, list_field}
 use Rattle.report_format.proofs.parts.write_list.Given as goal
 
@@ -6,6 +6,5 @@ use Rattle.report_format.proofs.parts.write_list.Given as goal
 abbrev pub invariant-loop-item : goal.invariant-loop-item
 invariant-loop-item g l = record {
   allowed : AllAllowed g.F.FieldKind.field (drop l.item-index l.items);
-  short : length (all_spelled g.F.FieldKind.field (drop l.item-index l.items)) < 2 ^ 32;
   written : l.out.items ++ all_spelled g.F.FieldKind.field (drop l.item-index l.items) ≡ l.fn.out.items ++ (list_field g.F.FieldKind.field).spelling l.items;
 }

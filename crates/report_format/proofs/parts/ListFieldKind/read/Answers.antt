@@ -1,4 +1,3 @@
-use Rattle.std.specs.Prelude.{ℕ}
 use Rattle.wire.proofs.Faults.{part_missed}
 use Rattle.report_format.specs.Parts.{list_field}
 use Rattle.report_format.specs.RowLaws.{no_count}

@@ -1,5 +1,5 @@
-ghost use Rattle.std.specs.Prelude.{◌≡◌, [], ◌∷◌, ◌++◌, IfOk, OnErr};
-ghost use Rattle.desk.specs.Runs.{call};
+ghost use Rattle.std.specs.Prelude.{◌≡◌, [], ◌∷◌, ◌++◌, IfOk, OnOk, OnErr};
+ghost use Rattle.desk.specs.Runs.{Runs, call};
 
 use crate::bench::{Bench, Call};
 use std::alloc::{AllocError, Global};
@@ -18,6 +18,7 @@ pub type HeldOf<B> = Held<<B as Bench>::State, <B as Bench>::Event, <B as Bench>
 pub fn opened<B: Bench>(alloc: Global, state: B::State) -> HeldOf<B>
     ensures calls { result.calls.items ≡ [] }
     ensures state { result.state ≡ state }
+    ensures runs { Runs B.steps state result.calls.items result.state }
 {
     Held {
         calls: Vec::new(alloc),
@@ -36,6 +37,8 @@ pub fn make_call<B: Bench>(
         held.new.calls.items ≡ held.old.calls.items ++ call seat event r ∷ []) }
     ensures steps { IfOk result (λ r.
         B.steps held.old.state seat event r held.new.state) }
+    ensures runs { (start : B.State) → Runs B.steps start held.old.calls.items held.old.state
+        → OnOk result (Runs B.steps start held.new.calls.items held.new.state) }
     ensures err_calls { OnErr result (held.new.calls.items ≡ held.old.calls.items) }
     ensures err_state { OnErr result (held.new.state ≡ held.old.state) }
 {

@@ -15,8 +15,8 @@ use Rattle.script_tree.specs.declared.transaction.Statement.TheVariants.{Insert,
 use Rattle.wire.specs.Spellings.{Field, number_field, integer_field, bytes_field, value_field}
 use Rattle.report_format.specs.Parts.{both, seen_as, list_field}
 
-abbrev pub id_field : Field ℕ
-id_field = number_field w32
+abbrev pub u32_field : Field ℕ
+u32_field = number_field w32
 
 -- ---- transactions
 
@@ -32,26 +32,26 @@ abbrev pub comparison_field : Field Comparison
 comparison_field = record { allows = λ c. Unit {0}; spelling = λ c. comparison_code c ∷ [] }
 
 abbrev pub test_field : Field Test
-test_field = seen_as (λ t. (t.column, (t.comparison, t.value))) (both id_field (both comparison_field value_field))
+test_field = seen_as (λ t. (t.column, (t.comparison, t.value))) (both u32_field (both comparison_field value_field))
 
 abbrev pub change_field : Field Change
-change_field = seen_as (λ c. (c.column, c.value)) (both id_field value_field)
+change_field = seen_as (λ c. (c.column, c.value)) (both u32_field value_field)
 
 abbrev pub tests_field : Field (List Test)
 tests_field = list_field test_field
 
 -- what stands behind the tag of each statement: a table first, but for a count that is expected
 abbrev pub insert_field : Field (ℕ × List Datum)
-insert_field = both id_field (list_field value_field)
+insert_field = both u32_field (list_field value_field)
 
 abbrev pub select_field : Field (ℕ × (List ℕ × List Test))
-select_field = both id_field (both (list_field id_field) tests_field)
+select_field = both u32_field (both (list_field u32_field) tests_field)
 
 abbrev pub update_field : Field (ℕ × (List Change × List Test))
-update_field = both id_field (both (list_field change_field) tests_field)
+update_field = both u32_field (both (list_field change_field) tests_field)
 
 abbrev pub delete_field : Field (ℕ × List Test)
-delete_field = both id_field tests_field
+delete_field = both u32_field tests_field
 
 abbrev pub expect_field : Field (ℤ × (ℕ × List Test))
 expect_field = both integer_field delete_field

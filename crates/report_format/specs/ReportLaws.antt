@@ -9,23 +9,23 @@ use Rattle.report.specs.declared.Count.{Count}
 use Rattle.report.specs.declared.Log.{Log}
 use Rattle.report.specs.declared.LogEntry.{LogEntry}
 use Rattle.report_format.specs.Parts.{both, list_field}
-use Rattle.report_format.specs.Operations.{id_field, act_field, object_field}
+use Rattle.report_format.specs.Operations.{u32_field, act_field, object_field}
 use Rattle.report_format.specs.Reports.{count_field, entry_field, log_field, group_field, any_record_field}
 use Rattle.report_format.specs.PairLaws.{both_one}
 use Rattle.report_format.specs.RowLaws.{list_one}
-use Rattle.report_format.specs.SimpleLaws.{id_one, rest_is}
+use Rattle.report_format.specs.SimpleLaws.{u32_one, rest_is}
 use Rattle.report_format.specs.OperationLaws.{act_one, object_one}
 use Rattle.report_format.specs.declared.format.ReportRecord.TheVariants as it
 
 pub count_one : HasOneSpelling count_field
 count_one x y r s p q e =
-    let same = both_one id_field id_field id_one id_one (x.rid, x.operations) (y.rid, y.operations) r s p q e in
+    let same = both_one u32_field u32_field u32_one u32_one (x.rid, x.operations) (y.rid, y.operations) r s p q e in
     (ap (λ (z : ℕ × ℕ). record { rid = z.0; operations = z.1 }) same.0, same.1)
 
 pub entry_one : HasOneSpelling entry_field
 entry_one x y r s p q e =
     let ends = both_one act_field choice_field act_one choice_one in
-    let parts = both_one id_field (both id_field (both act_field choice_field)) id_one (both_one id_field (both act_field choice_field) id_one ends) in
+    let parts = both_one u32_field (both u32_field (both act_field choice_field)) u32_one (both_one u32_field (both act_field choice_field) u32_one ends) in
     let same = parts (x.rid, (x.number, (x.act, x.choice))) (y.rid, (y.number, (y.act, y.choice))) r s p q e in
     (ap (λ (z : ℕ × (ℕ × (Act × Choice))). record { rid = z.0; number = z.1.0; act = z.1.1.0; choice = z.1.1.1 }) same.0, same.1)
 
@@ -35,7 +35,7 @@ log_one x y r s p q e =
     (ap (λ (z : Object × List LogEntry). record { object = z.0; entries = z.1 }) same.0, same.1)
 
 pub group_one : HasOneSpelling group_field
-group_one x y r s p q e = list_one id_field id_one x y r s p.1 q.1 e
+group_one x y r s p q e = list_one u32_field u32_one x y r s p.1 q.1 e
 
 pub record_one : HasOneSpelling any_record_field
 record_one (it.Count c) (it.Count c') r s p q e =

@@ -13,15 +13,15 @@ use Rattle.report.specs.declared.Log.{Log}
 use Rattle.report.specs.declared.LogEntry.{LogEntry}
 use Rattle.report.specs.declared.Report.{Report}
 use Rattle.report_format.specs.Parts.{both, seen_as, list_field, AllAllowed}
-use Rattle.report_format.specs.Operations.{id_field, act_field, object_field}
+use Rattle.report_format.specs.Operations.{u32_field, act_field, object_field}
 use Rattle.report_format.specs.declared.format.ReportRecord.{ReportRecord}
 use Rattle.report_format.specs.declared.format.ReportRecord.TheVariants as it
 
 abbrev pub count_field : Field Count
-count_field = seen_as (λ c. (c.rid, c.operations)) (both id_field id_field)
+count_field = seen_as (λ c. (c.rid, c.operations)) (both u32_field u32_field)
 
 abbrev pub entry_field : Field LogEntry
-entry_field = seen_as (λ e. (e.rid, (e.number, (e.act, e.choice)))) (both id_field (both id_field (both act_field choice_field)))
+entry_field = seen_as (λ e. (e.rid, (e.number, (e.act, e.choice)))) (both u32_field (both u32_field (both act_field choice_field)))
 
 abbrev pub log_field : Field Log
 log_field = seen_as (λ l. (l.object, l.entries)) (both object_field (list_field entry_field))
@@ -29,8 +29,8 @@ log_field = seen_as (λ l. (l.object, l.entries)) (both object_field (list_field
 -- the ids of a group, at least one
 abbrev pub group_field : Field (List ℕ)
 group_field = record {
-  allows = λ rids. IsSome rids × (list_field id_field).allows rids;
-  spelling = λ rids. (list_field id_field).spelling rids;
+  allows = λ rids. IsSome rids × (list_field u32_field).allows rids;
+  spelling = λ rids. (list_field u32_field).spelling rids;
 }
 
 abbrev pub record_payload : ReportRecord → List ℕ

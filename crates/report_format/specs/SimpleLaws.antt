@@ -4,10 +4,10 @@ use Rattle.script_tree.specs.declared.comparison.Comparison.{Comparison}
 use Rattle.script_tree.specs.declared.comparison.Comparison.TheVariants.{Equal, Unequal, Less, AtMost, Greater, AtLeast}
 use Rattle.wire.specs.Spellings.{HasOneSpelling}
 use Rattle.wire.proofs.OneSpelling.{one_of_32}
-use Rattle.report_format.specs.Operations.{id_field, comparison_code, comparison_field}
+use Rattle.report_format.specs.Operations.{u32_field, comparison_code, comparison_field}
 
-pub id_one : HasOneSpelling id_field
-id_one = one_of_32
+pub u32_one : HasOneSpelling u32_field
+u32_one = one_of_32
 
 -- ---- comparisons
 

@@ -9,20 +9,20 @@ use Rattle.wire.specs.Spellings.{HasOneSpelling, integer_field, value_field}
 use Rattle.wire.proofs.OneSpelling.{integer_one}
 use Rattle.wire.proofs.ValueSpellings.{value_one}
 use Rattle.report_format.specs.Parts.{both, list_field}
-use Rattle.report_format.specs.Operations.{id_field, comparison_field, test_field, change_field, tests_field, insert_field, select_field, update_field, delete_field, expect_field, statement_field}
+use Rattle.report_format.specs.Operations.{u32_field, comparison_field, test_field, change_field, tests_field, insert_field, select_field, update_field, delete_field, expect_field, statement_field}
 use Rattle.report_format.specs.PairLaws.{both_one}
 use Rattle.report_format.specs.RowLaws.{list_one}
-use Rattle.report_format.specs.SimpleLaws.{id_one, comparison_one, rest_is}
+use Rattle.report_format.specs.SimpleLaws.{u32_one, comparison_one, rest_is}
 
 pub test_one : HasOneSpelling test_field
 test_one x y r s p q e =
-    let parts = both_one id_field (both comparison_field value_field) id_one (both_one comparison_field value_field comparison_one value_one) in
+    let parts = both_one u32_field (both comparison_field value_field) u32_one (both_one comparison_field value_field comparison_one value_one) in
     let same = parts (x.column, (x.comparison, x.value)) (y.column, (y.comparison, y.value)) r s p q e in
     (ap (λ (z : ℕ × (Comparison × Datum)). record { column = z.0; comparison = z.1.0; value = z.1.1 }) same.0, same.1)
 
 pub change_one : HasOneSpelling change_field
 change_one x y r s p q e =
-    let same = both_one id_field value_field id_one value_one (x.column, x.value) (y.column, y.value) r s p q e in
+    let same = both_one u32_field value_field u32_one value_one (x.column, x.value) (y.column, y.value) r s p q e in
     (ap (λ (z : ℕ × Datum). record { column = z.0; value = z.1 }) same.0, same.1)
 
 -- ---- statements
@@ -31,16 +31,16 @@ tests_one : HasOneSpelling tests_field
 tests_one = list_one test_field test_one
 
 insert_one : HasOneSpelling insert_field
-insert_one = both_one id_field (list_field value_field) id_one (list_one value_field value_one)
+insert_one = both_one u32_field (list_field value_field) u32_one (list_one value_field value_one)
 
 select_one : HasOneSpelling select_field
-select_one = both_one id_field (both (list_field id_field) tests_field) id_one (both_one (list_field id_field) tests_field (list_one id_field id_one) tests_one)
+select_one = both_one u32_field (both (list_field u32_field) tests_field) u32_one (both_one (list_field u32_field) tests_field (list_one u32_field u32_one) tests_one)
 
 update_one : HasOneSpelling update_field
-update_one = both_one id_field (both (list_field change_field) tests_field) id_one (both_one (list_field change_field) tests_field (list_one change_field change_one) tests_one)
+update_one = both_one u32_field (both (list_field change_field) tests_field) u32_one (both_one (list_field change_field) tests_field (list_one change_field change_one) tests_one)
 
 delete_one : HasOneSpelling delete_field
-delete_one = both_one id_field tests_field id_one tests_one
+delete_one = both_one u32_field tests_field u32_one tests_one
 
 expect_one : HasOneSpelling expect_field
 expect_one = both_one integer_field delete_field integer_one delete_one

@@ -42,18 +42,18 @@ pub(crate) trait FieldKind {
     ghost one: { HasOneSpelling field };
 }
 
-/// An id, the number of an operation, a table or a column, or how many there are of something.
-pub(crate) struct IdField;
+/// The id of a request, the number of an operation, of a table or of a column, or a count.
+pub(crate) struct U32Field;
 
-impl FieldKind for IdField {
-    ghost use Rattle.report_format.specs.Operations.{id_field};
-    ghost use Rattle.report_format.specs.SimpleLaws.{id_one};
+impl FieldKind for U32Field {
+    ghost use Rattle.report_format.specs.Operations.{u32_field};
+    ghost use Rattle.report_format.specs.SimpleLaws.{u32_one};
 
     type Item = u32;
 
-    ghost field = { id_field };
+    ghost field = { u32_field };
 
-    ghost one = { id_one };
+    ghost one = { u32_one };
 
     fn read(_alloc: Global, bytes: &[u8], at: usize) -> Result<(u32, usize), OrMemory<Unreadable>> {
         Ok(read_u32(bytes, at)?)
@@ -68,10 +68,10 @@ impl FieldKind for IdField {
     }
 }
 
-/// A number of the script language that is no value: a count that is expected, or a bound.
-pub(crate) struct NumberField;
+/// How many rows are expected, or the bound of a roll.
+pub(crate) struct I64Field;
 
-impl FieldKind for NumberField {
+impl FieldKind for I64Field {
     ghost use Rattle.wire.specs.Spellings.{integer_field};
     ghost use Rattle.wire.proofs.OneSpelling.{integer_one};
 

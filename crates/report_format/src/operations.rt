@@ -3,7 +3,7 @@ ghost use Rattle.std.specs.Prelude.{◌≡◌, ◌++◌, ◌<◌, ◌^◌, lengt
 ghost use Rattle.wire.specs.Files.{LeavesRoom};
 ghost use Rattle.wire.specs.Spellings.{TakesPart};
 
-use crate::fields::{ComparisonField, FieldKind, IdField, NumberField, TextField, ValueField};
+use crate::fields::{ComparisonField, FieldKind, I64Field, TextField, U32Field, ValueField};
 use crate::parts::{List, Pair, room_behind_list, write_list};
 use basis::OrMemory;
 use script_tree::operation::{Act, Object};
@@ -14,21 +14,21 @@ use wire::fault::Unreadable;
 use wire::field::read_u8;
 use wire::writing::write_u8;
 
-type TestParts = Pair<IdField, Pair<ComparisonField, ValueField>>;
+type TestParts = Pair<U32Field, Pair<ComparisonField, ValueField>>;
 
-type ChangeParts = Pair<IdField, ValueField>;
+type ChangeParts = Pair<U32Field, ValueField>;
 
 type Tests = List<TestField>;
 
-type InsertParts = Pair<IdField, List<ValueField>>;
+type InsertParts = Pair<U32Field, List<ValueField>>;
 
-type SelectParts = Pair<IdField, Pair<List<IdField>, Tests>>;
+type SelectParts = Pair<U32Field, Pair<List<U32Field>, Tests>>;
 
-type UpdateParts = Pair<IdField, Pair<List<ChangeField>, Tests>>;
+type UpdateParts = Pair<U32Field, Pair<List<ChangeField>, Tests>>;
 
-type DeleteParts = Pair<IdField, Tests>;
+type DeleteParts = Pair<U32Field, Tests>;
 
-type ExpectParts = Pair<NumberField, DeleteParts>;
+type ExpectParts = Pair<I64Field, DeleteParts>;
 
 type PutParts = Pair<TextField, ValueField>;
 
@@ -57,13 +57,13 @@ impl FieldKind for TestField {
     }
 
     fn room_behind(room: usize, test: &Test) -> Option<usize> {
-        let left = IdField::room_behind(room, &test.column)?;
+        let left = U32Field::room_behind(room, &test.column)?;
         let left = ComparisonField::room_behind(left, &test.comparison)?;
         ValueField::room_behind(left, &test.value)
     }
 
     fn write(out: &mut Vec<u8>, test: &Test) -> Result<(), AllocError> {
-        IdField::write(out, &test.column)?;
+        U32Field::write(out, &test.column)?;
         ComparisonField::write(out, &test.comparison)?;
         ValueField::write(out, &test.value)
     }
@@ -91,12 +91,12 @@ impl FieldKind for ChangeField {
     }
 
     fn room_behind(room: usize, change: &Change) -> Option<usize> {
-        let left = IdField::room_behind(room, &change.column)?;
+        let left = U32Field::room_behind(room, &change.column)?;
         ValueField::room_behind(left, &change.value)
     }
 
     fn write(out: &mut Vec<u8>, change: &Change) -> Result<(), AllocError> {
-        IdField::write(out, &change.column)?;
+        U32Field::write(out, &change.column)?;
         ValueField::write(out, &change.value)
     }
 }
@@ -170,7 +170,7 @@ impl FieldKind for StatementField {
         let left = room.checked_sub(1)?;
         match statement {
             Statement::Insert { table, row } => {
-                let left = IdField::room_behind(left, table)?;
+                let left = U32Field::room_behind(left, table)?;
                 room_behind_list::<ValueField>(left, row.as_slice())
             }
             Statement::Select {
@@ -178,8 +178,8 @@ impl FieldKind for StatementField {
                 columns,
                 tests,
             } => {
-                let left = IdField::room_behind(left, table)?;
-                let left = List::<IdField>::room_behind(left, columns)?;
+                let left = U32Field::room_behind(left, table)?;
+                let left = List::<U32Field>::room_behind(left, columns)?;
                 Tests::room_behind(left, tests)
             }
             Statement::Update {
@@ -187,12 +187,12 @@ impl FieldKind for StatementField {
                 changes,
                 tests,
             } => {
-                let left = IdField::room_behind(left, table)?;
+                let left = U32Field::room_behind(left, table)?;
                 let left = List::<ChangeField>::room_behind(left, changes)?;
                 Tests::room_behind(left, tests)
             }
             Statement::Delete { table, tests } => {
-                let left = IdField::room_behind(left, table)?;
+                let left = U32Field::room_behind(left, table)?;
                 Tests::room_behind(left, tests)
             }
             Statement::Expect {
@@ -200,8 +200,8 @@ impl FieldKind for StatementField {
                 table,
                 tests,
             } => {
-                let left = NumberField::room_behind(left, count)?;
-                let left = IdField::room_behind(left, table)?;
+                let left = I64Field::room_behind(left, count)?;
+                let left = U32Field::room_behind(left, table)?;
                 Tests::room_behind(left, tests)
             }
         }
@@ -211,7 +211,7 @@ impl FieldKind for StatementField {
         match statement {
             Statement::Insert { table, row } => {
                 write_u8(out, 1)?;
-                IdField::write(out, table)?;
+                U32Field::write(out, table)?;
                 write_list::<ValueField>(out, row.as_slice())
             }
             Statement::Select {
@@ -220,8 +220,8 @@ impl FieldKind for StatementField {
                 tests,
             } => {
                 write_u8(out, 2)?;
-                IdField::write(out, table)?;
-                List::<IdField>::write(out, columns)?;
+                U32Field::write(out, table)?;
+                List::<U32Field>::write(out, columns)?;
                 Tests::write(out, tests)
             }
             Statement::Update {
@@ -230,13 +230,13 @@ impl FieldKind for StatementField {
                 tests,
             } => {
                 write_u8(out, 3)?;
-                IdField::write(out, table)?;
+                U32Field::write(out, table)?;
                 List::<ChangeField>::write(out, changes)?;
                 Tests::write(out, tests)
             }
             Statement::Delete { table, tests } => {
                 write_u8(out, 4)?;
-                IdField::write(out, table)?;
+                U32Field::write(out, table)?;
                 Tests::write(out, tests)
             }
             Statement::Expect {
@@ -245,8 +245,8 @@ impl FieldKind for StatementField {
                 tests,
             } => {
                 write_u8(out, 5)?;
-                NumberField::write(out, count)?;
-                IdField::write(out, table)?;
+                I64Field::write(out, count)?;
+                U32Field::write(out, table)?;
                 Tests::write(out, tests)
             }
         }
@@ -350,7 +350,7 @@ impl FieldKind for ActField {
             }
             7 => Ok((Act::Now, next)),
             8 => {
-                let (bound, next) = NumberField::read(alloc, bytes, next)?;
+                let (bound, next) = I64Field::read(alloc, bytes, next)?;
                 Ok((Act::Roll(bound), next))
             }
             _ => Err(OrMemory::Other(Unreadable { at })),
@@ -368,7 +368,7 @@ impl FieldKind for ActField {
                 ValueField::room_behind(left, value)
             }
             Act::Transact(statements) => List::<StatementField>::room_behind(left, statements),
-            Act::Roll(bound) => NumberField::room_behind(left, bound),
+            Act::Roll(bound) => I64Field::room_behind(left, bound),
         }
     }
 
@@ -399,7 +399,7 @@ impl FieldKind for ActField {
             Act::Now => write_u8(out, 7),
             Act::Roll(bound) => {
                 write_u8(out, 8)?;
-                NumberField::write(out, bound)
+                I64Field::write(out, bound)
             }
         }
     }

@@ -4,7 +4,7 @@ ghost use Rattle.wire.specs.Files.{LeavesRoom};
 ghost use Rattle.wire.specs.Spellings.{TakesPart};
 ghost use Rattle.report_format.specs.Reports.{any_record_field};
 
-use crate::fields::{ChoiceField, FieldKind, IdField};
+use crate::fields::{ChoiceField, FieldKind, U32Field};
 use crate::format::ReportRecord;
 use crate::operations::{ActField, ObjectField};
 use crate::parts::{List, Pair, room_behind_list, write_list};
@@ -14,9 +14,9 @@ use std::alloc::{AllocError, Global};
 use wire::fault::Unreadable;
 use wire::field::read_u8;
 
-type CountParts = Pair<IdField, IdField>;
+type CountParts = Pair<U32Field, U32Field>;
 
-type EntryParts = Pair<IdField, Pair<IdField, Pair<ActField, ChoiceField>>>;
+type EntryParts = Pair<U32Field, Pair<U32Field, Pair<ActField, ChoiceField>>>;
 
 type LogParts = Pair<ObjectField, List<EntryField>>;
 
@@ -42,13 +42,13 @@ impl FieldKind for CountField {
     }
 
     fn room_behind(room: usize, count: &Count) -> Option<usize> {
-        let left = IdField::room_behind(room, &count.rid)?;
-        IdField::room_behind(left, &count.operations)
+        let left = U32Field::room_behind(room, &count.rid)?;
+        U32Field::room_behind(left, &count.operations)
     }
 
     fn write(out: &mut Vec<u8>, count: &Count) -> Result<(), AllocError> {
-        IdField::write(out, &count.rid)?;
-        IdField::write(out, &count.operations)
+        U32Field::write(out, &count.rid)?;
+        U32Field::write(out, &count.operations)
     }
 }
 
@@ -82,15 +82,15 @@ impl FieldKind for EntryField {
     }
 
     fn room_behind(room: usize, entry: &LogEntry) -> Option<usize> {
-        let left = IdField::room_behind(room, &entry.rid)?;
-        let left = IdField::room_behind(left, &entry.number)?;
+        let left = U32Field::room_behind(room, &entry.rid)?;
+        let left = U32Field::room_behind(left, &entry.number)?;
         let left = ActField::room_behind(left, &entry.act)?;
         ChoiceField::room_behind(left, &entry.choice)
     }
 
     fn write(out: &mut Vec<u8>, entry: &LogEntry) -> Result<(), AllocError> {
-        IdField::write(out, &entry.rid)?;
-        IdField::write(out, &entry.number)?;
+        U32Field::write(out, &entry.rid)?;
+        U32Field::write(out, &entry.number)?;
         ActField::write(out, &entry.act)?;
         ChoiceField::write(out, &entry.choice)
     }
@@ -141,7 +141,7 @@ impl FieldKind for GroupField {
         bytes: &[u8],
         at: usize,
     ) -> Result<(Group, usize), OrMemory<Unreadable>> {
-        let (rids, next) = List::<IdField>::read(alloc, bytes, at)?;
+        let (rids, next) = List::<U32Field>::read(alloc, bytes, at)?;
         match Group::new(rids.into_vec()) {
             Some(group) => Ok((group, next)),
             None => Err(OrMemory::Other(Unreadable { at })),
@@ -149,11 +149,11 @@ impl FieldKind for GroupField {
     }
 
     fn room_behind(room: usize, group: &Group) -> Option<usize> {
-        room_behind_list::<IdField>(room, group.rids())
+        room_behind_list::<U32Field>(room, group.rids())
     }
 
     fn write(out: &mut Vec<u8>, group: &Group) -> Result<(), AllocError> {
-        write_list::<IdField>(out, group.rids())
+        write_list::<U32Field>(out, group.rids())
     }
 }
 

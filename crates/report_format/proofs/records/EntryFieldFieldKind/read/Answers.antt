@@ -1,10 +1,10 @@
 use Rattle.wire.specs.Spellings.{choice_field}
 use Rattle.wire.proofs.Faults.{part_not_taken}
 use Rattle.report_format.specs.Parts.{both}
-use Rattle.report_format.specs.Operations.{id_field, act_field}
+use Rattle.report_format.specs.Operations.{u32_field, act_field}
 use Rattle.report_format.specs.Reports.{entry_field}
 use Rattle.report_format.proofs.records.EntryFieldFieldKind.read.Goals as goal
 
 pub returns-in_err-rid : goal.returns-in_err-rid
 returns-in_err-rid c =
-    part_not_taken (both id_field (both id_field (both act_field choice_field))) entry_field (λ x. x) (λ x. x) c.args.bytes.now c.args.at c.args.at c.in_err-rid.field-0.0 c.from_residual.result c.in_err-rid.ensures c.from_residual.ensures.1 (λ none e next here. none (e.rid, (e.number, (e.act, e.choice))) next here)
+    part_not_taken (both u32_field (both u32_field (both act_field choice_field))) entry_field (λ x. x) (λ x. x) c.args.bytes.now c.args.at c.args.at c.in_err-rid.field-0.0 c.from_residual.result c.in_err-rid.ensures c.from_residual.ensures.1 (λ none e next here. none (e.rid, (e.number, (e.act, e.choice))) next here)

@@ -16,7 +16,8 @@ ghost use Rattle.state_file.specs.Puts.{PutsRegisters, PutsCells, PutsStores};
 ghost use Rattle.state_file.specs.Puts.{ChangesTables, if_done};
 ghost use Rattle.state_file.specs.Starts.{IsStored, Holds};
 ghost use Rattle.state_file.specs.States.{HasGivenFault};
-ghost use Rattle.state_file.specs.Stored.{has_twice, StandOnce, is_row_of, is_text};
+ghost use Rattle.json_texts.specs.Shapes.{StandOnce, has_twice};
+ghost use Rattle.state_file.specs.Stored.{is_row_of, is_text};
 ghost use Rattle.state_file.specs.Stored.{with_row_of, with_rows, with_tables};
 
 use crate::fault::StateFault;

@@ -1,8 +1,8 @@
 use Rattle.std.proofs.Common.{◌∙◌, sym, ap, option_map}
 use Rattle.serde_json.proofs.Views.{members_len-members_view, view-lookup, view_of_ref}
 use Rattle.serde_json.specs.View.{view, members_view}
-use Rattle.state_file.proofs.Members.{one_member, other_members}
-use Rattle.state_file.proofs.text.only_member.Goals as goal
+use Rattle.json_texts.proofs.Members.{one_member, other_members}
+use Rattle.json_texts.proofs.text.only_member.Goals as goal
 
 pub returns-then-len-eq1 : goal.returns-then-len-eq1
 returns-then-len-eq1 c =

@@ -1,6 +1,6 @@
 use Rattle.std.proofs.Common.{◌∙◌, sym, refl}
-use Rattle.state_file.proofs.Members.{next_pair}
-use Rattle.state_file.proofs.text.hex_bytes.Goals as goal
+use Rattle.json_texts.proofs.Members.{next_pair}
+use Rattle.json_texts.proofs.text.hex_bytes.Goals as goal
 
 pub loop-rest-preserved : goal.loop-rest-preserved
 loop-rest-preserved c =

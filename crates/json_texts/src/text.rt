@@ -1,7 +1,7 @@
 ghost use Rattle.std.specs.Prelude.{◌≡◌, ◌<◌, IfOk, IfSome, option_map};
 ghost use Rattle.serde_json.specs.View.{view, members_view};
-ghost use Rattle.state_file.specs.Texts.{hex_digit, hex_byte, hex_bytes};
-ghost use Rattle.state_file.specs.Texts.{only_member, hex_text, text_of};
+ghost use Rattle.json_texts.specs.Texts.{hex_digit, hex_byte, hex_bytes};
+ghost use Rattle.json_texts.specs.Texts.{only_member, hex_text, text_of};
 
 use script_tree::text::Text;
 use serde_json::{Map, Value as Json};

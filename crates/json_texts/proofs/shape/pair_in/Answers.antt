@@ -2,8 +2,8 @@ use Rattle.std.proofs.Common.{◌≡◌, sym, arith}
 use Rattle.serde_json.specs.Events.{items_len}
 use Rattle.serde_json.specs.View.{items_view}
 use Rattle.serde_json.proofs.Views.{items_len-items_view}
-use Rattle.state_file.proofs.Members.{other_items}
-use Rattle.state_file.proofs.given.entry_in.Goals as goal
+use Rattle.json_texts.proofs.Members.{other_items}
+use Rattle.json_texts.proofs.shape.pair_in.Goals as goal
 
 pub returns-then-len-ne2 : goal.returns-then-len-ne2
 returns-then-len-ne2 c =

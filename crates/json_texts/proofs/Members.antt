@@ -20,9 +20,8 @@ use Rattle.serde_json.specs.declared.value.Value.{Value}
 use Rattle.serde_json.proofs.Views.{Entry as JsonEntry, view-lookup}
 use Rattle.basis.specs.Options.{◌>>=◌}
 use Rattle.basis.proofs.Options.{some_is, bind_some}
-use Rattle.state_file.specs.Givens.{Named, each_of, entry_in}
-use Rattle.state_file.specs.Stored.{has_twice}
-use Rattle.state_file.specs.Texts.{hex_byte, hex_bytes, only_member}
+use Rattle.json_texts.specs.Shapes.{Named, each_of, has_twice, pair_in}
+use Rattle.json_texts.specs.Texts.{hex_byte, hex_bytes, only_member}
 
 -- ---- one member
 
@@ -59,8 +58,8 @@ next_pair (b ∷ c ∷ rest) past pushed byte n two is spelled more =
 
 -- ---- items
 
--- what isn't two items is no entry
-pub other_items : (ds : json.Items) → (items_len ds ≡ 2 → ⊥) → entry_in ds ≡ None
+-- what isn't two items is no pair
+pub other_items : (ds : json.Items) → (items_len ds ≡ 2 → ⊥) → pair_in ds ≡ None
 other_items json.no_items h = refl
 other_items (json.item d json.no_items) h = refl
 other_items (json.item d (json.item e json.no_items)) h = absurd (h refl)

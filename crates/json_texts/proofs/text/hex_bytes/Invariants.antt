@@ -1,6 +1,6 @@
 use Rattle.std.proofs.Common.{◌≡◌, ◌++◌, length, option_map}
-use Rattle.state_file.specs.Texts.{hex_bytes}
-use Rattle.state_file.proofs.text.hex_bytes.Given as goal
+use Rattle.json_texts.specs.Texts.{hex_bytes}
+use Rattle.json_texts.proofs.text.hex_bytes.Given as goal
 
 -- all bytes are those so far, and those of the digits that are left
 abbrev pub invariant-loop-rest : goal.invariant-loop-rest

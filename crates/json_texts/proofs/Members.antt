@@ -1,5 +1,5 @@
 -- Facts on members, items and digits.
-use Rattle.std.proofs.Common.{◌≡◌, ◌∙◌, ℕ, List, [], ◌∷◌, ◌++◌, Option, Some, None, option_map, false, cond, Ordering, Less, Equal, Greater, append_assoc, refl, ap, sym, arith, ◌≤◌, ◌-◌, length, take, drop, slice_index}
+use Rattle.std.proofs.Common.{◌≡◌, ◌∙◌, ℕ, Bool, ◌||◌, Bor, map, List, [], ◌∷◌, ◌++◌, Option, Some, None, option_map, false, cond, Ordering, Less, Equal, Greater, append_assoc, refl, ap, sym, arith, ◌≤◌, ◌-◌, length, take, drop, slice_index}
 use Rattle.std.specs.Cmp.Lexicographic.{slice_cmp}
 use Rattle.std.specs.Ordering.{nat_cmp, is_eq, match_ordering}
 use Rattle.std.specs.Prelude.{String, string_bytes}
@@ -80,6 +80,11 @@ pub no_member : {A : Type 0} (read : json.Data → Option A) (past : List (Named
 no_member read past k v es is = rw is refl
 
 -- ---- names of members
+
+-- a test of texts is one of what they refer to
+pub any_of_texts : (p : List ℕ → Bool) (texts : List (Bor (List ℕ))) → list_any (λ text. p text.now) texts ≡ list_any p (map (λ text. text.now) texts)
+any_of_texts p [] = refl
+any_of_texts p (text ∷ texts) = ap (λ b. p text.now || b) (any_of_texts p texts)
 
 abbrev names : List JsonEntry → List (List ℕ)
 names [] = []

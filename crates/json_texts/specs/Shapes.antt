@@ -1,5 +1,5 @@
 -- What JSON trees of a shape give.
-use Rattle.std.specs.Prelude.{◌≡◌, ℕ, ℤ, Bool, false, ◌||◌, List, [], ◌∷◌, Option, Some, None}
+use Rattle.std.specs.Prelude.{◌≡◌, ℕ, ℤ, Bool, true, false, ◌&&◌, ◌||◌, List, [], ◌∷◌, Option, Some, None}
 use Rattle.std.specs.List.{list_any}
 use Rattle.std.specs.Map.{keys_of}
 use Rattle.std.specs.Str.{bytes_eq}
@@ -57,6 +57,11 @@ read_or otherwise read None = Some otherwise
 read_or otherwise read (Some d) = read d
 
 -- ---- names
+
+-- whether each member has one of these names
+abbrev pub have_names : List (List ℕ) → json.Members → Bool
+have_names names json.no_members = true
+have_names names (json.member name d ms) = list_any (bytes_eq name) names && have_names names ms
 
 -- whether a name stands twice
 abbrev pub has_twice : List (List ℕ) → Bool

@@ -1,8 +1,10 @@
-ghost use Rattle.std.specs.Prelude.{◌≡◌, [], Option, IfOk, IfSome, option_map};
+ghost use Rattle.std.specs.Prelude.{◌≡◌, [], map, Option, IfOk, IfSome, option_map};
+ghost use Rattle.std.specs.List.{list_any};
+ghost use Rattle.std.specs.Str.{bytes_eq};
 ghost use Rattle.serde_json.specs.Data.{Data};
 ghost use Rattle.serde_json.specs.View.{view, items_view, members_view};
 ghost use Rattle.json_texts.specs.Shapes.{all_of, array_of, each_of, object_of, pair_in, pair_of};
-ghost use Rattle.json_texts.specs.Shapes.{read_or, StandOnce};
+ghost use Rattle.json_texts.specs.Shapes.{read_or, have_names, StandOnce};
 
 use basis::Items;
 use script_tree::text::Text;
@@ -123,4 +125,23 @@ fn each_of<S: Shape>(
         }
     }
     Ok(Some(Items::from_vec(given)))
+}
+
+/// Whether each member has one of these names.
+pub fn have_names(members: &Map<String, Json>, names: &[&str]) -> bool
+    ensures { let texts = map (λ name. name.now) names.now in
+        result ≡ have_names texts (members_view members.now.entries) }
+{
+    for (name, _) in members {
+        if !is_among(name.as_str(), names) {
+            return false;
+        }
+    }
+    true
+}
+
+fn is_among(name: &str, names: &[&str]) -> bool
+    ensures { result ≡ list_any (λ other. bytes_eq name.now other.now) names.now }
+{
+    names.iter().any(|other| name == *other)
 }

@@ -1,12 +1,11 @@
 -- What a JSON tree gives where it has the shape of a state, in the order in which it stands there.
-use Rattle.std.specs.Prelude.{ℕ, ℤ, pos, Bool, true, ◌&&◌, ◌||◌, List, [], codes, Option, Some, None, if◌then◌else◌}
-use Rattle.std.specs.Str.{bytes_eq}
+use Rattle.std.specs.Prelude.{ℕ, ℤ, pos, List, [], ◌∷◌, codes, Option, Some, None, if◌then◌else◌}
 use Rattle.serde_json.specs.Data as json
 use Rattle.serde_json.specs.Find.{as_array, as_object, get_member}
 use Rattle.basis.specs.Options.{◌>>=◌}
 use Rattle.script_tree.specs.Datum.{Datum}
 use Rattle.script_tree.specs.Transactions.{Row}
-use Rattle.json_texts.specs.Shapes.{Named, array_of, object_of, pair_of, read_or, whole_number_of}
+use Rattle.json_texts.specs.Shapes.{Named, array_of, have_names, object_of, pair_of, read_or, whole_number_of}
 use Rattle.json_texts.specs.Texts.{text_of}
 use Rattle.state_file.specs.Values.{datum_of, values_of}
 use Rattle.state_file.specs.declared.given.Given.{Given}
@@ -45,12 +44,8 @@ clock_of = whole_number_of
 
 -- ---- the whole
 
-abbrev pub is_known : List ℕ → Bool
-is_known name = bytes_eq name (codes "registers") || bytes_eq name (codes "stores") || bytes_eq name (codes "tables") || bytes_eq name (codes "clock")
-
-abbrev pub are_known : json.Members → Bool
-are_known json.no_members = true
-are_known (json.member name d ms) = is_known name && are_known ms
+abbrev pub member_names : List (List ℕ)
+member_names = codes "registers" ∷ codes "stores" ∷ codes "tables" ∷ codes "clock" ∷ []
 
 abbrev pub whole : Option (List Entry) → Option (List (Named (List Entry))) → Option (List (Named (List Row))) → Option ℤ → Option Given
 whole registers stores tables clock = do
@@ -63,7 +58,7 @@ whole registers stores tables clock = do
 -- what an object's members give; nothing where there is another member
 abbrev pub given_in : json.Members → Option Given
 given_in ms =
-    if are_known ms then whole
+    if have_names member_names ms then whole
     (read_or [] entries_of (get_member (codes "registers") ms))
     (read_or [] stores_of (get_member (codes "stores") ms))
     (read_or [] tables_of (get_member (codes "tables") ms))

@@ -1,12 +1,12 @@
 ghost use Rattle.std.specs.Prelude.{◌≡◌, pos, Some, IfOk, IfSome, option_map};
 ghost use Rattle.serde_json.specs.View.{view, members_view};
 ghost use Rattle.json_texts.specs.Shapes.{read_or, StandOnce};
-ghost use Rattle.state_file.specs.Givens.{clock_of, is_known, are_known, whole};
+ghost use Rattle.state_file.specs.Givens.{clock_of, whole};
 ghost use Rattle.state_file.specs.Givens.{given_in, given_of};
 
 use crate::value::{value_of, values_of};
 use basis::Items;
-use json_texts::shape::{Shape, array_of, array_or_empty, object_or_empty, pair_of};
+use json_texts::shape::{Shape, array_of, array_or_empty, have_names, object_or_empty, pair_of};
 use json_texts::text::text_of;
 use script_tree::text::Text;
 use script_tree::value::{Value, Values};
@@ -37,7 +37,7 @@ fn given_in(alloc: Global, mut members: Map<String, Json>) -> Result<Option<Give
     ensures given { IfOk result (λ o. o ≡ given_in (members_view members.entries)) }
     ensures once { IfOk result (λ o. IfSome o (λ given. StandOnce given.stores)) }
 {
-    if !are_known(&members) {
+    if !have_names(&members, &["registers", "stores", "tables", "clock"]) {
         return Ok(None);
     }
     let registers = members.remove("registers");
@@ -68,24 +68,6 @@ fn whole(
         tables: tables?,
         clock: clock?,
     })
-}
-
-/// Whether a state has no other members than these.
-fn are_known(members: &Map<String, Json>) -> bool
-    ensures { result ≡ are_known (members_view members.now.entries) }
-{
-    for (name, _) in members {
-        if !is_known(name.as_str()) {
-            return false;
-        }
-    }
-    true
-}
-
-fn is_known(name: &str) -> bool
-    ensures { result ≡ is_known name.now }
-{
-    name == "registers" || name == "stores" || name == "tables" || name == "clock"
 }
 
 fn given_clock(json: Option<Json>) -> Option<i64>

@@ -27,5 +27,5 @@ returns-clause-given c =
     let s = c.in_ok-object_or_empty.ensures.given ∙ ap (read_or [] stores_of) stores in
     let t = c.in_ok-object_or_empty-2.ensures.given ∙ ap (read_or [] tables_of) tables in
     let last = c.given_clock.ensures ∙ ap (read_or (pos 0) clock_of) clock in
-    let known = sym c.are_known.ensures ∙ c.if-not-are_known.false in
+    let known = sym c.have_names.ensures ∙ c.if-not-have_names.false in
     c.whole.ensures.whole ∙ (λ i. if sym known i then whole (r i) (s i) (t i) (last i) else None)

@@ -3,6 +3,8 @@
 
 pub mod reading;
 pub mod shape;
+#[cfg(test)]
+mod tests;
 pub mod text;
 
 pub use reading::{NotJson, read_json};

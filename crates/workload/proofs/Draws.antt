@@ -1,9 +1,10 @@
 -- Facts on drawn jobs.
-use Rattle.std.proofs.Common.{◌≡◌, ℕ, suc, ◌+◌, ◌/◌, ◌%◌, ◌<◌, ◌≤◌, Bool, true, false, ◌&&◌, List, [], ◌∷◌, ◌++◌, length, codes, if◌then◌else◌, refl, sym, append_assoc, arith, rules}
+use Rattle.std.proofs.Common.{◌≡◌, ℕ, suc, ◌+◌, ◌/◌, ◌%◌, ◌<◌, ◌≤◌, Bool, true, false, ◌&&◌, List, [], ◌∷◌, ◌++◌, length, codes, if◌then◌else◌, refl, sym, append_assoc, arith}
 use Rattle.std.specs.Prelude.{nat_le, ◌==◌}
 use Rattle.std.specs.Fmt.{decimal}
 use Rattle.std.proofs.lemmas.Fmt.{length-decimal-le_succ}
 use Rattle.script_tree.specs.Requests.{Request, text_fits, parameters_fit, is_request_within_limits}
+use Rattle.script_tree.specs.declared.limits.TheConstants.{MOST_REQUEST_TEXT_BYTES}
 use Rattle.workload.specs.Generated.{next, upper_half, request_drawn, drawn_from}
 
 -- the jobs so far, the next one, and those of the draws that are left
@@ -12,11 +13,6 @@ pub next_draw : (left more x : ℕ) (past pushed : List Request) (q : Request) �
 next_draw left more x past pushed q one is all =
     let suc_more : left ≡ suc more = omega arith in
     rw (suc_more, all, is) (sym (append_assoc past (request_drawn (upper_half (next x)) ∷ []) (drawn_from more (next x))))
-
-pub no_draw : (left x : ℕ) (past : List Request) → left ≡ 0 → past ++ drawn_from left x ≡ past
-no_draw left x past none = rw none (append_nil past) where
-  append_nil : (xs : List Request) → xs ++ [] ≡ xs
-  append_nil xs = search rules
 
 -- ---- limits
 
@@ -34,7 +30,7 @@ parameters_fits false value h = rw h refl
 key_fits : (k : ℕ) → k < 8 → text_fits (decimal k) ≡ true
 key_fits k h =
     let short : length (decimal k) ≤ k + 1 = length-decimal-le_succ k (omega arith) in
-    le_true (length (decimal k)) 65535 (omega arith) where
+    le_true (length (decimal k)) MOST_REQUEST_TEXT_BYTES (omega arith) where
       le_true : (a b : ℕ) → a ≤ b → nat_le a b ≡ true
       le_true a b e = grind arith
 

@@ -5,7 +5,8 @@ use Rattle.std.proofs.lemmas.Slice.Eq.{bytes_eq-Decides}
 use Rattle.object_cells.proofs.CellFacts.{bytes_eq-sym}
 use Rattle.object_cells.specs.Stores.{HeldByName, held_in, ChangesIn}
 use Rattle.script_tree.specs.Datum.{Datum}
-use Rattle.state_file.specs.Givens.{Entry, Named}
+use Rattle.json_texts.specs.Shapes.{Named}
+use Rattle.state_file.specs.Givens.{Entry}
 use Rattle.state_file.specs.Stored.{given_at, cell_at}
 
 -- This store holds these entries, and every other one what it held.

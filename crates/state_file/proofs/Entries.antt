@@ -10,9 +10,10 @@ use Rattle.basis.proofs.Booleans.{both-left, both-right, or-false}
 use Rattle.script_tree.specs.Datum.{IsWithinLimits, is_within_limits}
 use Rattle.script_tree.specs.Fit.{IsKey}
 use Rattle.script_tree.specs.declared.limits.TheConstants.{MOST_KEY_BYTES}
-use Rattle.state_file.specs.Givens.{Entry, Named}
+use Rattle.json_texts.specs.Shapes.{Named, has_twice}
+use Rattle.state_file.specs.Givens.{Entry}
 use Rattle.state_file.specs.Faults.{is_entry_within_limits, some_key_is_twice}
-use Rattle.state_file.specs.Stored.{given_at, has_twice}
+use Rattle.state_file.specs.Stored.{given_at}
 
 -- ---- names that stand twice
 

@@ -1,6 +1,5 @@
 pub mod Cells
 pub mod Entries
-pub mod Members
 pub mod ReadOneWay
 pub mod Rows
 pub mod Tables

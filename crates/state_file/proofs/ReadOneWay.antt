@@ -1,27 +1,16 @@
 -- That bytes are read in one way.
-use Rattle.std.proofs.Common.{◌≡◌, ◌∙◌, ℕ, List, Some, None, refl, sym, ap}
-use Rattle.serde_json.specs.Data as json
+use Rattle.std.proofs.Common.{◌≡◌, ℕ, List, refl, sym}
+use Rattle.json_texts.specs.Reading.{Gives}
+use Rattle.json_texts.proofs.Readings.{same_given, gives_shape}
 use Rattle.script_tree.specs.Programs.{Program}
 use Rattle.state_file.specs.Givens.{given_of}
-use Rattle.state_file.specs.States.{IsJson, Gives, IsFaultless, HasGivenFault, SpellsState, HasStateFault}
+use Rattle.state_file.specs.States.{IsFaultless, HasGivenFault, SpellsState, HasStateFault}
 use Rattle.state_file.specs.declared.fault.StateFault.{StateFault}
 use Rattle.state_file.specs.declared.fault.StateFault.TheVariants.{NotJson, OtherShape, Undeclared, BeyondLimit, Unstorable}
 use Rattle.state_file.specs.declared.given.Given.{Given}
 
-same_tree : (bytes : List ℕ) (d e : json.Data) → IsJson bytes d → IsJson bytes e → d ≡ e
-same_tree bytes d e h k = let told : Some d ≡ Some e = sym h.1 ∙ k.1 in cc
-
-same_given : (bytes : List ℕ) (given other : Given) → Gives bytes given → Gives bytes other → given ≡ other
-same_given bytes given other h k =
-    let told : Some given ≡ Some other = sym h.2 ∙ ap given_of (same_tree bytes h.0 k.0 h.1 k.1) ∙ k.2 in cc
-
--- what gives something has no other shape
-gives_shape : (bytes : List ℕ) (given : Given) (d : json.Data) → Gives bytes given → IsJson bytes d → given_of d ≡ None → ⊥
-gives_shape bytes given d h k none =
-    let told : Some given ≡ None = sym h.2 ∙ ap given_of (same_tree bytes h.0 d h.1 k) ∙ none in cc
-
 pub one_state : (program : Program) (bytes : List ℕ) (given other : Given) → SpellsState program bytes given → SpellsState program bytes other → given ≡ other
-one_state program bytes given other h k = same_given bytes given other h.0 k.0
+one_state program bytes given other h k = same_given given_of bytes given other h.0 k.0
 
 faultless : (program : Program) (given other : Given) (fault : StateFault) → given ≡ other → IsFaultless program given → HasGivenFault program other fault → ⊥
 faultless program given other NotJson e h k = k
@@ -32,10 +21,10 @@ faultless program given other Unstorable e h k = let p = h.storable in let q = k
 
 pub state_or_fault : (program : Program) (bytes : List ℕ) (given : Given) (fault : StateFault) → SpellsState program bytes given → HasStateFault program bytes fault → ⊥
 state_or_fault program bytes given NotJson h k = k h.0.0 h.0.1
-state_or_fault program bytes given OtherShape h k = gives_shape bytes given k.0 h.0 k.1 k.2
-state_or_fault program bytes given Undeclared h k = faultless program given k.0 Undeclared (same_given bytes given k.0 h.0 k.1) h.1 k.2
-state_or_fault program bytes given BeyondLimit h k = faultless program given k.0 BeyondLimit (same_given bytes given k.0 h.0 k.1) h.1 k.2
-state_or_fault program bytes given Unstorable h k = faultless program given k.0 Unstorable (same_given bytes given k.0 h.0 k.1) h.1 k.2
+state_or_fault program bytes given OtherShape h k = gives_shape given_of bytes given h.0 k
+state_or_fault program bytes given Undeclared h k = faultless program given k.0 Undeclared (same_given given_of bytes given k.0 h.0 k.1) h.1 k.2
+state_or_fault program bytes given BeyondLimit h k = faultless program given k.0 BeyondLimit (same_given given_of bytes given k.0 h.0 k.1) h.1 k.2
+state_or_fault program bytes given Unstorable h k = faultless program given k.0 Unstorable (same_given given_of bytes given k.0 h.0 k.1) h.1 k.2
 
 -- what is given has one least fault
 one_given_fault : (program : Program) (given other : Given) (fault next : StateFault) → given ≡ other → HasGivenFault program given fault → HasGivenFault program other next → fault ≡ next
@@ -68,16 +57,16 @@ no_text program bytes Unstorable h k = absurd (h k.1.0 k.1.1)
 no_shape : (program : Program) (bytes : List ℕ) (fault : StateFault) → HasStateFault program bytes OtherShape → HasStateFault program bytes fault → OtherShape ≡ fault
 no_shape program bytes NotJson h k = absurd (k h.0 h.1)
 no_shape program bytes OtherShape h k = refl
-no_shape program bytes Undeclared h k = absurd (gives_shape bytes k.0 h.0 k.1 h.1 h.2)
-no_shape program bytes BeyondLimit h k = absurd (gives_shape bytes k.0 h.0 k.1 h.1 h.2)
-no_shape program bytes Unstorable h k = absurd (gives_shape bytes k.0 h.0 k.1 h.1 h.2)
+no_shape program bytes Undeclared h k = absurd (gives_shape given_of bytes k.0 k.1 h)
+no_shape program bytes BeyondLimit h k = absurd (gives_shape given_of bytes k.0 k.1 h)
+no_shape program bytes Unstorable h k = absurd (gives_shape given_of bytes k.0 k.1 h)
 
-given_fault : (program : Program) (bytes : List ℕ) (fault next : StateFault) (given : Given) → Gives bytes given → HasGivenFault program given fault → HasStateFault program bytes fault → HasStateFault program bytes next → fault ≡ next
+given_fault : (program : Program) (bytes : List ℕ) (fault next : StateFault) (given : Given) → Gives given_of bytes given → HasGivenFault program given fault → HasStateFault program bytes fault → HasStateFault program bytes next → fault ≡ next
 given_fault program bytes fault NotJson given g h f k = sym (no_text program bytes fault k f)
 given_fault program bytes fault OtherShape given g h f k = sym (no_shape program bytes fault k f)
-given_fault program bytes fault Undeclared given g h f k = one_given_fault program given k.0 fault Undeclared (same_given bytes given k.0 g k.1) h k.2
-given_fault program bytes fault BeyondLimit given g h f k = one_given_fault program given k.0 fault BeyondLimit (same_given bytes given k.0 g k.1) h k.2
-given_fault program bytes fault Unstorable given g h f k = one_given_fault program given k.0 fault Unstorable (same_given bytes given k.0 g k.1) h k.2
+given_fault program bytes fault Undeclared given g h f k = one_given_fault program given k.0 fault Undeclared (same_given given_of bytes given k.0 g k.1) h k.2
+given_fault program bytes fault BeyondLimit given g h f k = one_given_fault program given k.0 fault BeyondLimit (same_given given_of bytes given k.0 g k.1) h k.2
+given_fault program bytes fault Unstorable given g h f k = one_given_fault program given k.0 fault Unstorable (same_given given_of bytes given k.0 g k.1) h k.2
 
 pub one_fault : (program : Program) (bytes : List ℕ) (fault next : StateFault) → HasStateFault program bytes fault → HasStateFault program bytes next → fault ≡ next
 one_fault program bytes NotJson next h k = no_text program bytes next h k

@@ -15,7 +15,8 @@ use Rattle.script_tree.specs.Transactions.{Row}
 use Rattle.script_tree.specs.declared.operation.Object.{Object}
 use Rattle.script_tree.specs.declared.operation.Object.TheVariants.{Register, Store, Tables, Clock, Dice}
 use Rattle.state_file.specs.Faults.{are_declared, are_within_limits, are_entries_within_limits, are_rows_within_limits}
-use Rattle.state_file.specs.Givens.{Named, Entry}
+use Rattle.json_texts.specs.Shapes.{Named}
+use Rattle.state_file.specs.Givens.{Entry}
 use Rattle.state_file.specs.Puts.{PutsRegisters, PutsStores, ChangesTables}
 use Rattle.state_file.specs.Starts.{Holds}
 use Rattle.state_file.specs.Stored.{given_objects, with_tables, given_tables}

@@ -8,8 +8,9 @@ use Rattle.script_tree.specs.Fit.{declares_store}
 use Rattle.script_tree.specs.Programs.{Program}
 use Rattle.script_tree.specs.Transactions.{Row, key}
 use Rattle.script_tree.specs.declared.limits.TheConstants.{MOST_KEY_BYTES}
-use Rattle.state_file.specs.Givens.{Entry, Named}
-use Rattle.state_file.specs.Stored.{has_twice, given_tables}
+use Rattle.json_texts.specs.Shapes.{Named, has_twice}
+use Rattle.state_file.specs.Givens.{Entry}
+use Rattle.state_file.specs.Stored.{given_tables}
 use Rattle.state_file.specs.declared.given.Given.{Given}
 
 -- ---- names

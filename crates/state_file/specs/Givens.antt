@@ -1,12 +1,12 @@
 -- What a JSON tree gives where it has the shape of a state, in the order in which it stands there.
-use Rattle.std.specs.Prelude.{ℕ, ℤ, pos, Bool, true, ◌&&◌, ◌||◌, List, [], ◌∷◌, codes, Option, Some, None, if◌then◌else◌}
-use Rattle.std.specs.Str.{bytes_eq}
+use Rattle.std.specs.Prelude.{ℕ, ℤ, pos, List, [], ◌∷◌, codes, Option, Some, None, if◌then◌else◌}
 use Rattle.serde_json.specs.Data as json
-use Rattle.serde_json.specs.Find.{as_array, as_object, as_number, as_i64, get_member}
+use Rattle.serde_json.specs.Find.{as_array, as_object, get_member}
 use Rattle.basis.specs.Options.{◌>>=◌}
 use Rattle.script_tree.specs.Datum.{Datum}
 use Rattle.script_tree.specs.Transactions.{Row}
-use Rattle.state_file.specs.Texts.{text_of}
+use Rattle.json_texts.specs.Shapes.{Named, array_of, have_names, object_of, pair_of, read_or, whole_number_of}
+use Rattle.json_texts.specs.Texts.{text_of}
 use Rattle.state_file.specs.Values.{datum_of, values_of}
 use Rattle.state_file.specs.declared.given.Given.{Given}
 
@@ -14,74 +14,38 @@ use Rattle.state_file.specs.declared.given.Given.{Given}
 abbrev pub Entry : Type 0
 Entry = List ℕ × Datum
 
--- what has a name
-abbrev pub Named : Type 0 → Type 0
-Named A = List ℕ × A
-
--- ---- lists and objects of one kind
-
--- what each item gives; nothing where one gives nothing
-abbrev pub all_of : {A : Type 0} → (json.Data → Option A) → json.Items → Option (List A)
-all_of read json.no_items = Some []
-all_of read (json.item d items) = do
-  first ← read d
-  rest ← all_of read items
-  Some (first ∷ rest)
-
--- the same of an object's members, with their names
-abbrev pub each_of : {A : Type 0} → (json.Data → Option A) → json.Members → Option (List (Named A))
-each_of read json.no_members = Some []
-each_of read (json.member name d ms) = do
-  first ← read d
-  rest ← each_of read ms
-  Some ((name, first) ∷ rest)
-
 -- ---- the parts of a state
 
 -- `[text, value]`
-abbrev pub entry_in : json.Items → Option Entry
-entry_in json.no_items = None
-entry_in (json.item first json.no_items) = None
-entry_in (json.item first (json.item second json.no_items)) = do
-  name ← text_of first
-  value ← datum_of second
-  Some (name, value)
-entry_in (json.item first (json.item second (json.item third items))) = None
-
 abbrev pub entry_of : json.Data → Option Entry
-entry_of d = as_array d >>= entry_in
+entry_of d = do
+  pair ← pair_of d
+  name ← text_of pair.0
+  value ← datum_of pair.1
+  Some (name, value)
 
 abbrev pub entries_of : json.Data → Option (List Entry)
-entries_of d = as_array d >>= all_of entry_of
+entries_of = array_of entry_of
 
 abbrev pub row_of : json.Data → Option Row
 row_of d = as_array d >>= values_of
 
 abbrev pub rows_of : json.Data → Option (List Row)
-rows_of d = as_array d >>= all_of row_of
+rows_of = array_of row_of
 
 abbrev pub stores_of : json.Data → Option (List (Named (List Entry)))
-stores_of d = as_object d >>= each_of entries_of
+stores_of = object_of entries_of
 
 abbrev pub tables_of : json.Data → Option (List (Named (List Row)))
-tables_of d = as_object d >>= each_of rows_of
+tables_of = object_of rows_of
 
 abbrev pub clock_of : json.Data → Option ℤ
-clock_of d = as_number d >>= as_i64
+clock_of = whole_number_of
 
 -- ---- the whole
 
-abbrev pub is_known : List ℕ → Bool
-is_known name = bytes_eq name (codes "registers") || bytes_eq name (codes "stores") || bytes_eq name (codes "tables") || bytes_eq name (codes "clock")
-
-abbrev pub are_known : json.Members → Bool
-are_known json.no_members = true
-are_known (json.member name d ms) = is_known name && are_known ms
-
--- what a member gives, or this where there is none
-abbrev pub read_or : {A : Type 0} → A → (json.Data → Option A) → Option json.Data → Option A
-read_or otherwise read None = Some otherwise
-read_or otherwise read (Some d) = read d
+abbrev pub member_names : List (List ℕ)
+member_names = codes "registers" ∷ codes "stores" ∷ codes "tables" ∷ codes "clock" ∷ []
 
 abbrev pub whole : Option (List Entry) → Option (List (Named (List Entry))) → Option (List (Named (List Row))) → Option ℤ → Option Given
 whole registers stores tables clock = do
@@ -94,7 +58,7 @@ whole registers stores tables clock = do
 -- what an object's members give; nothing where there is another member
 abbrev pub given_in : json.Members → Option Given
 given_in ms =
-    if are_known ms then whole
+    if have_names member_names ms then whole
     (read_or [] entries_of (get_member (codes "registers") ms))
     (read_or [] stores_of (get_member (codes "stores") ms))
     (read_or [] tables_of (get_member (codes "tables") ms))

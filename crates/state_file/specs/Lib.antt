@@ -5,5 +5,4 @@ pub mod Puts
 pub mod Starts
 pub mod States
 pub mod Stored
-pub mod Texts
 pub mod Values

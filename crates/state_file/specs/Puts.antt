@@ -4,7 +4,8 @@ use Rattle.std.specs.Str.{bytes_eq}
 use Rattle.object_cells.specs.Cells.{held}
 use Rattle.object_cells.specs.Stores.{has_store, held_in}
 use Rattle.object_set.specs.ObjectSets.{HeldObjects}
-use Rattle.state_file.specs.Givens.{Entry, Named}
+use Rattle.json_texts.specs.Shapes.{Named}
+use Rattle.state_file.specs.Givens.{Entry}
 use Rattle.state_file.specs.Stored.{given_at, cell_at}
 
 -- The registers hold these entries.

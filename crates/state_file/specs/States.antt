@@ -1,21 +1,12 @@
 -- What a state is, and which faults it has, by the JSON tree that its bytes spell.
-use Rattle.std.specs.Prelude.{◌≡◌, ℕ, true, false, List, IsUtf8, Some, None}
-use Rattle.serde_json.specs.Data as json
-use Rattle.serde_json.specs.Read.{read}
+use Rattle.std.specs.Prelude.{◌≡◌, ℕ, true, false, List}
+use Rattle.json_texts.specs.Reading.{IsNoJson, Gives, HasOtherShape}
 use Rattle.script_tree.specs.Programs.{Program}
 use Rattle.state_file.specs.Givens.{given_of}
 use Rattle.state_file.specs.Faults.{are_declared, are_within_limits, is_storable}
 use Rattle.state_file.specs.declared.fault.StateFault.{StateFault}
 use Rattle.state_file.specs.declared.fault.StateFault.TheVariants.{NotJson, OtherShape, Undeclared, BeyondLimit, Unstorable}
 use Rattle.state_file.specs.declared.given.Given.{Given}
-
--- The bytes are a JSON text, and this is its tree.
-abbrev pub IsJson : List ℕ → json.Data → Type 0
-IsJson bytes d = IsUtf8 bytes × (read bytes ≡ Some d)
-
--- The bytes are a JSON text of the right shape, which gives this.
-abbrev pub Gives : List ℕ → Given → Type 0
-Gives bytes given = (d : json.Data) × IsJson bytes d × (given_of d ≡ Some given)
 
 -- What is given has no fault.
 pub record IsFaultless (program : Program) (given : Given) : Type 0 where
@@ -34,15 +25,15 @@ HasGivenFault program given Unstorable =
 
 -- The bytes are a state without a fault, which gives this.
 abbrev pub SpellsState : Program → List ℕ → Given → Type 0
-SpellsState program bytes given = Gives bytes given × IsFaultless program given
+SpellsState program bytes given = Gives given_of bytes given × IsFaultless program given
 
 -- The fault with the least kind that the bytes have.
 abbrev pub HasStateFault : Program → List ℕ → StateFault → Type 0
-HasStateFault program bytes NotJson = (d : json.Data) → IsJson bytes d → ⊥
-HasStateFault program bytes OtherShape = (d : json.Data) × IsJson bytes d × (given_of d ≡ None)
-HasStateFault program bytes Undeclared = (given : Given) × Gives bytes given × HasGivenFault program given Undeclared
-HasStateFault program bytes BeyondLimit = (given : Given) × Gives bytes given × HasGivenFault program given BeyondLimit
-HasStateFault program bytes Unstorable = (given : Given) × Gives bytes given × HasGivenFault program given Unstorable
+HasStateFault program bytes NotJson = IsNoJson bytes
+HasStateFault program bytes OtherShape = HasOtherShape given_of bytes
+HasStateFault program bytes Undeclared = (given : Given) × Gives given_of bytes given × HasGivenFault program given Undeclared
+HasStateFault program bytes BeyondLimit = (given : Given) × Gives given_of bytes given × HasGivenFault program given BeyondLimit
+HasStateFault program bytes Unstorable = (given : Given) × Gives given_of bytes given × HasGivenFault program given Unstorable
 
 abbrev pub fault_kind : StateFault → ℕ
 fault_kind NotJson = 1

@@ -1,7 +1,6 @@
 -- What is stored where a state gives this.
-use Rattle.std.specs.Prelude.{◌≡◌, ℕ, Bool, true, false, ◌&&◌, ◌||◌, ◌==◌, List, [], ◌∷◌, length, Option, Some, None, unwrap_or, if◌then◌else◌}
-use Rattle.std.specs.List.{list_any}
-use Rattle.std.specs.Map.{keys_of, lookup}
+use Rattle.std.specs.Prelude.{ℕ, Bool, true, false, ◌&&◌, ◌==◌, List, [], ◌∷◌, length, Option, Some, None, unwrap_or, if◌then◌else◌}
+use Rattle.std.specs.Map.{lookup}
 use Rattle.std.specs.Str.{bytes_eq}
 use Rattle.basis.specs.Options.{◌>>=◌}
 use Rattle.object_tables.specs.Outcomes.{with_row_at}
@@ -14,7 +13,8 @@ use Rattle.script_tree.specs.Programs.{Program}
 use Rattle.script_tree.specs.Transactions.{Row, Table, key}
 use Rattle.script_tree.specs.declared.operation.Object.TheVariants.{Register, Store, Tables, Clock, Dice}
 use Rattle.script_tree.specs.declared.syntax.declaration.Declaration.{Declaration}
-use Rattle.state_file.specs.Givens.{Entry, Named}
+use Rattle.json_texts.specs.Shapes.{Named}
+use Rattle.state_file.specs.Givens.{Entry}
 use Rattle.state_file.specs.declared.given.Given.{Given}
 
 -- ---- registers and stores
@@ -26,15 +26,6 @@ given_at given x = lookup (bytes_eq x) given
 -- the value of a key of a store
 abbrev pub cell_at : List (Named (List Entry)) → List ℕ → List ℕ → Option Datum
 cell_at stores s k = given_at (unwrap_or (given_at stores s) []) k
-
--- whether a name stands twice
-abbrev pub has_twice : List (List ℕ) → Bool
-has_twice [] = false
-has_twice (name ∷ names) = list_any (bytes_eq name) names || has_twice names
-
--- No name stands twice.
-abbrev pub StandOnce : {A : Type 0} → List (Named A) → Type 0
-StandOnce given = has_twice (keys_of given) ≡ false
 
 -- ---- tables
 

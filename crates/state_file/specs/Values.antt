@@ -4,7 +4,7 @@ use Rattle.serde_json.specs.Data as json
 use Rattle.serde_json.specs.Find.{as_i64}
 use Rattle.basis.specs.Options.{◌>>=◌}
 use Rattle.script_tree.specs.Datum.{Datum, null, bool, number, text, list, data_of}
-use Rattle.state_file.specs.Texts.{hex_text}
+use Rattle.json_texts.specs.Texts.{hex_text}
 
 abbrev mutual
   pub datum_of : json.Data → Option Datum

@@ -1,13 +1,13 @@
-ghost use Rattle.std.specs.Prelude.{◌≡◌, pos, [], Some, IfOk, IfSome, option_map};
-ghost use Rattle.serde_json.specs.View.{view, items_view, members_view};
-ghost use Rattle.state_file.specs.Givens.{all_of, each_of, entry_in, entry_of, entries_of, row_of};
-ghost use Rattle.state_file.specs.Givens.{rows_of, stores_of, tables_of, clock_of, is_known};
-ghost use Rattle.state_file.specs.Givens.{are_known, read_or, whole, given_in, given_of};
-ghost use Rattle.state_file.specs.Stored.{StandOnce};
+ghost use Rattle.std.specs.Prelude.{◌≡◌, pos, Some, IfOk, IfSome, option_map};
+ghost use Rattle.serde_json.specs.View.{view, members_view};
+ghost use Rattle.json_texts.specs.Shapes.{read_or, StandOnce};
+ghost use Rattle.state_file.specs.Givens.{clock_of, whole};
+ghost use Rattle.state_file.specs.Givens.{given_in, given_of};
 
-use crate::text::text_of;
 use crate::value::{value_of, values_of};
 use basis::Items;
+use json_texts::shape::{Shape, array_of, array_or_empty, have_names, object_or_empty, pair_of};
+use json_texts::text::text_of;
 use script_tree::text::Text;
 use script_tree::value::{Value, Values};
 use serde_json::{Map, Value as Json};
@@ -37,7 +37,7 @@ fn given_in(alloc: Global, mut members: Map<String, Json>) -> Result<Option<Give
     ensures given { IfOk result (λ o. o ≡ given_in (members_view members.entries)) }
     ensures once { IfOk result (λ o. IfSome o (λ given. StandOnce given.stores)) }
 {
-    if !are_known(&members) {
+    if !have_names(&members, &["registers", "stores", "tables", "clock"]) {
         return Ok(None);
     }
     let registers = members.remove("registers");
@@ -45,9 +45,9 @@ fn given_in(alloc: Global, mut members: Map<String, Json>) -> Result<Option<Give
     let tables = members.remove("tables");
     let clock = members.remove("clock");
     Ok(whole(
-        given_registers(alloc, registers)?,
-        given_stores(alloc, stores)?,
-        given_tables(alloc, tables)?,
+        array_or_empty::<EntryShape>(alloc, registers)?,
+        object_or_empty::<EntriesShape>(alloc, stores)?,
+        object_or_empty::<RowsShape>(alloc, tables)?,
         given_clock(clock),
     ))
 }
@@ -70,61 +70,6 @@ fn whole(
     })
 }
 
-/// Whether a state has no other members than these.
-fn are_known(members: &Map<String, Json>) -> bool
-    ensures { result ≡ are_known (members_view members.now.entries) }
-{
-    for (name, _) in members {
-        if !is_known(name.as_str()) {
-            return false;
-        }
-    }
-    true
-}
-
-fn is_known(name: &str) -> bool
-    ensures { result ≡ is_known name.now }
-{
-    name == "registers" || name == "stores" || name == "tables" || name == "clock"
-}
-
-fn given_registers(
-    alloc: Global,
-    json: Option<Json>,
-) -> Result<Option<Items<(Text, Value)>>, AllocError>
-    ensures { IfOk result (λ o. o ≡ read_or [] entries_of (option_map view json)) }
-{
-    match json {
-        Some(json) => entries_of(alloc, json),
-        None => Ok(Some(Items::new(alloc))),
-    }
-}
-
-fn given_stores(
-    alloc: Global,
-    json: Option<Json>,
-) -> Result<Option<Items<(Text, Items<(Text, Value)>)>>, AllocError>
-    ensures given { IfOk result (λ o. o ≡ read_or [] stores_of (option_map view json)) }
-    ensures once { IfOk result (λ o. IfSome o StandOnce) }
-{
-    match json {
-        Some(json) => stores_of(alloc, json),
-        None => Ok(Some(Items::new(alloc))),
-    }
-}
-
-fn given_tables(
-    alloc: Global,
-    json: Option<Json>,
-) -> Result<Option<Items<(Text, Items<Values>)>>, AllocError>
-    ensures { IfOk result (λ o. o ≡ read_or [] tables_of (option_map view json)) }
-{
-    match json {
-        Some(json) => tables_of(alloc, json),
-        None => Ok(Some(Items::new(alloc))),
-    }
-}
-
 fn given_clock(json: Option<Json>) -> Option<i64>
     ensures { result ≡ read_or (pos 0) clock_of (option_map view json) }
 {
@@ -134,148 +79,72 @@ fn given_clock(json: Option<Json>) -> Option<i64>
     }
 }
 
-fn stores_of(
-    alloc: Global,
-    json: Json,
-) -> Result<Option<Items<(Text, Items<(Text, Value)>)>>, AllocError>
-    ensures given { IfOk result (λ o. o ≡ stores_of (view json)) }
-    ensures once { IfOk result (λ o. IfSome o StandOnce) }
-{
-    match json {
-        Json::Object(members) => stores_in(alloc, members),
-        Json::Null | Json::Bool(_) | Json::Number(_) | Json::String(_) | Json::Array(_) => Ok(None),
-    }
-}
+struct EntryShape;
 
-fn stores_in(
-    alloc: Global,
-    members: Map<String, Json>,
-) -> Result<Option<Items<(Text, Items<(Text, Value)>)>>, AllocError>
-    ensures given { let stores = each_of entries_of (members_view members.entries) in
-        IfOk result (λ o. o ≡ stores) }
-    ensures once { IfOk result (λ o. IfSome o StandOnce) }
-{
-    let mut stores = Vec::new(alloc);
-    for (name, json) in members {
-        match entries_of(alloc, json)? {
-            Some(entries) => stores.push((Text::from_vec(name.into_bytes()), entries))?,
-            None => return Ok(None),
+impl Shape for EntryShape {
+    ghost use Rattle.state_file.specs.Givens.{entry_of};
+
+    type Given = (Text, Value);
+
+    ghost given = { entry_of };
+
+    fn read(alloc: Global, json: Json) -> Result<Option<(Text, Value)>, AllocError> {
+        let Some((name, value)) = pair_of(json) else {
+            return Ok(None);
+        };
+        let Some(name) = text_of(alloc, name)? else {
+            return Ok(None);
+        };
+        match value_of(alloc, value)? {
+            Some(value) => Ok(Some((name, value))),
+            None => Ok(None),
         }
     }
-    Ok(Some(Items::from_vec(stores)))
 }
 
-fn tables_of(alloc: Global, json: Json) -> Result<Option<Items<(Text, Items<Values>)>>, AllocError>
-    ensures { IfOk result (λ o. o ≡ tables_of (view json)) }
-{
-    match json {
-        Json::Object(members) => tables_in(alloc, members),
-        Json::Null | Json::Bool(_) | Json::Number(_) | Json::String(_) | Json::Array(_) => Ok(None),
+struct EntriesShape;
+
+impl Shape for EntriesShape {
+    ghost use Rattle.state_file.specs.Givens.{entries_of};
+
+    type Given = Items<(Text, Value)>;
+
+    ghost given = { entries_of };
+
+    fn read(alloc: Global, json: Json) -> Result<Option<Items<(Text, Value)>>, AllocError> {
+        array_of::<EntryShape>(alloc, json)
     }
 }
 
-fn tables_in(
-    alloc: Global,
-    members: Map<String, Json>,
-) -> Result<Option<Items<(Text, Items<Values>)>>, AllocError>
-    ensures { let tables = each_of rows_of (members_view members.entries) in
-        IfOk result (λ o. o ≡ tables) }
-{
-    let mut tables = Vec::new(alloc);
-    for (name, json) in members {
-        match rows_of(alloc, json)? {
-            Some(rows) => tables.push((Text::from_vec(name.into_bytes()), rows))?,
-            None => return Ok(None),
+struct RowShape;
+
+impl Shape for RowShape {
+    ghost use Rattle.state_file.specs.Givens.{row_of};
+
+    type Given = Values;
+
+    ghost given = { row_of };
+
+    fn read(alloc: Global, json: Json) -> Result<Option<Values>, AllocError> {
+        match json {
+            Json::Array(items) => values_of(alloc, items),
+            Json::Null | Json::Bool(_) | Json::Number(_) | Json::String(_) | Json::Object(_) => Ok(
+                None,
+            ),
         }
     }
-    Ok(Some(Items::from_vec(tables)))
 }
 
-fn entries_of(alloc: Global, json: Json) -> Result<Option<Items<(Text, Value)>>, AllocError>
-    ensures { IfOk result (λ o. o ≡ entries_of (view json)) }
-{
-    match json {
-        Json::Array(items) => entries_in(alloc, items),
-        Json::Null | Json::Bool(_) | Json::Number(_) | Json::String(_) | Json::Object(_) => Ok(
-            None,
-        ),
-    }
-}
+struct RowsShape;
 
-fn entries_in(alloc: Global, items: Vec<Json>) -> Result<Option<Items<(Text, Value)>>, AllocError>
-    ensures { IfOk result (λ o. o ≡ all_of entry_of (items_view items.items)) }
-{
-    let mut entries = Vec::with_capacity(alloc, items.len())?;
-    for item in items {
-        match entry_of(alloc, item)? {
-            Some(entry) => entries.push(entry)?,
-            None => return Ok(None),
-        }
-    }
-    Ok(Some(Items::from_vec(entries)))
-}
+impl Shape for RowsShape {
+    ghost use Rattle.state_file.specs.Givens.{rows_of};
 
-fn entry_of(alloc: Global, json: Json) -> Result<Option<(Text, Value)>, AllocError>
-    ensures { IfOk result (λ o. o ≡ entry_of (view json)) }
-{
-    match json {
-        Json::Array(items) => entry_in(alloc, items),
-        Json::Null | Json::Bool(_) | Json::Number(_) | Json::String(_) | Json::Object(_) => Ok(
-            None,
-        ),
-    }
-}
+    type Given = Items<Values>;
 
-/// A text and a value.
-fn entry_in(alloc: Global, mut items: Vec<Json>) -> Result<Option<(Text, Value)>, AllocError>
-    ensures { IfOk result (λ o. o ≡ entry_in (items_view items.items)) }
-{
-    if items.len() != 2 {
-        return Ok(None);
-    }
-    let (Some(value), Some(name)) = (items.pop(), items.pop()) else {
-        return Ok(None);
-    };
-    let Some(name) = text_of(alloc, name)? else {
-        return Ok(None);
-    };
-    match value_of(alloc, value)? {
-        Some(value) => Ok(Some((name, value))),
-        None => Ok(None),
-    }
-}
+    ghost given = { rows_of };
 
-fn rows_of(alloc: Global, json: Json) -> Result<Option<Items<Values>>, AllocError>
-    ensures { IfOk result (λ o. o ≡ rows_of (view json)) }
-{
-    match json {
-        Json::Array(items) => rows_in(alloc, items),
-        Json::Null | Json::Bool(_) | Json::Number(_) | Json::String(_) | Json::Object(_) => Ok(
-            None,
-        ),
-    }
-}
-
-fn rows_in(alloc: Global, items: Vec<Json>) -> Result<Option<Items<Values>>, AllocError>
-    ensures { IfOk result (λ o. o ≡ all_of row_of (items_view items.items)) }
-{
-    let mut rows = Vec::with_capacity(alloc, items.len())?;
-    for item in items {
-        match row_of(alloc, item)? {
-            Some(row) => rows.push(row)?,
-            None => return Ok(None),
-        }
-    }
-    Ok(Some(Items::from_vec(rows)))
-}
-
-fn row_of(alloc: Global, json: Json) -> Result<Option<Values>, AllocError>
-    ensures { IfOk result (λ o. o ≡ row_of (view json)) }
-{
-    match json {
-        Json::Array(items) => values_of(alloc, items),
-        Json::Null | Json::Bool(_) | Json::Number(_) | Json::String(_) | Json::Object(_) => Ok(
-            None,
-        ),
+    fn read(alloc: Global, json: Json) -> Result<Option<Items<Values>>, AllocError> {
+        array_of::<RowShape>(alloc, json)
     }
 }

@@ -9,7 +9,6 @@ pub mod state;
 mod stored;
 #[cfg(test)]
 mod tests;
-mod text;
 mod value;
 
 pub use fault::StateFault;

@@ -6,9 +6,9 @@ use crate::fault::StateFault;
 use crate::given::given_of;
 use crate::stored::stored;
 use basis::OrMemory;
+use json_texts::{NotJson, read_json};
 use object_set::ObjectSet;
 use script_check::program::Program;
-use serde_json::Value as Json;
 use std::alloc::Global;
 
 /// The objects that a program starts with, from the bytes of a state.
@@ -20,14 +20,10 @@ pub fn read_state(
     ensures { let fault = HasStateFault program.now bytes.now in
         UnlessMemory (IsStart program.now bytes.now) fault result }
 {
-    let json = match Json::from_slice(alloc, bytes) {
+    let json = match read_json(alloc, bytes) {
         Ok(json) => json,
-        Err(error) => {
-            if error.is_memory() {
-                return Err(OrMemory::Memory);
-            }
-            return Err(OrMemory::Other(StateFault::NotJson));
-        }
+        Err(OrMemory::Memory) => return Err(OrMemory::Memory),
+        Err(OrMemory::Other(NotJson)) => return Err(OrMemory::Other(StateFault::NotJson)),
     };
     match given_of(alloc, json)? {
         Some(given) => stored(alloc, program, given),

@@ -5,6 +5,7 @@ ghost use Rattle.std.specs.List.{list_all};
 ghost use Rattle.std.specs.Map.{keys_of};
 ghost use Rattle.basis.specs.Lists.{nth};
 ghost use Rattle.basis.specs.UnlessMemory.{UnlessMemory};
+ghost use Rattle.json_texts.specs.Shapes.{has_twice, StandOnce};
 ghost use Rattle.object_cells.specs.Stores.{has_store, held_in, AreEmpty};
 ghost use Rattle.object_set.specs.ObjectSets.{IsSetOf, IsEmptySet};
 ghost use Rattle.script_tree.specs.Declarations.{table_from};
@@ -16,7 +17,7 @@ ghost use Rattle.state_file.specs.Puts.{PutsRegisters, PutsCells, PutsStores};
 ghost use Rattle.state_file.specs.Puts.{ChangesTables, if_done};
 ghost use Rattle.state_file.specs.Starts.{IsStored, Holds};
 ghost use Rattle.state_file.specs.States.{HasGivenFault};
-ghost use Rattle.state_file.specs.Stored.{has_twice, StandOnce, is_row_of, is_text};
+ghost use Rattle.state_file.specs.Stored.{is_row_of, is_text};
 ghost use Rattle.state_file.specs.Stored.{with_row_of, with_rows, with_tables};
 
 use crate::fault::StateFault;

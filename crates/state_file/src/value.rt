@@ -2,7 +2,7 @@ ghost use Rattle.std.specs.Prelude.{◌≡◌, IfOk};
 ghost use Rattle.serde_json.specs.View.{view, items_view};
 ghost use Rattle.state_file.specs.Values.{datum_of, values_of};
 
-use crate::text::hex_text;
+use json_texts::text::hex_text;
 use script_tree::text::Text;
 use script_tree::value::{Value, Values};
 use serde_json::Value as Json;

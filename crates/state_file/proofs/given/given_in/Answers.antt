@@ -1,8 +1,9 @@
 use Rattle.std.proofs.Common.{◌≡◌, ◌∙◌, [], None, if◌then◌else◌, refl, sym, ap, pos, codes, option_map}
 use Rattle.serde_json.specs.Find.{get_member}
 use Rattle.serde_json.specs.View.{view, members_view}
-use Rattle.state_file.specs.Givens.{read_or, entries_of, stores_of, tables_of, clock_of, whole}
-use Rattle.state_file.proofs.Members.{found_in, taken_out}
+use Rattle.json_texts.specs.Shapes.{read_or}
+use Rattle.state_file.specs.Givens.{entries_of, stores_of, tables_of, clock_of, whole}
+use Rattle.json_texts.proofs.Members.{found_in, taken_out}
 use Rattle.state_file.proofs.given.given_in.Goals as goal
 
 pub returns-clause-given : goal.returns-clause-given
@@ -22,9 +23,9 @@ returns-clause-given c =
     found_in (codes "clock") members c.remove-clock.result
     (c.remove-clock.ensures.value ∙ taken_out (codes "tables") (codes "clock") b d c.remove-tables.ensures.updates refl ∙ taken_out (codes "stores") (codes "clock") a b c.remove-stores.ensures.updates refl
     ∙ taken_out (codes "registers") (codes "clock") members a c.remove-registers.ensures.updates refl) in
-    let r = c.in_ok-given_registers.ensures ∙ ap (read_or [] entries_of) registers in
-    let s = c.in_ok-given_stores.ensures.given ∙ ap (read_or [] stores_of) stores in
-    let t = c.in_ok-given_tables.ensures ∙ ap (read_or [] tables_of) tables in
+    let r = c.in_ok-array_or_empty.ensures ∙ ap (read_or [] entries_of) registers in
+    let s = c.in_ok-object_or_empty.ensures.given ∙ ap (read_or [] stores_of) stores in
+    let t = c.in_ok-object_or_empty-2.ensures.given ∙ ap (read_or [] tables_of) tables in
     let last = c.given_clock.ensures ∙ ap (read_or (pos 0) clock_of) clock in
-    let known = sym c.are_known.ensures ∙ c.if-not-are_known.false in
+    let known = sym c.have_names.ensures ∙ c.if-not-have_names.false in
     c.whole.ensures.whole ∙ (λ i. if sym known i then whole (r i) (s i) (t i) (last i) else None)

@@ -3,7 +3,8 @@ use Rattle.std.specs.Prelude.{int_le}
 use Rattle.std.specs.List.{list_all}
 use Rattle.script_tree.specs.Transactions.{Row}
 use Rattle.state_file.specs.Faults.{are_entries_within_limits, are_rows_within_limits}
-use Rattle.state_file.specs.Givens.{Named, Entry}
+use Rattle.json_texts.specs.Shapes.{Named}
+use Rattle.state_file.specs.Givens.{Entry}
 use Rattle.state_file.proofs.limits.are_within_limits.Goals.{then-are_entries_within_limits, else-are_entries_within_limits, then-are_stores_within_limits, else-are_stores_within_limits}
 use Rattle.state_file.proofs.limits.are_within_limits.Goals as goal
 

@@ -3,7 +3,8 @@ use Rattle.std.specs.List.{list_all}
 use Rattle.object_cells.specs.Stores.{has_store}
 use Rattle.script_tree.specs.Declarations.{table_from}
 use Rattle.script_tree.specs.Fit.{declares_store}
-use Rattle.state_file.specs.Givens.{Named, Entry}
+use Rattle.json_texts.specs.Shapes.{Named}
+use Rattle.state_file.specs.Givens.{Entry}
 use Rattle.script_tree.specs.Transactions.{Row}
 use Rattle.state_file.proofs.Entries.{all_same}
 use Rattle.state_file.proofs.stored.are_declared.Goals as goal

@@ -6,7 +6,8 @@ use Rattle.object_cells.specs.Stores.{has_store}
 use Rattle.state_file.specs.Faults.{are_entries_within_limits}
 use Rattle.state_file.specs.Puts.{PutsRegisters, PutsStores, if_done}
 use Rattle.state_file.specs.Starts.{Holds}
-use Rattle.state_file.specs.Stored.{has_twice, with_tables}
+use Rattle.json_texts.specs.Shapes.{has_twice}
+use Rattle.state_file.specs.Stored.{with_tables}
 use Rattle.state_file.proofs.Whole.{there_still, stores_within, holds}
 use Rattle.state_file.proofs.stored.put_all.Goals as goal
 

@@ -3,7 +3,7 @@ use Rattle.std.specs.Map.{keys_of}
 use Rattle.state_file.specs.Faults.{are_entries_within_limits}
 use Rattle.state_file.specs.Givens.{Entry}
 use Rattle.state_file.specs.Puts.{PutsCells}
-use Rattle.state_file.specs.Stored.{has_twice}
+use Rattle.json_texts.specs.Shapes.{has_twice}
 use Rattle.state_file.proofs.stored.put_cells.Given as goal
 
 -- the last ones are stored, and none of them twice

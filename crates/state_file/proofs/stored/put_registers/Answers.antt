@@ -4,7 +4,8 @@ use Rattle.std.specs.Prelude.{not}
 use Rattle.std.specs.Str.{bytes_eq}
 use Rattle.state_file.specs.Faults.{is_entry_within_limits, are_entries_within_limits}
 use Rattle.state_file.specs.Givens.{Entry}
-use Rattle.state_file.specs.Stored.{given_at, has_twice}
+use Rattle.json_texts.specs.Shapes.{has_twice}
+use Rattle.state_file.specs.Stored.{given_at}
 use Rattle.state_file.proofs.Entries.{stands, twice_behind, all_in_front}
 use Rattle.state_file.proofs.stored.put_registers.Goals as goal
 

@@ -5,9 +5,10 @@ use Rattle.std.specs.Map.{keys_of}
 use Rattle.std.specs.Prelude.{not}
 use Rattle.object_cells.specs.Stores.{has_store}
 use Rattle.state_file.specs.Faults.{are_entries_within_limits, some_key_is_twice}
-use Rattle.state_file.specs.Givens.{Entry, Named}
+use Rattle.json_texts.specs.Shapes.{Named, has_twice}
+use Rattle.state_file.specs.Givens.{Entry}
 use Rattle.state_file.specs.Puts.{PutsCells}
-use Rattle.state_file.specs.Stored.{given_at, has_twice}
+use Rattle.state_file.specs.Stored.{given_at}
 use Rattle.state_file.proofs.Cells.{one_more}
 use Rattle.state_file.proofs.Entries.{once_behind, not_behind, all_in_front, twice_key, no_twice_key}
 use Rattle.state_file.proofs.stored.put_stores.Goals as goal

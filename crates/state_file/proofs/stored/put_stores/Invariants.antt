@@ -2,7 +2,8 @@ use Rattle.std.proofs.Common.{◌≡◌, List, ◌++◌, length, true, false}
 use Rattle.std.specs.List.{list_all}
 use Rattle.object_cells.specs.Stores.{has_store}
 use Rattle.state_file.specs.Faults.{are_entries_within_limits, some_key_is_twice}
-use Rattle.state_file.specs.Givens.{Entry, Named}
+use Rattle.json_texts.specs.Shapes.{Named}
+use Rattle.state_file.specs.Givens.{Entry}
 use Rattle.state_file.specs.Puts.{PutsStores}
 use Rattle.state_file.proofs.stored.put_stores.Given as goal
 

@@ -1,32 +1,9 @@
 -- The topmost values of a stack, where the topmost lies last.
-use Rattle.std.proofs.Common.{◌≡◌, ◌-◌, ◌≤◌, ℕ, zero, suc, List, [], ◌∷◌, ◌++◌, length, take, drop, take-append-drop, take_at, length-drop, append_assoc, append-nil, refl, sym, ap, ◌∙◌, arith}
+use Rattle.std.proofs.Common.{◌≡◌, ◌-◌, ◌<◌, ◌≤◌, ℕ, zero, suc, List, [], ◌∷◌, ◌++◌, length, drop, length-append, refl, sym, ap, ◌∙◌, arith}
 use Rattle.std.specs.Prelude.{reverse, min}
-use Rattle.std.proofs.lemmas.List.{reverse-append, reverse-reverse, length-reverse}
-use Rattle.std.proofs.Math.Seq.{drop-append_seam}
+use Rattle.std.proofs.lemmas.List.{reverse-append}
 use Rattle.script_tree.specs.Datum.{Datum}
 use Rattle.script_code.specs.CodeRun.{topmost}
-
-topmost_is : (n : ℕ) (st ds : List Datum) → topmost n st ds ≡ reverse (take n st) ++ ds
-topmost_is zero st ds = refl
-topmost_is (suc n) [] ds = refl
-topmost_is (suc n) (x ∷ st) ds =
-    topmost_is n st (x ∷ ds) ∙ sym (ap (λ l. l ++ ds) (reverse-append (x ∷ []) (take n st)) ∙ append_assoc (reverse (take n st)) (x ∷ []) ds)
-
-cut : (n : ℕ) (st : List Datum) → reverse st ≡ reverse (drop n st) ++ reverse (take n st)
-cut n st = ap reverse (sym (take-append-drop n st)) ∙ reverse-append (take n st) (drop n st)
-
-depth : (n : ℕ) (st : List Datum) → length st - n ≡ length (reverse (drop n st))
-depth n st = sym (length-reverse (drop n st) ∙ length-drop n st)
-
--- the topmost values
-pub uncovered : (n : ℕ) (st : List Datum) → drop (length st - n) (reverse st) ≡ topmost n st []
-uncovered n st =
-    (λ i. drop (depth n st i) (cut n st i)) ∙ drop-append_seam (reverse (drop n st)) (reverse (take n st)) ∙ sym (append-nil (reverse (take n st))) ∙ sym (topmost_is n st [])
-
--- those below them
-pub covered : (n : ℕ) (st : List Datum) → reverse (take (length st - n) (reverse st)) ≡ drop n st
-covered n st =
-    ap reverse ((λ i. take (depth n st i) (cut n st i)) ∙ take_at (reverse (drop n st)) (reverse (take n st)) (length (reverse (drop n st))) refl) ∙ reverse-reverse (drop n st)
 
 no_topmost : (n : ℕ) (ds : List Datum) → topmost n [] ds ≡ ds
 no_topmost zero ds = refl
@@ -52,3 +29,43 @@ as_deep (suc n) zero (x ∷ st) h = absurd (omega (arith, h))
 as_deep (suc n) (suc m) (x ∷ st) h =
     let e : min (suc n) (suc m) ≡ suc (min n m) = omega arith in
     rw e (as_deep n m st (omega (arith, h)))
+
+-- ---- one value after the other
+
+-- Of so many topmost values these were taken, the topmost first, and those are left.
+pub record IsTaking (count : ℕ) (all : List Datum) (taken left : List Datum) : Type 0 where
+  pub topmost' : topmost (count - length taken) left (reverse taken) ≡ topmost count all []
+  pub left' : drop (count - length taken) left ≡ drop count all
+
+pub takes_none : (count : ℕ) (all taken left : List Datum) → taken ≡ [] → left ≡ all → IsTaking count all taken left
+takes_none count all taken left none same =
+    let whole : count - length taken ≡ count = omega (arith, ap length none) in
+    record {
+      topmost' = ap (λ n. topmost n left (reverse taken)) whole ∙ (λ i. topmost count (same i) (reverse (none i)));
+      left' = ap (λ n. drop n left) whole ∙ ap (drop count) same;
+    }
+
+one_fewer : (count : ℕ) (taken : List Datum) (x : Datum) → length taken < count → count - length taken ≡ suc (count - length (taken ++ x ∷ []))
+one_fewer count taken x fewer = omega (arith, length-append taken (x ∷ []))
+
+-- The topmost of those that are left is taken too.
+pub takes_one : (count : ℕ) (all taken left : List Datum) (x : Datum) → length taken < count → IsTaking count all taken (x ∷ left) → IsTaking count all (taken ++ x ∷ []) left
+takes_one count all taken left x fewer is = record {
+  topmost' = ap (topmost (count - length (taken ++ x ∷ [])) left) (reverse-append taken (x ∷ [])) ∙ sym (ap (λ n. topmost n (x ∷ left) (reverse taken)) (one_fewer count taken x fewer)) ∙ is.topmost';
+  left' = sym (ap (λ n. drop n (x ∷ left)) (one_fewer count taken x fewer)) ∙ is.left';
+}
+
+-- So many are taken.
+pub takes_all : (count : ℕ) (all taken left : List Datum) → count ≤ length taken → IsTaking count all taken left → (reverse taken ≡ topmost count all []) × (left ≡ drop count all)
+takes_all count all taken left enough is =
+    let none : count - length taken ≡ 0 = omega (arith, enough) in
+    (sym (ap (λ n. topmost n left (reverse taken)) none) ∙ is.topmost', sym (ap (λ n. drop n left) none) ∙ is.left')
+
+-- There are no more.
+pub takes_what_is_there : (count : ℕ) (all taken : List Datum) → IsTaking count all taken [] → (reverse taken ≡ topmost count all []) × ([] ≡ drop count all)
+takes_what_is_there count all taken is =
+    (sym (no_topmost (count - length taken) (reverse taken)) ∙ is.topmost', sym (no_drop (count - length taken)) ∙ is.left')
+
+pub no_items : (ds : List Datum) → length ds ≡ 0 → ds ≡ []
+no_items [] none = refl
+no_items (d ∷ ds) none = absurd (omega (arith, none))

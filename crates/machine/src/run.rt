@@ -31,6 +31,7 @@ pub(crate) struct Run<'c> {
 
 impl<'c> Run<'c> {
     /// Passes so many instructions after this one.
+    #[inline(always)]
     fn jump(&mut self, place: usize, count: usize, len: usize) -> Result<Went, Stopped>
         requires { IsPlaceOf len place }
         ensures acts { Acts (instruction.Jump count) len place self.old result self.new }
@@ -60,6 +61,7 @@ impl<'c> Run<'c> {
         self.jump(place, count, len)
     }
 
+    #[inline(always)]
     fn and(&mut self, place: usize, count: usize, len: usize) -> Result<Went, Stopped>
         requires { IsPlaceOf len place }
         ensures acts { Acts (instruction.And count) len place self.old result self.new }
@@ -75,6 +77,7 @@ impl<'c> Run<'c> {
         }
     }
 
+    #[inline(always)]
     fn or(&mut self, place: usize, count: usize, len: usize) -> Result<Went, Stopped>
         requires { IsPlaceOf len place }
         ensures acts { Acts (instruction.Or count) len place self.old result self.new }
@@ -90,6 +93,7 @@ impl<'c> Run<'c> {
         }
     }
 
+    #[inline(always)]
     fn branch(&mut self, place: usize, count: usize, len: usize) -> Result<Went, Stopped>
         requires { IsPlaceOf len place }
         ensures acts { Acts (instruction.Branch count) len place self.old result self.new }
@@ -104,6 +108,7 @@ impl<'c> Run<'c> {
         }
     }
 
+    #[inline(always)]
     fn again(&mut self, place: usize, count: usize, len: usize) -> Result<Went, Stopped>
         requires { IsPlaceOf len place }
         ensures acts { Acts (instruction.Again count) len place self.old result self.new }

@@ -49,7 +49,10 @@ impl<'c> Stack<'c> {
     pub(crate) fn push_cell(&mut self, cell: Cell<'c>) -> Result<(), AllocError>
         ensures { OnOk result (self.new ≡ cell.entry ∷ self.old) }
     {
-        self.cells.push(cell)?;
+        if self.cells.len() == self.cells.capacity() {
+            self.cells.reserve(1)?;
+        }
+        self.cells.push_reserved(cell);
         Ok(())
     }
 
@@ -78,12 +81,12 @@ impl<'c> Stack<'c> {
         ensures left { OnOk result (self.new ≡ drop count self.old) }
         ensures fits { length self.old ≤ usize.MAX }
     {
-        let kept = self.cells.len().saturating_sub(count);
-        let mut values = Vec::with_capacity(alloc, self.cells.len() - kept)?;
-        let mut left = self.cells.split_off(kept)?.into_iter();
-        while let Some(cell) = left.next() {
+        let mut values = Vec::with_capacity(alloc, count.min(self.cells.len()))?;
+        while values.len() < count {
+            let Some(cell) = self.cells.pop() else { break };
             values.push(cell.into_operand(alloc)?.into_value()?)?;
         }
+        values.reverse();
         Ok(values)
     }
 }

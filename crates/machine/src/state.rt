@@ -35,6 +35,7 @@ pub(crate) struct State<'c> {
 
 impl<'c> State<'c> {
     /// Puts a literal on the stack.
+    #[inline(always)]
     pub(crate) fn push(&mut self, value: &'c Value) -> Result<Went, Stopped>
         ensures does { Does (instruction.Push value.now) self.old result self.new }
         ensures rises { Rises self.old result self.new }
@@ -45,6 +46,7 @@ impl<'c> State<'c> {
     }
 
     /// Puts the value of a slot on the stack.
+    #[inline(always)]
     pub(crate) fn load(&mut self, slot: usize) -> Result<Went, Stopped>
         ensures does { Does (instruction.Load slot) self.old result self.new }
         ensures rises { Rises self.old result self.new }
@@ -69,6 +71,7 @@ impl<'c> State<'c> {
         Ok(Went::On)
     }
 
+    #[inline(always)]
     pub(crate) fn binary(&mut self, operator: BinaryOperator) -> Result<Went, Stopped>
         ensures does { Does (instruction.Binary operator) self.old result self.new }
         ensures rises { Rises self.old result self.new }
@@ -81,6 +84,7 @@ impl<'c> State<'c> {
         Ok(Went::On)
     }
 
+    #[inline(always)]
     pub(crate) fn index(&mut self) -> Result<Went, Stopped>
         ensures does { Does instruction.Index self.old result self.new }
         ensures rises { Rises self.old result self.new }
@@ -170,6 +174,7 @@ impl<'c> State<'c> {
     }
 
     /// Takes the topmost value.
+    #[inline(always)]
     pub(crate) fn pop(&mut self) -> Result<Operand<'c>, Stopped>
         ensures pops { Pops self.old.stack self.new.stack result }
         ensures slots { self.new.slots ≡ self.old.slots }
@@ -222,6 +227,7 @@ impl<'c> State<'c> {
     }
 
     /// Puts the value in this slot.
+    #[inline(always)]
     pub(crate) fn assign(&mut self, slot: usize) -> Result<Went, Stopped>
         ensures does { Does (instruction.Assign slot) self.old result self.new }
         ensures rises { Rises self.old result self.new }

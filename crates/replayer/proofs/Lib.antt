@@ -6,6 +6,6 @@ pub mod PartnerFacts
 pub mod PlaceFacts
 pub mod ResultFacts
 pub mod HeadFacts
-pub mod Sets
+pub mod Wants
 pub mod StageFacts
 pub mod StandingFacts

@@ -1,21 +1,45 @@
-use Rattle.std.proofs.Common.{◌≡◌, ◌-◌, ◌++◌, length, take, drop, sym, ap, ◌∙◌}
+use Rattle.std.proofs.Common.{◌≡◌, [], ◌∷◌, ◌++◌, length, length-append, sym, subst, ap, ◌∙◌, arith}
 use Rattle.std.specs.Prelude.{reverse}
-use Rattle.std.specs.Vec.Iter.{into_iter_items}
-use Rattle.std.proofs.lemmas.List.{length-reverse, reverse-reverse}
-use Rattle.machine.proofs.Stacks.{uncovered, covered}
+use Rattle.std.proofs.lemmas.List.{reverse-append}
+use Rattle.machine.proofs.Stacks.{IsTaking, takes_none, takes_one, takes_all, takes_what_is_there, no_items}
 use Rattle.machine.proofs.stack.Stack.take.Goals as goal
+use Rattle.machine.proofs.stack.Stack.take.Goals.{else-loop-alloc-test, then-loop-alloc-test+in_default}
 
-pub loop-cell-init : goal.loop-cell-init
-loop-cell-init c =
-    let st = c.args.self.now in
-    let cells : c.self.inside.cells.items ≡ reverse st = sym (reverse-reverse c.self.inside.cells.items) ∙ ap reverse c.self.view_is in
-    let kept : c.saturating_sub-kept.result ≡ length st - c.args.count = c.saturating_sub-kept.ensures ∙ ap (λ n. n - c.args.count) (c.len.ensures ∙ c.self.inside.cells.ok.0 ∙ ap length cells ∙ length-reverse st) in
-    let left : into_iter_items c.into_iter-left.result ≡ c.in_ok-split_off.field-0.items = c.into_iter-left.ensures.rest in
-    (λ i. c.in_ok-values.ensures.items i ++ left i) ∙ c.in_ok-split_off.ensures.tail ∙ (λ i. drop (kept i) (cells i)) ∙ uncovered c.args.count st
+pub loop-alloc-init : goal.loop-alloc-init
+loop-alloc-init c = takes_none c.args.count c.args.self.now c.in_ok-values.values.items (reverse c.self.inside.cells.items) c.in_ok-values.ensures.items c.self.view_is
+
+pub loop-alloc-preserved : goal.loop-alloc-preserved
+loop-alloc-preserved c =
+    let all = c.args.self.now in
+    let taken = c.loop-alloc.values.items in
+    let left = c.pop.new.self.items in
+    let cells : reverse c.loop-alloc.self-inside.cells.items ≡ c.in-Some.cell ∷ reverse left = ap reverse c.in-Some.ensures.items ∙ reverse-append left (c.in-Some.cell ∷ []) in
+    let value : c.in_ok-into_value.field-0 ≡ c.in-Some.cell = c.in_ok-into_value.ensures ∙ c.in_ok-into_operand.ensures in
+    subst (λ l. IsTaking c.args.count all l (reverse left)) (sym (c.in_ok-push.ensures.items ∙ ap (λ v. taken ++ v ∷ []) value))
+    (takes_one c.args.count all taken (reverse left) c.in-Some.cell (omega (arith, c.loop-alloc-test.true, c.len-in-loop-alloc.ensures, c.loop-alloc.values.ok.0)) (subst (IsTaking c.args.count all taken) cells c.loop-alloc.invariant))
+
+pub returns-clause-values : goal.returns-clause-values
+returns-clause-values c =
+    let all = c.args.self.now in
+    let taken = c.loop-alloc.values.items in
+    let left = reverse c.loop-alloc.self-inside.cells.items in
+    c.reverse.ensures.items ∙
+    elim c.loop-alloc-test.branch [
+      | else-loop-alloc-test w ↦
+          (takes_all c.args.count all taken left (omega (arith, w.loop-alloc-test.false, c.len-in-loop-alloc.ensures, c.loop-alloc.values.ok.0)) c.loop-alloc.invariant).0
+      | then-loop-alloc-test+in_default w ↦
+          (takes_what_is_there c.args.count all taken (subst (IsTaking c.args.count all taken) (ap reverse (no_items c.loop-alloc.self-inside.cells.items (omega (arith, w.in_default.ensures.cases.0, c.loop-alloc.self-inside.cells.ok.0)))) c.loop-alloc.invariant)).0
+    ]
 
 pub returns-clause-left : goal.returns-clause-left
 returns-clause-left c =
-    let st = c.args.self.now in
-    let cells : c.self.inside.cells.items ≡ reverse st = sym (reverse-reverse c.self.inside.cells.items) ∙ ap reverse c.self.view_is in
-    let kept : c.saturating_sub-kept.result ≡ length st - c.args.count = c.saturating_sub-kept.ensures ∙ ap (λ n. n - c.args.count) (c.len.ensures ∙ c.self.inside.cells.ok.0 ∙ ap length cells ∙ length-reverse st) in
-    ap reverse (c.in_ok-split_off.ensures.items ∙ (λ i. take (kept i) (cells i))) ∙ covered c.args.count st
+    let all = c.args.self.now in
+    let taken = c.loop-alloc.values.items in
+    let left = reverse c.loop-alloc.self-inside.cells.items in
+    elim c.loop-alloc-test.branch [
+      | else-loop-alloc-test w ↦
+          w.self-is ∙ (takes_all c.args.count all taken left (omega (arith, w.loop-alloc-test.false, c.len-in-loop-alloc.ensures, c.loop-alloc.values.ok.0)) c.loop-alloc.invariant).1
+      | then-loop-alloc-test+in_default w ↦
+          w.self-is ∙ ap reverse (no_items w.pop.new.self.items (omega (arith, w.in_default.ensures.cases.0, c.loop-alloc.self-inside.cells.ok.0, ap length w.in_default.ensures.items, length-append w.pop.new.self.items []))) ∙
+          (takes_what_is_there c.args.count all taken (subst (IsTaking c.args.count all taken) (ap reverse (no_items c.loop-alloc.self-inside.cells.items (omega (arith, w.in_default.ensures.cases.0, c.loop-alloc.self-inside.cells.ok.0)))) c.loop-alloc.invariant)).1
+    ]

@@ -1,10 +1,10 @@
-use Rattle.std.proofs.Common.{◌≡◌, ◌++◌, [], length}
-use Rattle.std.specs.Vec.Iter.{into_iter_items}
-use Rattle.script_code.specs.CodeRun.{topmost}
+use Rattle.std.proofs.Common.{◌-◌, length}
+use Rattle.std.specs.Prelude.{reverse}
+use Rattle.machine.proofs.Stacks.{IsTaking}
 use Rattle.machine.proofs.stack.Stack.take.Given as goal
 
-abbrev pub invariant-loop-cell : goal.invariant-loop-cell
-invariant-loop-cell l = l.values.items ++ into_iter_items l.left ≡ topmost l.fn.count l.fn.self []
+abbrev pub invariant-loop-alloc : goal.invariant-loop-alloc
+invariant-loop-alloc l = IsTaking l.count l.fn.self l.values.items (reverse l.self-inside.cells.items)
 
-abbrev pub decreases-loop-cell : goal.decreases-loop-cell
-decreases-loop-cell l = length (into_iter_items l.left)
+abbrev pub decreases-loop-alloc : goal.decreases-loop-alloc
+decreases-loop-alloc l = l.count - length l.values.items

@@ -18,7 +18,7 @@ use Rattle.replayer.specs.declared.stage.Stage.{Stage}
 use Rattle.replayer.specs.declared.runner.Next.TheVariants as told
 use Rattle.replayer.specs.declared.standing.Standing.{Standing}
 use Rattle.replayer.specs.declared.standing.Standing.TheVariants.{Away, Open}
-use Rattle.replayer.proofs.Sets.{fits_set}
+use Rattle.object_set.proofs.Sets.{fits_set}
 use Rattle.replayer.proofs.StageFacts.{shows_act, opened_more, answered_opened, opened, act_told, open_is, puts_at}
 use Rattle.replayer.proofs.stage.Stage.act.Goals as goal
 

@@ -5,7 +5,7 @@ use Rattle.script_meaning.specs.Replay.{ending_of, ending_with}
 use Rattle.replayer.specs.Standings.{answers_in}
 use Rattle.replayer.specs.Stages.{standing_of}
 use Rattle.replayer.specs.declared.standing.Standing.TheVariants.{Open}
-use Rattle.replayer.proofs.Sets.{wants_what_fits}
+use Rattle.replayer.proofs.Wants.{wants_what_fits}
 use Rattle.replayer.proofs.StageFacts.{stands_in}
 use Rattle.replayer.proofs.stage.Stage.next_at.Goals as goal
 

@@ -1,0 +1,40 @@
+-- The history that a recorder's calls are, and the law that it is legal.
+use Rattle.std.specs.Prelude.{◌≡◌, ℕ, List, map}
+use Rattle.script_tree.specs.Programs.{Program}
+use Rattle.script_tree.specs.declared.operation.Choice.{Choice}
+use Rattle.script_tree.specs.declared.operation.Choice.TheVariants.{Nothing}
+use Rattle.desk.specs.Runs.{Runs}
+use Rattle.desk.specs.declared.bench.Call.{Call}
+use Rattle.history.specs.Recordings.{Recorded, room_of, Takes}
+use Rattle.history.specs.Rooms.{AreSteps, room_after}
+use Rattle.history.specs.declared.event.Event.{Event}
+use Rattle.history.specs.declared.event.Event.TheVariants as asks
+use Rattle.history.specs.declared.event.Reply.{Reply}
+use Rattle.history.specs.declared.event.Reply.TheVariants.{Arrived, Acted, Departed}
+use Rattle.history.specs.declared.happening.Happening.{Happening}
+use Rattle.history.specs.declared.happening.Happening.TheVariants.{Arrive, Act, Depart}
+
+-- the choice that a reply tells
+abbrev pub choice_in : Reply → Choice
+choice_in (Arrived rid) = Nothing
+choice_in (Acted choice answer) = choice
+choice_in Departed = Nothing
+
+abbrev pub happening_by : ℕ → Event → Reply → Happening
+happening_by seat (asks.Arrive request) reply = Arrive seat request
+happening_by seat (asks.Act op offer) reply = Act seat op (choice_in reply)
+happening_by seat (asks.Depart response path) reply = Depart seat response path
+
+abbrev pub happening_in : Call Event Reply → Happening
+happening_in call = happening_by call.seat call.event call.reply
+
+abbrev pub history_of : List (Call Event Reply) → List Happening
+history_of calls = map happening_in calls
+
+-- What calls lead through is legal, and the room after it is the one that they lead to.
+pub record IsRecorded (old : Recorded) (calls : List (Call Event Reply)) (new : Recorded) : Type 0 where
+  pub legal : AreSteps old.program (room_of old) (history_of calls)
+  pub left : room_of new ≡ room_after (room_of old) (history_of calls)
+
+abbrev pub RunsAreLegal : Type 0
+RunsAreLegal = (old new : Recorded) (calls : List (Call Event Reply)) → Runs Takes old calls new → IsRecorded old calls new

@@ -1,0 +1,14 @@
+//! What happens while requests are answered, and the trace and the report of it.
+#![tactic(auto)]
+
+pub mod event;
+pub mod happening;
+pub mod law;
+pub mod recorder;
+pub mod recording;
+mod visit;
+
+pub use event::{Event, Reply};
+pub use happening::{Happening, History, history_of};
+pub use recorder::Recorder;
+pub use recording::Recording;

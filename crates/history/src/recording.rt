@@ -1,0 +1,174 @@
+ghost use Rattle.std.specs.Prelude.{◌≡◌, true, Some, Ok, IfOk, OnOk, OnErr};
+ghost use Rattle.script_tree.specs.Objects.{reading};
+ghost use Rattle.object_set.specs.Applied.{FitsSet, Does, takes};
+ghost use Rattle.object_set.specs.ObjectSets.{IsSetOf, objects_of};
+ghost use Rattle.history.specs.Recordings.{IsTaken, MayCome, room_of, choice_of};
+ghost use Rattle.history.specs.Rooms.{empty_room, seated};
+ghost use Rattle.history.specs.Visits.{visit_at};
+ghost use Rattle.history.specs.declared.event.Event.TheVariants as asks;
+
+use crate::event::{Event, Reply};
+use crate::visit::Visit;
+use basis::OrMemory;
+use object_set::{ObjectSet, Refused};
+use script_check::program::Program;
+use script_tree::operation::{Act, Choice, Op};
+use script_tree::path::Path;
+use script_tree::request::{Request, Response};
+use script_tree::value::Value;
+use std::alloc::{AllocError, Global};
+use std::marker::Model;
+use std::sync::Arc;
+
+/// What a recorder keeps between events: the objects, and of each seat the request that is open
+/// there. Its program is not run here; it is what says which events may come.
+#[derive(Drop)]
+pub struct Recording {
+    alloc: Global,
+    program: Arc<Program>,
+    objects: ObjectSet,
+    arrived: u64,
+    visits: Vec<Option<Visit>>,
+}
+
+impl Model for Recording {
+    ghost use Rattle.history.specs.Recordings.{Recorded, coded_recorded};
+
+    ghost Value = { Recorded };
+
+    ghost coded = { coded_recorded };
+
+    ghost use Rattle.history.specs.RecordingView.{recorded_in, IsOfProgram};
+
+    ghost view = { recorded_in };
+
+    ghost invariant = { IsOfProgram };
+}
+
+impl Recording {
+    /// No request has arrived.
+    pub fn new(alloc: Global, program: Arc<Program>, objects: ObjectSet) -> Recording
+        requires { IsSetOf program.value objects }
+        ensures program { result.program ≡ program.value }
+        ensures objects { result.objects ≡ objects }
+        ensures room { room_of result ≡ empty_room (objects_of objects) }
+    {
+        program.declarations();
+        Recording {
+            alloc,
+            program,
+            objects,
+            arrived: 0,
+            visits: Vec::new(alloc),
+        }
+    }
+
+    /// Takes an event, and gives the reply twice.
+    pub(crate) fn take(&mut self, seat: u32, event: &Event) -> Result<(Reply, Reply), AllocError>
+        requires { MayCome self.old seat event.now }
+        ensures { IsTaken seat event.now self.old self.new result }
+    {
+        match event {
+            Event::Arrive(request) => self.arrive(seat, request),
+            Event::Act(op, offer) => self.act(seat, op, *offer),
+            Event::Depart(response, path) => Ok(self.depart(seat, response, path)),
+        }
+    }
+
+    /// A request arrives at a seat.
+    fn arrive(&mut self, seat: u32, request: &Arc<Request>) -> Result<(Reply, Reply), AllocError>
+        requires { MayCome self.old seat (asks.Arrive request.now) }
+        ensures { IsTaken seat (asks.Arrive request.now) self.old self.new result }
+    {
+        let rid = self.arrived;
+        let arrived = rid.checked_add(1).ok_or(AllocError)?;
+        let visit = Visit::new(self.alloc, rid, request.clone()?);
+        put_visit(&mut self.visits, seat, visit)?;
+        self.arrived = arrived;
+        Ok((Reply::Arrived(rid), Reply::Arrived(rid)))
+    }
+
+    /// The request at a seat does an operation.
+    fn act(&mut self, seat: u32, op: &Op, offer: Option<i64>) -> Result<(Reply, Reply), AllocError>
+        requires { MayCome self.old seat (asks.Act op.now offer) }
+        ensures { IsTaken seat (asks.Act op.now offer) self.old self.new result }
+    {
+        let choice = choice_of(&op.act, offer, &self.objects);
+        let place = seat as usize;
+        if place < self.visits.len()
+            && let Some(visit) = &mut self.visits[place]
+        {
+            visit.answers.reserve(1)?;
+            let (answer, kept, told) = thrice(&mut self.objects, op, choice)?;
+            visit.answers.push_reserved(answer);
+            return Ok((Reply::Acted(choice, kept), Reply::Acted(choice, told)));
+        }
+        unreachable!()
+    }
+
+    /// The request at a seat ends.
+    fn depart(&mut self, seat: u32, response: &Response, path: &Path) -> (Reply, Reply)
+        requires { MayCome self.old seat (asks.Depart response.now path.now) }
+        ensures { IsTaken seat (asks.Depart response.now path.now) self.old self.new (Ok result) }
+    {
+        let place = seat as usize;
+        if place < self.visits.len() {
+            self.visits[place] = None;
+        }
+        (Reply::Departed, Reply::Departed)
+    }
+}
+
+/// Puts a request at a seat.
+fn put_visit(visits: &mut Vec<Option<Visit>>, seat: u32, visit: Visit) -> Result<(), AllocError>
+    ensures put { OnOk result
+        (visit_at visits.new.items ≡ seated seat (Some visit) (visit_at visits.old.items)) }
+    ensures err { OnErr result (visits.new.items ≡ visits.old.items) }
+{
+    let place = seat as usize;
+    visits.reserve((place + 1).saturating_sub(visits.len()))?;
+    while visits.len() <= place {
+        visits.push_reserved(None);
+    }
+    visits[place] = Some(visit);
+    Ok(())
+}
+
+/// Does an operation that fits, with a choice that its object takes, and gives the answer three times.
+fn thrice(
+    objects: &mut ObjectSet,
+    op: &Op,
+    choice: Choice,
+) -> Result<(Value, Value, Value), AllocError>
+    requires fits { FitsSet objects.old op.now }
+    requires taken { takes op.now choice objects.old ≡ true }
+    ensures done { IfOk result (λ r. Does op.now choice objects.old objects.new r.0) }
+    ensures same { IfOk result (λ r. (r.1 ≡ r.0) × (r.2 ≡ r.0)) }
+    ensures err { OnErr result (objects.new ≡ objects.old) }
+{
+    match objects.apply_copies(op, choice, 3) {
+        Ok(mut answers) => match (answers.pop(), answers.pop(), answers.pop()) {
+            (Some(third), Some(second), Some(first)) => Ok((first, second, third)),
+            _ => unreachable!(),
+        },
+        Err(OrMemory::Memory) => Err(AllocError),
+        Err(OrMemory::Other(Refused)) => unreachable!(),
+    }
+}
+
+/// The choice that is made of an offer.
+fn choice_of(act: &Act, offer: Option<i64>, objects: &ObjectSet) -> Choice
+    ensures { result ≡ choice_of act.now offer (reading objects.now.clock) }
+{
+    let last = objects.clock();
+    match act {
+        Act::Now => offer.map_or(Choice::Nothing, |time| Choice::Number(time.max(last))),
+        Act::Roll(_) => offer.map_or(Choice::Nothing, Choice::Number),
+        Act::Read
+        | Act::Write(_)
+        | Act::Get(_)
+        | Act::Put(_, _)
+        | Act::Remove(_)
+        | Act::Transact(_) => Choice::Nothing,
+    }
+}

@@ -23,8 +23,9 @@ use Rattle.object_set.specs.Applied.{FitsSet, Does}
 use Rattle.object_set.specs.ObjectSets.{HeldObjects, IsSetOf, objects_of}
 use Rattle.object_set.proofs.Sets.{fits_set}
 use Rattle.history.specs.Recordings.{Recorded, Takes, IsTaken, MayCome, IsOffer, choice_of, greater}
-use Rattle.history.specs.Rooms.{Room, WantsNext, and_answer, seated}
-use Rattle.history.specs.Visits.{Visit, visit_at, visit_of}
+use Rattle.history.specs.Rooms.{Room, WantsNext, and_answer}
+use Rattle.history.specs.Seats.{at_seat, seated}
+use Rattle.history.specs.Visits.{Visit, visit_of}
 use Rattle.history.specs.declared.event.Event.TheVariants as asks
 use Rattle.history.specs.declared.event.Event.{Event}
 use Rattle.history.specs.declared.event.Reply.{Reply}
@@ -100,21 +101,21 @@ room_is o r s i = record { objects = o i; arrived = r i; open_at = s i }
 
 -- an operation that is done, with its answer kept
 pub acts : (old new : Recorded) (seat : ℕ) (op : Op) (offer : Option ℤ) (choice : Choice) (answer : Datum) (v : Visit)
-    → MayCome old seat (asks.Act op offer) → visit_at old.visits seat ≡ Some v → FitsSet old.objects op
+    → MayCome old seat (asks.Act op offer) → at_seat old.visits seat ≡ Some v → FitsSet old.objects op
     → choice ≡ choice_of op.act offer (reading old.objects.clock) → Does op choice old.objects new.objects answer
     → new.arrived ≡ old.arrived → new.program ≡ old.program
-    → visit_at new.visits ≡ seated seat (Some (visit_of v.rid v.request (v.answers ++ answer ∷ []))) (visit_at old.visits)
+    → at_seat new.visits ≡ seated seat (Some (visit_of v.rid v.request (v.answers ++ answer ∷ []))) (at_seat old.visits)
     → Takes old seat (asks.Act op offer) (Acted choice answer) new
 acts old new seat op offer choice answer v may here fit made does arrived program visits =
     let so : choice ≡ choice_of op.act offer (objects_of old.objects op.object) = made ∙ chosen old.objects op.object op.act offer fit in
     let does_so : Does op (choice_of op.act offer (objects_of old.objects op.object)) old.objects new.objects answer
     = subst (λ c. Does op c old.objects new.objects answer) so does in
-    let kept : and_answer (visit_at old.visits seat) answer ≡ Some (visit_of v.rid v.request (v.answers ++ answer ∷ []))
+    let kept : and_answer (at_seat old.visits seat) answer ≡ Some (visit_of v.rid v.request (v.answers ++ answer ∷ []))
     = ap (λ w. and_answer w answer) here in
     record {
       allowed = (may.0, taken old.objects op.object op.act offer fit may.1);
       replied = ap (λ c. Acted c answer) so ∙ ap (λ d. Acted (choice_of op.act offer (objects_of old.objects op.object)) d) does_so.answered;
-      left = room_is (λ i o. does_so.left o i) arrived (visits ∙ ap (λ w. seated seat w (visit_at old.visits)) (sym kept ∙ ap (λ d. and_answer (visit_at old.visits seat) d) does_so.answered));
+      left = room_is (λ i o. does_so.left o i) arrived (visits ∙ ap (λ w. seated seat w (at_seat old.visits)) (sym kept ∙ ap (λ d. and_answer (at_seat old.visits seat) d) does_so.answered));
       program = program;
     }
 

@@ -1,7 +1,11 @@
 pub mod Histories
+pub mod Names
+pub mod Naming
+pub mod Others
 pub mod Recordings
 pub mod RecordingView
 pub mod Rooms
 pub mod Seats
+pub mod TraceOf
 pub mod Visits
 pub mod VisitView

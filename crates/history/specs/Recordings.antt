@@ -11,7 +11,8 @@ use Rattle.script_tree.specs.declared.operation.Choice.{Choice}
 use Rattle.script_tree.specs.declared.operation.Choice.TheVariants.{Nothing, Number}
 use Rattle.object_set.specs.ObjectSets.{HeldObjects, objects_of, coded_objects}
 use Rattle.history.specs.Rooms.{Room, WantsNext, EndsWith, IsStep, onward}
-use Rattle.history.specs.Visits.{Visit, visit_at, coded_visit}
+use Rattle.history.specs.Seats.{at_seat}
+use Rattle.history.specs.Visits.{Visit, coded_visit}
 use Rattle.history.specs.declared.event.Event.{Event}
 use Rattle.history.specs.declared.event.Event.TheVariants as asks
 use Rattle.history.specs.declared.event.Reply.{Reply}
@@ -30,7 +31,7 @@ abbrev pub recorded : Program → HeldObjects → ℕ → List (Option Visit) �
 recorded program objects arrived visits = record { program = program; objects = objects; arrived = arrived; visits = visits }
 
 abbrev pub room_of : Recorded → Room
-room_of r = record { objects = objects_of r.objects; arrived = r.arrived; open_at = visit_at r.visits }
+room_of r = record { objects = objects_of r.objects; arrived = r.arrived; open_at = at_seat r.visits }
 
 -- how a proof stores it
 abbrev pub coded_recorded : Coded Recorded
@@ -86,7 +87,7 @@ MayFollow program here (asks.Act op offer) = WantsNext program here op × IsOffe
 MayFollow program here (asks.Depart response path) = EndsWith program here response path
 
 abbrev pub MayCome : Recorded → ℕ → Event → Type 0
-MayCome r seat event = MayFollow r.program (visit_at r.visits seat) event
+MayCome r seat event = MayFollow r.program (at_seat r.visits seat) event
 
 -- what happens by an event
 abbrev pub happening_at : Room → ℕ → Event → Happening

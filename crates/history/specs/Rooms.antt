@@ -1,5 +1,5 @@
 -- What requests do at the seats of a recorder, one step after the other.
-use Rattle.std.specs.Prelude.{◌≡◌, ℕ, suc, true, List, [], ◌∷◌, ◌++◌, Option, Some, None, nat_eq, if◌then◌else◌}
+use Rattle.std.specs.Prelude.{◌≡◌, ℕ, suc, true, List, [], ◌∷◌, ◌++◌, Option, Some, None}
 use Rattle.script_tree.specs.Datum.{Datum}
 use Rattle.script_tree.specs.Objects.{Objects, acted, plausible, holding}
 use Rattle.script_tree.specs.Programs.{Program}
@@ -8,6 +8,7 @@ use Rattle.script_tree.specs.declared.path.Path.{Path}
 use Rattle.script_tree.specs.declared.request.Response.{Response}
 use Rattle.script_meaning.specs.Conduct.{Wants, Ends}
 use Rattle.script_meaning.specs.Replay.{ending_of}
+use Rattle.history.specs.Seats.{seated}
 use Rattle.history.specs.Visits.{Visit, visit_of}
 use Rattle.history.specs.declared.happening.Happening.{Happening}
 use Rattle.history.specs.declared.happening.Happening.TheVariants.{Arrive, Act, Depart}
@@ -21,10 +22,6 @@ pub record Room : Type 0 where
 -- no request has arrived
 abbrev pub empty_room : Objects → Room
 empty_room objects = record { objects = objects; arrived = 0; open_at = λ seat. None }
-
--- this is at the seat
-abbrev pub seated : ℕ → Option Visit → (ℕ → Option Visit) → ℕ → Option Visit
-seated seat v open_at x = if nat_eq seat x then v else open_at x
 
 -- ---- steps that a program allows
 

@@ -1,5 +1,5 @@
 -- A request that is open at a seat.
-use Rattle.std.specs.Prelude.{ℕ, List, refl, Option, None, slice_index_or}
+use Rattle.std.specs.Prelude.{ℕ, List, refl}
 use Rattle.std.specs.Coded.{Coded, code_by, coded×, coded_ℕ}
 use Rattle.script_tree.specs.Datum.{Datum}
 use Rattle.script_tree.specs.DatumCode.{coded_data}
@@ -14,10 +14,6 @@ pub record Visit : Type 0 where
 
 abbrev pub visit_of : ℕ → Request → List Datum → Visit
 visit_of rid request answers = record { rid = rid; request = request; answers = answers }
-
--- the request at a seat, of those in a list by seat
-abbrev pub visit_at : List (Option Visit) → ℕ → Option Visit
-visit_at visits seat = slice_index_or visits seat None
 
 -- how a proof stores one
 abbrev pub coded_visit : Coded Visit

@@ -3,11 +3,11 @@ ghost use Rattle.script_tree.specs.Objects.{reading};
 ghost use Rattle.object_set.specs.Applied.{FitsSet, Does, takes};
 ghost use Rattle.object_set.specs.ObjectSets.{IsSetOf, objects_of};
 ghost use Rattle.history.specs.Recordings.{IsTaken, MayCome, room_of, choice_of};
-ghost use Rattle.history.specs.Rooms.{empty_room, seated};
-ghost use Rattle.history.specs.Visits.{visit_at};
+ghost use Rattle.history.specs.Rooms.{empty_room};
 ghost use Rattle.history.specs.declared.event.Event.TheVariants as asks;
 
 use crate::event::{Event, Reply};
+use crate::seats::put_at;
 use crate::visit::Visit;
 use basis::OrMemory;
 use object_set::{ObjectSet, Refused};
@@ -83,7 +83,7 @@ impl Recording {
         let rid = self.arrived;
         let arrived = rid.checked_add(1).ok_or(AllocError)?;
         let visit = Visit::new(self.alloc, rid, request.clone()?);
-        put_visit(&mut self.visits, seat, visit)?;
+        put_at(&mut self.visits, seat, visit)?;
         self.arrived = arrived;
         Ok((Reply::Arrived(rid), Reply::Arrived(rid)))
     }
@@ -117,21 +117,6 @@ impl Recording {
         }
         (Reply::Departed, Reply::Departed)
     }
-}
-
-/// Puts a request at a seat.
-fn put_visit(visits: &mut Vec<Option<Visit>>, seat: u32, visit: Visit) -> Result<(), AllocError>
-    ensures put { OnOk result
-        (visit_at visits.new.items ≡ seated seat (Some visit) (visit_at visits.old.items)) }
-    ensures err { OnErr result (visits.new.items ≡ visits.old.items) }
-{
-    let place = seat as usize;
-    visits.reserve((place + 1).saturating_sub(visits.len()))?;
-    while visits.len() <= place {
-        visits.push_reserved(None);
-    }
-    visits[place] = Some(visit);
-    Ok(())
 }
 
 /// Does an operation that fits, with a choice that its object takes, and gives the answer three times.

@@ -3,8 +3,9 @@ use Rattle.std.specs.Prelude.{slice_set}
 use Rattle.script_tree.specs.Objects.{plausible}
 use Rattle.object_set.specs.ObjectSets.{objects_of}
 use Rattle.history.specs.Recordings.{MayCome}
-use Rattle.history.specs.Rooms.{WantsNext, seated}
-use Rattle.history.specs.Visits.{visit_at, visit_of}
+use Rattle.history.specs.Rooms.{WantsNext}
+use Rattle.history.specs.Seats.{at_seat, seated}
+use Rattle.history.specs.Visits.{visit_of}
 use Rattle.history.specs.declared.event.Event.TheVariants as asks
 use Rattle.history.specs.declared.event.Reply.TheVariants.{Acted}
 use Rattle.history.specs.VisitView.{visit_in}
@@ -15,7 +16,7 @@ use Rattle.history.proofs.recording.Recording.act.Goals as goal
 
 pub thrice-requires-clause-fits : goal.thrice-requires-clause-fits
 thrice-requires-clause-fits c =
-    let here : visit_at c.self.inside.visits.items c.args.seat ≡ Some (visit_in c.visit.inside)
+    let here : at_seat c.self.inside.visits.items c.args.seat ≡ Some (visit_in c.visit.inside)
     = there c.self.inside.visits.items c.args.seat _ (omega arith) c.index_mut.ensures.value ∙ c.in-Some.is ∙ ap Some (sym c.visit.view_is) in
     let may : MayCome (recorded_in c.self.inside) c.args.seat (asks.Act c.args.op.now c.args.offer)
     = subst (λ r. MayCome r c.args.seat (asks.Act c.args.op.now c.args.offer)) (sym c.self.view_is) c.requires in
@@ -33,17 +34,17 @@ thrice-requires-clause-taken c =
 
 pub returns : goal.returns
 returns c =
-    let here : visit_at c.self.inside.visits.items c.args.seat ≡ Some (visit_in c.visit.inside)
+    let here : at_seat c.self.inside.visits.items c.args.seat ≡ Some (visit_in c.visit.inside)
     = there c.self.inside.visits.items c.args.seat _ (omega arith) c.index_mut.ensures.value ∙ c.in-Some.is ∙ ap Some (sym c.visit.view_is) in
     let may : MayCome (recorded_in c.self.inside) c.args.seat (asks.Act c.args.op.now c.args.offer)
     = subst (λ r. MayCome r c.args.seat (asks.Act c.args.op.now c.args.offer)) (sym c.self.view_is) c.requires in
     let fit = wanted_fits c.self.inside.program.value c.self.inside.objects (visit_in c.visit.inside) c.args.op.now c.self.invariant.objects c.self.invariant.valid
     c.visit.invariant (subst (λ h. WantsNext c.self.inside.program.value h c.args.op.now) here may.0) in
     let inside = c.self.inside in
-    let answered : visit_at (slice_set inside.visits.items c.args.seat (Some (visit_of c.visit.inside.rid c.visit.inside.request.value c.push_reserved.new.self.items)))
-    ≡ seated c.args.seat (Some (visit_of c.visit.inside.rid c.visit.inside.request.value (c.visit.inside.answers.items ++ c.in_ok-answer.answer ∷ []))) (visit_at inside.visits.items)
+    let answered : at_seat (slice_set inside.visits.items c.args.seat (Some (visit_of c.visit.inside.rid c.visit.inside.request.value c.push_reserved.new.self.items)))
+    ≡ seated c.args.seat (Some (visit_of c.visit.inside.rid c.visit.inside.request.value (c.visit.inside.answers.items ++ c.in_ok-answer.answer ∷ []))) (at_seat inside.visits.items)
     = set_seated inside.visits.items c.args.seat _ (omega arith)
-    ∙ ap (λ ds. seated c.args.seat (Some (visit_of c.visit.inside.rid c.visit.inside.request.value ds)) (visit_at inside.visits.items))
+    ∙ ap (λ ds. seated c.args.seat (Some (visit_of c.visit.inside.rid c.visit.inside.request.value ds)) (at_seat inside.visits.items))
     (c.push_reserved.ensures.items ∙ ap (λ ds. ds ++ c.in_ok-answer.answer ∷ []) c.reserve.ensures.items) in
     let step = acts (recorded_in inside) _ c.args.seat c.args.op.now c.args.offer c.choice_of-choice.result c.in_ok-answer.answer (visit_in c.visit.inside)
     may here fit c.choice_of-choice.ensures

@@ -1,0 +1,46 @@
+//! A request arrives and its history has a trace.
+
+use crate::event::{Event, Reply};
+use crate::happening::history_of;
+use crate::recorder::Recorder;
+use crate::recording::Recording;
+use crate::trace::trace_of;
+use desk::{Bench, Call};
+use object_set::ObjectSet;
+use script_check::program::check;
+use script_tree::request::{Parameters, Request};
+use script_tree::syntax::declaration::Tree;
+use script_tree::text::Text;
+use script_tree::trace::TraceEvent;
+use std::alloc::Global;
+use std::sync::Arc;
+use std::test::Fail;
+
+fn request(alloc: Global) -> Result<Arc<Request>, Fail> {
+    let text = Text::from_vec(b"/hit".to_vec(alloc)?);
+    let none = || Text::from_vec(Vec::new(alloc));
+    let request = Request::new(none(), text, Parameters::new(alloc), none()).ok_or("a request")?;
+    Ok(Arc::new(alloc, request)?)
+}
+
+#[test]
+fn an_arrival(rt: HostRuntime) -> Result<(), Fail> {
+    let alloc = rt.alloc();
+    let program = check(alloc, Tree::new(alloc)).ok().ok_or("a program")?;
+    let objects = ObjectSet::new(alloc, program.declarations())?;
+    let mut recording = Recording::new(alloc, Arc::new(alloc, program)?, objects);
+    let event = Event::Arrive(request(alloc)?);
+    let (reply, told) = Recorder::step(&mut recording, 3, &event)?;
+    assert!(rt; matches!(told, Reply::Arrived(0)));
+    let mut calls = Vec::new(alloc);
+    calls.push(Call {
+        seat: 3,
+        event,
+        reply,
+    })?;
+    let history = history_of(alloc, calls)?;
+    let trace = trace_of(alloc, &history)?;
+    assert_eq!(rt; trace.len(), 1);
+    assert!(rt; matches!(trace.as_slice().first(), Some(TraceEvent::Asked(0, _))));
+    Ok(())
+}

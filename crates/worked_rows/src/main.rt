@@ -3,9 +3,15 @@
 #![tactic(auto)]
 
 mod files;
+mod fitting;
+mod machines;
+mod open_run;
 mod rows;
 mod runs;
+mod same;
+mod stopped_run;
 
+use machines::compare;
 use rows::Rows;
 use runs::{checked, replayed};
 use std::alloc::Global;
@@ -13,6 +19,9 @@ use std::fs;
 
 /// The files of rows.
 const FILES: [&str; 2] = ["checks.toml", "replays.toml"];
+
+/// How the end of a replay that agrees begins.
+const AGREES: &str = "0 agrees";
 
 /// Tells whether the row ends as it should, and prints it where it doesn't.
 fn is_as_wanted(rt: &impl Print, what: &str, wanted: &str, ended: &str) -> anyhow::Result<bool> {
@@ -40,6 +49,22 @@ fn differing(rt: &impl Print, alloc: Global, rows: &Rows) -> anyhow::Result<usiz
     Ok(count)
 }
 
+/// How many replays of these rows agree, and how many of those the machine doesn't run as the walker does.
+fn by_machine(rt: &impl Print, alloc: Global, rows: &Rows) -> anyhow::Result<(usize, usize)> {
+    let mut count = 0usize;
+    let mut differ = 0usize;
+    for row in &rows.replays {
+        if row.ends.as_str().starts_with(AGREES) {
+            count = count.saturating_add(1);
+            if let Err(error) = compare(alloc, row) {
+                println!(rt; "{} by the machine: {error:#}", row.what)?;
+                differ = differ.saturating_add(1);
+            }
+        }
+    }
+    Ok((count, differ))
+}
+
 fn main(rt: HostRuntime) -> anyhow::Result<()> {
     let alloc = rt.alloc();
     for name in FILES {
@@ -48,6 +73,10 @@ fn main(rt: HostRuntime) -> anyhow::Result<()> {
         let count = rows.checks.len().saturating_add(rows.replays.len());
         let differ = differing(&rt, alloc, &rows)?;
         println!(rt; "{name}: {count} rows, {differ} differ")?;
+        if !rows.replays.is_empty() {
+            let (count, differ) = by_machine(&rt, alloc, &rows)?;
+            println!(rt; "{name}: {count} rows by the machine, {differ} differ")?;
+        }
     }
     Ok(())
 }

@@ -35,8 +35,21 @@ pub struct ReplayRow {
     pub schedule: String,
     /// A part, and how often it stands in place of each `…` of the program, the state and the responses.
     pub repeat: Option<(String, usize)>,
+    /// The path of each of its requests, where it is given.
+    pub path: Option<PathRow>,
     /// The status and the line with which it ends.
     pub ends: String,
+}
+
+/// A path that ends normally.
+#[derive(Drop, Deserialize)]
+#[serde(deny_unknown_fields)]
+pub struct PathRow {
+    /// The page's number; none where it isn't given.
+    pub page: Option<u32>,
+    pub steps: u32,
+    /// Any decisions, where they aren't given.
+    pub decisions: Option<Vec<bool>>,
 }
 
 /// A request, which has a path, or a response. The id is 0 where it isn't given.

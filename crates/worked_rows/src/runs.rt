@@ -6,6 +6,15 @@ use commands::words::Words;
 use outside::{FixedClock, MemHouse, MemShelf, MemSink, OpenGate};
 use std::alloc::Global;
 
+/// The names of the files of a replay.
+pub const PROGRAM: &str = "program";
+
+pub const STATE: &str = "state";
+
+pub const TRACE: &str = "trace";
+
+pub const SCHEDULE: &str = "schedule";
+
 /// The status and the line with which the program ends, with these words and over these files.
 fn ended(alloc: Global, texts: &[&str], shelf: &mut MemShelf) -> anyhow::Result<String> {
     let mut words = Words::new(alloc);
@@ -30,18 +39,24 @@ fn ended(alloc: Global, texts: &[&str], shelf: &mut MemShelf) -> anyhow::Result<
 pub fn checked(alloc: Global, row: &CheckRow) -> anyhow::Result<String> {
     let mut shelf = MemShelf::new(alloc, Vec::new(alloc));
     let program = repeated(alloc, row.program.as_str(), &row.repeat)?;
-    shelf.put("program", program.as_bytes())?;
-    ended(alloc, &["check", "program"], &mut shelf)
+    shelf.put(PROGRAM, program.as_bytes())?;
+    ended(alloc, &["check", PROGRAM], &mut shelf)
+}
+
+/// The files of a replay.
+pub fn replay_shelf(alloc: Global, row: &ReplayRow) -> anyhow::Result<MemShelf> {
+    let mut shelf = MemShelf::new(alloc, Vec::new(alloc));
+    let program = repeated(alloc, row.program.as_str(), &row.repeat)?;
+    shelf.put(PROGRAM, program.as_bytes())?;
+    let state = row.state.as_ref().map_or("{}", |state| state.as_str());
+    shelf.put(STATE, repeated(alloc, state, &row.repeat)?.as_bytes())?;
+    shelf.put(TRACE, &trace_of(alloc, &row.trace, &row.repeat)?)?;
+    shelf.put(SCHEDULE, &schedule_of(alloc, row.schedule.as_str())?)?;
+    Ok(shelf)
 }
 
 pub fn replayed(alloc: Global, row: &ReplayRow) -> anyhow::Result<String> {
-    let mut shelf = MemShelf::new(alloc, Vec::new(alloc));
-    let program = repeated(alloc, row.program.as_str(), &row.repeat)?;
-    shelf.put("program", program.as_bytes())?;
-    let state = row.state.as_ref().map_or("{}", |state| state.as_str());
-    shelf.put("state", repeated(alloc, state, &row.repeat)?.as_bytes())?;
-    shelf.put("trace", &trace_of(alloc, &row.trace, &row.repeat)?)?;
-    shelf.put("schedule", &schedule_of(alloc, row.schedule.as_str())?)?;
-    let words = ["replay", "program", "state", "trace", "schedule"];
+    let mut shelf = replay_shelf(alloc, row)?;
+    let words = ["replay", PROGRAM, STATE, TRACE, SCHEDULE];
     ended(alloc, &words, &mut shelf)
 }

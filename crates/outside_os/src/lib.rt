@@ -2,11 +2,13 @@
 //! a stream, holds is for the system to say.
 #![tactic(auto)]
 
+pub mod clock;
 mod fault;
 pub mod shelf;
 pub mod sink;
 #[cfg(test)]
 mod tests;
 
+pub use clock::SystemClock;
 pub use shelf::FileShelf;
 pub use sink::{StdSink, StreamSink};

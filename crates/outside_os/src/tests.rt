@@ -1,6 +1,6 @@
 //! The real files and the real streams, each call through its trait's bound.
 use crate::*;
-use outside::{Fault, Shelf, ShelfFault, Sink};
+use outside::{Clock, Fault, Shelf, ShelfFault, Sink};
 use std::io::{Read, Write};
 use std::os::fd::AsRawFd;
 use std::process::Abort;
@@ -103,5 +103,13 @@ fn sinks(rt: HostRuntime) -> Result<(), Fail> {
     assert_eq!(rt; out.write(b"lost"), Err(Fault::Failed));
     assert_eq!(rt; out.faults, 1);
     writes(&rt, &mut StdSink::new(rt.stdout()), b"written\n");
+    Ok(())
+}
+
+/// The reading is past the year 2023.
+#[test]
+fn clock(rt: HostRuntime) -> Result<(), Fail> {
+    let clock = SystemClock::new(rt.clone()?);
+    assert!(rt; clock.now() > 1_700_000_000_000);
     Ok(())
 }

@@ -1,0 +1,17 @@
+//! The key stream of ChaCha8 under a key of zeros, stream 0: the test vectors of
+//! draft-strombergson-chacha-test-vectors begin with the bytes 3e00ef2f 895f40d6 7f5bb8e8 1f09a5a1.
+
+use crate::Dice;
+use std::test::Fail;
+
+/// A bound that leaves of two words the second.
+const LOW: u64 = 1 << 32;
+
+#[test]
+fn zeros(rt: HostRuntime) -> Result<(), Fail> {
+    let mut dice = Dice::new(0, 0);
+    assert_eq!(rt; dice.roll(LOW), 0xd640_5f89);
+    assert_eq!(rt; dice.roll(LOW), 0xa1a5_091f);
+    assert_eq!(rt; Dice::new(0, 0).roll(u64::MAX), 0x2fef_003e_d640_5f89);
+    Ok(())
+}

@@ -7,7 +7,7 @@ ghost use Rattle.history.specs.Rooms.{empty_room};
 ghost use Rattle.history.specs.declared.event.Event.TheVariants as asks;
 
 use crate::event::{Event, Reply};
-use crate::seats::put_at;
+use crate::seats::{clear_at, put_at};
 use crate::visit::Visit;
 use basis::OrMemory;
 use object_set::{ObjectSet, Refused};
@@ -53,6 +53,7 @@ impl Recording {
         ensures objects { result.objects ≡ objects }
         ensures room { room_of result ≡ empty_room (objects_of objects) }
     {
+        // It tells that the program is valid.
         program.declarations();
         Recording {
             alloc,
@@ -111,10 +112,7 @@ impl Recording {
         requires { MayCome self.old seat (asks.Depart response.now path.now) }
         ensures { IsTaken seat (asks.Depart response.now path.now) self.old self.new (Ok result) }
     {
-        let place = seat as usize;
-        if place < self.visits.len() {
-            self.visits[place] = None;
-        }
+        clear_at(&mut self.visits, seat);
         (Reply::Departed, Reply::Departed)
     }
 }

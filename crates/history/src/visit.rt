@@ -34,6 +34,7 @@ impl Visit {
     pub(crate) fn new(alloc: Global, rid: u64, request: Arc<Request>) -> Visit
         ensures { result ≡ visit_of rid request.value [] }
     {
+        // It tells that the request is within the limits.
         request.keeps_limits();
         Visit {
             rid,

@@ -18,12 +18,12 @@ told room seat (Arrive request) reply is = refl
 told room seat (Act op offer) reply is = ap (λ r. did.Act seat op (choice_in r)) is
 told room seat (Depart response path) reply is = refl
 
-pub legal : RunsAreLegal
-legal old new [] runs = record { legal = tt; left = ap room_of (sym runs) }
-legal old new (call ∷ calls) (middle, step, runs) =
+recorded : (old new : Recorded) (calls : List (Call Event Reply)) → Runs Takes old calls new → IsRecorded old calls new
+recorded old new [] runs = record { legal = tt; left = ap room_of (sym runs) }
+recorded old new (call ∷ calls) (middle, step, runs) =
     let h = happening_in call in
     let is : happening_in call ≡ happening_at (room_of old) call.seat call.event = told (room_of old) call.seat call.event call.reply step.replied in
-    let rest = legal middle new calls runs in
+    let rest = recorded middle new calls runs in
     let next : room_of middle ≡ onward (room_of old) h = step.left ∙ ap (onward (room_of old)) (sym is) in
     record {
       legal = (
@@ -32,3 +32,9 @@ legal old new (call ∷ calls) (middle, step, runs) =
       );
       left = rest.left ∙ ap (λ room. room_after room (history_of calls)) next;
     }
+
+pub legal : RunsAreLegal
+legal = record {
+  steps = recorded;
+  histories = λ old new start calls fresh runs. subst (λ room. AreSteps old.program room (history_of calls)) fresh (recorded old new calls runs).legal;
+}

@@ -1,12 +1,12 @@
 -- The history that a recorder's calls are, and the law that it is legal.
 use Rattle.std.specs.Prelude.{◌≡◌, ℕ, List, map}
-use Rattle.script_tree.specs.Programs.{Program}
+use Rattle.script_tree.specs.Objects.{Objects}
 use Rattle.script_tree.specs.declared.operation.Choice.{Choice}
 use Rattle.script_tree.specs.declared.operation.Choice.TheVariants.{Nothing}
 use Rattle.desk.specs.Runs.{Runs}
 use Rattle.desk.specs.declared.bench.Call.{Call}
 use Rattle.history.specs.Recordings.{Recorded, room_of, Takes}
-use Rattle.history.specs.Rooms.{AreSteps, room_after}
+use Rattle.history.specs.Rooms.{AreSteps, IsLegal, empty_room, room_after}
 use Rattle.history.specs.declared.event.Event.{Event}
 use Rattle.history.specs.declared.event.Event.TheVariants as asks
 use Rattle.history.specs.declared.event.Reply.{Reply}
@@ -36,5 +36,9 @@ pub record IsRecorded (old : Recorded) (calls : List (Call Event Reply)) (new : 
   pub legal : AreSteps old.program (room_of old) (history_of calls)
   pub left : room_of new ≡ room_after (room_of old) (history_of calls)
 
-abbrev pub RunsAreLegal : Type 0
-RunsAreLegal = (old new : Recorded) (calls : List (Call Event Reply)) → Runs Takes old calls new → IsRecorded old calls new
+pub record RunsAreLegal : Type 0 where
+  pub steps : (old new : Recorded) (calls : List (Call Event Reply)) → Runs Takes old calls new → IsRecorded old calls new
+  -- from a start on, at which no request has arrived
+  pub histories :
+      (old new : Recorded) (start : Objects) (calls : List (Call Event Reply)) → room_of old ≡ empty_room start → Runs Takes old calls new
+      → IsLegal old.program start (history_of calls)

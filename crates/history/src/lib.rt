@@ -1,4 +1,4 @@
-//! What happens while requests are answered, and the trace and the report of it.
+//! What happens while requests are answered, and the trace of it.
 #![tactic(auto)]
 
 pub mod event;

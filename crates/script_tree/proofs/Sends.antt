@@ -60,17 +60,39 @@ changes_field = as_row_send (Items.the_field Change.the_row) (items.the_send Cha
 -- of an enum, variant by variant
 statement : IsSend Statement.the_row
 statement = variants_send Statement.enum (
-  (number_field, (list_field, tt)), ((number_field, (columns_field, (tests_field, tt))),
-  ((number_field, (changes_field, (tests_field, tt))), ((number_field, (tests_field, tt)),
-  ((signed_field, (number_field, (tests_field, tt))), tt)))))
+  (number_field, (list_field, tt)),
+  (
+    (number_field, (columns_field, (tests_field, tt))),
+    (
+      (number_field, (changes_field, (tests_field, tt))),
+      (
+        (number_field, (tests_field, tt)),
+        ((signed_field, (number_field, (tests_field, tt))), tt),
+      ),
+    ),
+  ),
+)
 
 statements_field : IsSend (as_row (Items.the_field Statement.the_row))
 statements_field = as_row_send (Items.the_field Statement.the_row) (items.the_send Statement.the_row statement)
 
 act : IsSend Act.the_row
 act = variants_send Act.enum (
-  tt, ((value_field, tt), ((text_field, tt), ((text_field, (value_field, tt)), ((text_field, tt),
-  ((statements_field, tt), (tt, ((signed_field, tt), tt))))))))
+  tt,
+  (
+    (value_field, tt),
+    (
+      (text_field, tt),
+      (
+        (text_field, (value_field, tt)),
+        (
+          (text_field, tt),
+          ((statements_field, tt), (tt, ((signed_field, tt), tt))),
+        ),
+      ),
+    ),
+  ),
+)
 
 pub op : IsSend Op.the_row
 op = declared_send Op.the_type (objects.the_send, (act, tt))

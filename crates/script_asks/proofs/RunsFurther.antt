@@ -1,6 +1,8 @@
--- A run with one answer more goes as before up to where that answer is taken; and without answers it takes none.
-use Rattle.std.proofs.Common.{◌≡◌, ◌≢◌, ℕ, zero, suc, ◌+◌, Bool, true, false, cond, List, [], ◌∷◌, ◌++◌, length, Option, Some, None, Result, Ok, Err, refl, sym, subst}
+-- A run with one answer more goes as before up to where that answer is taken; without answers it takes none; and it counts each
+-- operation that it asks for.
+use Rattle.std.proofs.Common.{◌≡◌, ◌≢◌, ℕ, zero, suc, ◌+◌, ◌<◌, ◌≤◌, Bool, true, false, cond, List, [], ◌∷◌, ◌++◌, length, Option, Some, None, Result, Ok, Err, refl, sym, subst, arith}
 use Rattle.std.specs.Prelude.{◌==◌, nat_lt}
+use Rattle.std.proofs.lemmas.Bool.{eqb-false}
 use Rattle.script_tree.specs.Datum as v
 use Rattle.script_tree.specs.Datum.{Datum, is_within_limits}
 use Rattle.script_tree.specs.Declarations.{NumberedPage, NumberedTable, DeclaredFunction, Callee, own, built, unknown, callee_in, page_in, table_in}
@@ -40,13 +42,63 @@ GoesFurther d (stops (wants op) p) o = left_of o ≡ []
 GoesFurther d (stops (fault f) p) o = o ≡ stops (fault f) (with_answer d p)
 GoesFurther d (stops answer_fault p) o = o ≡ stops answer_fault (with_answer d p)
 
+-- the operations that are counted and the answers that are left, together
+abbrev both : Progress → ℕ
+both p = p.operations + length p.answers
+
+-- where the two came to so many before: each operation takes an answer, but the one that is wanted
+abbrev Counts : {A : Type 0} → ℕ → Outcome A → Type 0
+Counts n (goes a p) = (both p ≡ n) × (p.operations ≤ MOST_OPERATIONS)
+Counts n (stops (wants op) p) = n < MOST_OPERATIONS
+Counts n (stops (fault f) p) = Unit {0}
+Counts n (stops answer_fault p) = Unit {0}
+
+abbrev IsCounted : {A : Type 0} → Run A → Type 0
+IsCounted m = (p : Progress) → p.operations ≤ MOST_OPERATIONS → Counts (both p) (m p)
+
+counts_on : {A B : Type 0} (n : ℕ) (f : A → Run B) → ((a : A) → IsCounted (f a)) → (r : Outcome A) → Counts n r → Counts n (after r f)
+counts_on n f h (goes a p) c = subst (λ k. Counts k (f a p)) c.0 (h a p c.1)
+counts_on n f h (stops (wants op) p) c = c
+counts_on n f h (stops (fault x) p) c = tt
+counts_on n f h (stops answer_fault p) c = tt
+
+answer_counts : (op : Op) (as' : List Datum) (p : Progress) → suc (p.operations) ≤ MOST_OPERATIONS → p.answers ≡ as'
+    → Counts (both p) (answered op as' (record p { operations = p.operations + 1; costs = last_issuing p.costs }))
+answer_counts op [] p l e = subst (λ xs. p.operations + length xs < MOST_OPERATIONS) (sym e) (omega (arith, l))
+answer_counts op (x ∷ xs) p l e = by (is_within_limits x)
+  where
+    q : Progress
+    q = record p { operations = p.operations + 1; costs = last_issuing p.costs; answers = xs; trail = p.trail ++ issued op ∷ [] }
+
+    by : (b : Bool) → Counts (both p) (cond b (goes x q) (stops answer_fault q))
+    by true = (subst (λ ys. p.operations + 1 + length xs ≡ p.operations + length ys) (sym e) (omega arith), omega (arith, l))
+    by false = tt
+
+abbrev count_outcome : Progress → Bool → Outcome (Unit {0})
+count_outcome p b = cond b (stops (fault TooManyOperations) p) (goes tt (record p { operations = p.operations + 1; costs = last_issuing p.costs }))
+
+issue_outcome : (op : Op) (p : Progress) → p.operations ≤ MOST_OPERATIONS → (b : Bool) → (p.operations == MOST_OPERATIONS) ≡ b
+    → Counts (both p) (after (count_outcome p b) (λ _. λ q. answered op q.answers q))
+issue_outcome op p l true e = tt
+issue_outcome op p l false e = answer_counts op p.answers p (below (eqb-false p.operations MOST_OPERATIONS e)) refl
+  where
+    below : (p.operations ≡ MOST_OPERATIONS → ⊥) → suc p.operations ≤ MOST_OPERATIONS
+    below apart = omega (arith, l, apart)
+
+issue_counts : (op : Op) → IsCounted (count_operation >> λ p. answered op p.answers p)
+issue_counts op p l = issue_outcome op p l (p.operations == MOST_OPERATIONS) refl
+
 module _ (d : Datum) where
-  pub record IsSteady {A : Type 0} (m : Run A) : Type 0 where
+  pub record IsFurther {A : Type 0} (m : Run A) : Type 0 where
     pub further : (p : Progress) → GoesFurther d (m p) (m (with_answer d p))
     pub none_left : (p : Progress) → p.answers ≡ [] → left_of (m p) ≡ []
 
-  bind : {A B : Type 0} (m : Run A) (f : A → Run B) → IsSteady m → ((a : A) → IsSteady (f a)) → IsSteady (m >>= f)
-  bind {A} {B} m f g h = record {
+  pub record IsSteady {A : Type 0} (m : Run A) : Type 0 where
+    pub on : IsFurther m
+    pub counts : IsCounted m
+
+  on_further : {A B : Type 0} (m : Run A) (f : A → Run B) → IsFurther m → ((a : A) → IsFurther (f a)) → IsFurther (m >>= f)
+  on_further {A} {B} m f g h = record {
     further = λ p. by (m p) (m (with_answer d p)) (g.further p);
     none_left = λ p e. no (m p) (g.none_left p e);
   }
@@ -61,14 +113,17 @@ module _ (d : Datum) where
       by (stops (fault x) q) s e = subst (λ y. GoesFurther d (stops (fault x) q) (after y f)) (sym e) refl
       by (stops answer_fault q) s e = subst (λ y. GoesFurther d (stops answer_fault q) (after y f)) (sym e) refl
 
+  bind : {A B : Type 0} (m : Run A) (f : A → Run B) → IsSteady m → ((a : A) → IsSteady (f a)) → IsSteady (m >>= f)
+  bind m f g h = record { on = on_further m f g.on (λ a. (h a).on); counts = λ p l. counts_on (both p) f (λ a. (h a).counts) (m p) (g.counts p l) }
+
   then : {A B : Type 0} (m : Run A) (n : Run B) → IsSteady m → IsSteady n → IsSteady (m >> n)
   then m n g h = bind m (λ _. n) g (λ _. h)
 
   gives : {A : Type 0} (a : A) → IsSteady (give a)
-  gives a = record { further = λ p. refl; none_left = λ p e. e }
+  gives a = record { on = record { further = λ p. refl; none_left = λ p e. e }; counts = λ p l. (refl, l) }
 
   failing : {A : Type 0} (f : ScriptFault) → IsSteady {A = A} (fails f)
-  failing f = record { further = λ p. refl; none_left = λ p e. e }
+  failing f = record { on = record { further = λ p. refl; none_left = λ p e. e }; counts = λ p l. tt }
 
   unless : {A : Type 0} (r : Result A ScriptFault) → IsSteady (unless_fault r)
   unless (Ok a) = gives a
@@ -89,11 +144,15 @@ module _ (d : Datum) where
   charge_none c p e true = e
   charge_none c p e false = e
 
-  charged : (c : Cost) → IsSteady (charge c)
-  charged c = record { further = λ p. charge_further c p (p.steps == MOST_STEPS); none_left = λ p e. charge_none c p e (p.steps == MOST_STEPS) }
+  charge_counts : (c : Cost) (p : Progress) → p.operations ≤ MOST_OPERATIONS → (b : Bool) → Counts (both p) (charge_outcome c p b)
+  charge_counts c p l true = tt
+  charge_counts c p l false = (refl, l)
 
-  abbrev count_outcome : Progress → Bool → Outcome (Unit {0})
-  count_outcome p b = cond b (stops (fault TooManyOperations) p) (goes tt (record p { operations = p.operations + 1; costs = last_issuing p.costs }))
+  charged : (c : Cost) → IsSteady (charge c)
+  charged c = record {
+    on = record { further = λ p. charge_further c p (p.steps == MOST_STEPS); none_left = λ p e. charge_none c p e (p.steps == MOST_STEPS) };
+    counts = λ p l. charge_counts c p l (p.steps == MOST_STEPS);
+  }
 
   count_further : (p : Progress) (b : Bool) → GoesFurther d (count_outcome p b) (count_outcome (with_answer d p) b)
   count_further p true = refl
@@ -103,7 +162,7 @@ module _ (d : Datum) where
   count_none p e true = e
   count_none p e false = e
 
-  counted : IsSteady count_operation
+  counted : IsFurther count_operation
   counted = record { further = λ p. count_further p (p.operations == MOST_OPERATIONS); none_left = λ p e. count_none p e (p.operations == MOST_OPERATIONS) }
 
   -- an answer that is taken
@@ -126,15 +185,18 @@ module _ (d : Datum) where
   answer_none op [] p e f = e
   answer_none op (x ∷ xs) p e f = absurd cc
 
-  takes_answer : (op : Op) → IsSteady (λ p. answered op p.answers p)
+  takes_answer : (op : Op) → IsFurther (λ p. answered op p.answers p)
   takes_answer op = record { further = λ p. answer_further op p.answers p refl; none_left = λ p e. answer_none op p.answers p refl e }
 
   issued_well : (op : OpAnswer) → IsSteady (issue_unless_fault op)
   issued_well (Err f) = failing f
-  issued_well (Ok op) = then count_operation (λ p. answered op p.answers p) counted (takes_answer op)
+  issued_well (Ok op) = record {
+    on = on_further count_operation (λ _. λ p. answered op p.answers p) counted (λ _. takes_answer op);
+    counts = issue_counts op;
+  }
 
   decided : (whole x : Datum) → IsSteady (decide_by whole x)
-  decided whole x = bind (charge_for whole) _ (charged (taking (whole ∷ []))) (λ _. bind (unless_fault (bool_in x)) _ (unless (bool_in x)) (λ b. record { further = λ p. refl; none_left = λ p e. e }))
+  decided whole x = bind (charge_for whole) _ (charged (taking (whole ∷ []))) (λ _. bind (unless_fault (bool_in x)) _ (unless (bool_in x)) (λ b. record { on = record { further = λ p. refl; none_left = λ p e. e }; counts = λ p l. (refl, l) }))
 
   noded : (ds : List Datum) (a : Answer) → IsSteady (node ds a)
   noded ds a = then (charge (taking ds)) (unless_fault a) (charged (taking ds)) (unless a)
@@ -245,10 +307,17 @@ module _ (d : Datum) where
     print_none bytes p e true = e
     print_none bytes p e false = e
 
+    print_counts : (bytes : List ℕ) (p : Progress) → p.operations ≤ MOST_OPERATIONS → (b : Bool) → Counts (both p) (print_outcome bytes p b)
+    print_counts bytes p l true = tt
+    print_counts bytes p l false = (refl, l)
+
     printed_steady : (x : Datum) → IsSteady (print_value x)
     printed_steady x = bind (unless_fault (printed x)) print (unless (printed x)) (λ bytes. record {
-      further = λ p. print_further bytes p (nat_lt MOST_BODY_BYTES (length (p.body ++ bytes)));
-      none_left = λ p e. print_none bytes p e (nat_lt MOST_BODY_BYTES (length (p.body ++ bytes)));
+      on = record {
+        further = λ p. print_further bytes p (nat_lt MOST_BODY_BYTES (length (p.body ++ bytes)));
+        none_left = λ p e. print_none bytes p e (nat_lt MOST_BODY_BYTES (length (p.body ++ bytes)));
+      };
+      counts = λ p l. print_counts bytes p l (nat_lt MOST_BODY_BYTES (length (p.body ++ bytes)));
     })
 
     module _ (depth : ℕ) where
@@ -273,7 +342,7 @@ module _ (d : Datum) where
             bind (eval w later depth vs e) _ (eval_steady depth vs e) (λ y. turns_of_steady y x.text (block w later depth body) (λ us. block_steady body us) vs (list_in y))
         exec_steady (echo at e) vs = spent vs e _ (λ y. bind (print_value y) (λ _. give (on vs)) (printed_steady y) (λ _. gives (on vs)))
         exec_steady (status at e) vs =
-            spent vs e _ (λ y. bind (unless_fault (status_in y)) (λ n. set_status n >>= λ _. give (on vs)) (unless (status_in y)) (λ n. record { further = λ p. refl; none_left = λ p h. h }))
+            spent vs e _ (λ y. bind (unless_fault (status_in y)) (λ n. set_status n >>= λ _. give (on vs)) (unless (status_in y)) (λ n. record { on = record { further = λ p. refl; none_left = λ p h. h }; counts = λ p l. (refl, l) }))
         exec_steady (return at e) vs = spent vs e _ (λ y. gives (back y))
         exec_steady (do_ at e) vs = spent vs e _ (λ y. gives (on vs))
 
@@ -320,7 +389,7 @@ module _ (program : Program) (request : Request) where
   first_on : (o : Option NumberedPage) → (on_page program request [] o).ending ≢ Undefined
   first_on None = λ h. cc
   first_on (Some page) = ended_defined page.number (run setting (MOST_STEPS + 1) 0 (statements_of page.body) [] (start []))
-      ((run_steady v.null setting (MOST_STEPS + 1) 0 (statements_of page.body) []).none_left (start []) refl)
+      ((run_steady v.null setting (MOST_STEPS + 1) 0 (statements_of page.body) []).on.none_left (start []) refl)
 
   pub defined_first : (conduct program request []).ending ≢ Undefined
   defined_first = first_on (page_in program request.path)
@@ -329,7 +398,21 @@ module _ (program : Program) (request : Request) where
       → (on_page program request (answers ++ d ∷ []) o).ending ≢ Undefined
   next_on answers d op None e = absurd (wish_is answers _ _ op e)
   next_on answers d op (Some page) e = further_defined d page.number op (run setting (MOST_STEPS + 1) 0 (statements_of page.body) [] (start answers)) _
-      ((run_steady d setting (MOST_STEPS + 1) 0 (statements_of page.body) []).further (start answers)) e
+      ((run_steady d setting (MOST_STEPS + 1) 0 (statements_of page.body) []).on.further (start answers)) e
 
   pub defined_next : (answers : List Datum) (d : Datum) (op : Op) → (conduct program request answers).ending ≡ Wants op → (conduct program request (answers ++ d ∷ [])).ending ≢ Undefined
   defined_next answers d op e = next_on answers d op (page_in program request.path) e
+
+  counted_in : (n : ℕ) (op : Op) (page : ℕ) (r : Outcome Flow) → Counts n r → (ended page r).ending ≡ Wants op → n < MOST_OPERATIONS
+  counted_in n op page (goes flow p) c e = absurd (wish_is p.answers _ _ op e)
+  counted_in n op page (stops (wants x) p) c e = c
+  counted_in n op page (stops (fault f) p) c e = absurd (wish_is p.answers _ _ op e)
+  counted_in n op page (stops answer_fault p) c e = absurd (wish_is p.answers _ _ op e)
+
+  counted_on : (answers : List Datum) (op : Op) (o : Option NumberedPage) → (on_page program request answers o).ending ≡ Wants op → 0 + length answers < MOST_OPERATIONS
+  counted_on answers op None e = absurd (wish_is answers _ _ op e)
+  counted_on answers op (Some page) e = counted_in (both (start answers)) op page.number (run setting (MOST_STEPS + 1) 0 (statements_of page.body) [] (start answers))
+      ((run_steady v.null setting (MOST_STEPS + 1) 0 (statements_of page.body) []).counts (start answers) (omega arith)) e
+
+  pub counted_asks : (answers : List Datum) (op : Op) → (conduct program request answers).ending ≡ Wants op → length answers < MOST_OPERATIONS
+  counted_asks answers op e = omega (arith, counted_on answers op (page_in program request.path) e)

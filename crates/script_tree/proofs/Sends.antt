@@ -6,10 +6,10 @@ use denote.Param.SendFields.{as_row_send, declared_send, variants_send}
 use denote.Struct.Field.{i64-field, u32-field}
 use Rattle.basis.proofs.items.Items.TheSendSync as items
 use Rattle.basis.specs.contracts.items.Items
-use Rattle.script_tree.proofs.operation.Object.TheSendSync as objects
 use Rattle.script_tree.proofs.text.Text.TheSendSync as texts
 use Rattle.script_tree.proofs.value.Members.TheLaws.TheKnot as values
 use Rattle.script_tree.specs.contracts.operation.Act
+use Rattle.script_tree.specs.contracts.operation.Object
 use Rattle.script_tree.specs.contracts.operation.Op
 use Rattle.script_tree.specs.contracts.text.Text
 use Rattle.script_tree.specs.contracts.transaction.Change
@@ -94,5 +94,8 @@ act = variants_send Act.enum (
   ),
 )
 
+object : IsSend Object.the_row
+object = variants_send Object.enum ((text_field, tt), ((text_field, tt), (tt, (tt, (tt, tt)))))
+
 pub op : IsSend Op.the_row
-op = declared_send Op.the_type (objects.the_send, (act, tt))
+op = declared_send Op.the_type (object, (act, tt))

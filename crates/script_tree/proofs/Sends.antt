@@ -6,7 +6,6 @@ use denote.Param.SendFields.{as_row_send, declared_send, variants_send}
 use denote.Struct.Field.{i64-field, u32-field}
 use Rattle.basis.proofs.items.Items.TheSendSync as items
 use Rattle.basis.specs.contracts.items.Items
-use Rattle.script_tree.proofs.text.Text.TheSendSync as texts
 use Rattle.script_tree.proofs.value.Members.TheLaws.TheKnot as values
 use Rattle.script_tree.specs.contracts.operation.Act
 use Rattle.script_tree.specs.contracts.operation.Object
@@ -20,6 +19,9 @@ use Rattle.script_tree.specs.contracts.value.Values
 use Rattle.std.proofs.Crossing.{crosses}
 
 -- of a type, where the search finds it
+text : IsSend Text.the_row
+text = search (crosses, values.crosses, sendable) depth 60 fits 20000
+
 value : IsSend Value.the_row
 value = search (crosses, values.crosses, sendable) depth 60 fits 20000
 
@@ -40,7 +42,7 @@ signed_field : IsSend (as_row i64-field)
 signed_field = search sendable depth 20
 
 text_field : IsSend (as_row Text.the_field)
-text_field = as_row_send Text.the_field texts.the_send
+text_field = as_row_send Text.the_field text
 
 value_field : IsSend (as_row Value.the_field)
 value_field = as_row_send Value.the_field value

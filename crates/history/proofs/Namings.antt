@@ -1,6 +1,6 @@
 -- Each step of a room is named by what the code keeps of it.
-use Rattle.std.proofs.Common.{◌≡◌, ◌∙◌, ℕ, suc, ◌+◌, Bool, true, false, cond, List, [], ◌∷◌, ◌++◌, length, length-append, add-one, Option, Some, None, Result, refl, ap, sym, subst}
-use Rattle.std.specs.Prelude.{option_map, nat_eq}
+use Rattle.std.proofs.Common.{◌≡◌, ◌∙◌, ℕ, suc, ◌+◌, [], ◌∷◌, length-append, add-one, Option, Some, None, Result, refl, ap, sym, subst}
+use Rattle.std.specs.Prelude.{option_map}
 use Rattle.std.specs.declared.alloc.AllocError.{AllocError}
 use Rattle.std.specs.declared.alloc.Global.{Global}
 use Rattle.std.specs.declared.sync.Arc.{Arc}
@@ -13,7 +13,7 @@ use Rattle.script_tree.specs.declared.path.Path.{Path}
 use Rattle.script_tree.specs.declared.request.Response.{Response}
 use Rattle.history.specs.Names.{rid_at, number_at}
 use Rattle.history.specs.Naming.{IsOfRoom, IsNamed, IsPassed, named, open_seat, seat_of, open_rid}
-use Rattle.history.specs.Rooms.{Room, and_answer, onward}
+use Rattle.history.specs.Rooms.{Room, and_answer}
 use Rattle.history.specs.Seats.{at_seat, seated}
 use Rattle.history.specs.Visits.{Visit, visit_of}
 use Rattle.history.specs.declared.happening.Happening.{Happening}
@@ -21,18 +21,14 @@ use Rattle.history.specs.declared.happening.Happening.TheVariants as did
 use Rattle.history.specs.declared.naming.Name.{Name}
 use Rattle.history.specs.declared.naming.Naming.{Naming}
 use Rattle.history.specs.declared.naming.OpenSeat.{OpenSeat}
-use Rattle.history.proofs.Seated.{none_seated}
+use Rattle.history.proofs.Seated.{none_seated, mapped_seated}
 
 -- what is kept of a room
 abbrev kept : (ℕ → Option Visit) → ℕ → Option OpenSeat
 kept open_at seat = option_map seat_of (open_at seat)
 
-one_of : (b : Bool) (v w : Option Visit) → cond b (option_map seat_of v) (option_map seat_of w) ≡ option_map seat_of (cond b v w)
-one_of true v w = refl
-one_of false v w = refl
-
 seated_kept : (seat : ℕ) (v : Option Visit) (open_at : ℕ → Option Visit) → seated seat (option_map seat_of v) (kept open_at) ≡ kept (seated seat v open_at)
-seated_kept seat v open_at i x = one_of (nat_eq seat x) v (open_at x) i
+seated_kept seat v open_at = mapped_seated seat_of seat v open_at
 
 -- what is kept of a seat
 at : (room : Room) (naming : Naming) (seat : ℕ) → IsOfRoom room naming → at_seat naming.seats.items seat ≡ option_map seat_of (room.open_at seat)

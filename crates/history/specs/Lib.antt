@@ -1,3 +1,4 @@
+pub mod Balanced
 pub mod Histories
 pub mod Names
 pub mod Naming

@@ -12,11 +12,11 @@ pub struct Call<E, R> {
 
 /// An object that is called from seats, one call after another.
 pub trait Bench {
-    type State: Drop + Send;
+    type State: Drop;
 
-    type Event: Drop + Send;
+    type Event: Drop;
 
-    type Reply: Drop + Send;
+    type Reply: Drop;
 
     /// In this state the event may come from the seat.
     ghost may: { Self.State → ℕ → Self.Event → Type 0 };

@@ -5,7 +5,7 @@ use crate::happening::history_of;
 use crate::recorder::Recorder;
 use crate::recording::Recording;
 use crate::trace::trace_of;
-use desk::{Bench, Call};
+use desk::held::{make_call, opened};
 use object_set::ObjectSet;
 use script_check::program::check;
 use script_tree::request::{Parameters, Request};
@@ -28,17 +28,11 @@ fn an_arrival(rt: HostRuntime) -> Result<(), Fail> {
     let alloc = rt.alloc();
     let program = check(alloc, Tree::new(alloc)).ok().ok_or("a program")?;
     let objects = ObjectSet::new(alloc, program.declarations())?;
-    let mut recording = Recording::new(alloc, Arc::new(alloc, program)?, objects);
-    let event = Event::Arrive(request(alloc)?);
-    let (reply, told) = Recorder::step(&mut recording, 3, &event)?;
+    let recording = Recording::new(alloc, Arc::new(alloc, program)?, objects);
+    let mut held = opened::<Recorder>(alloc, recording);
+    let told = make_call::<Recorder>(&mut held, 3, Event::Arrive(request(alloc)?))?;
     assert!(rt; matches!(told, Reply::Arrived(0)));
-    let mut calls = Vec::new(alloc);
-    calls.push(Call {
-        seat: 3,
-        event,
-        reply,
-    })?;
-    let history = history_of(alloc, calls)?;
+    let history = history_of(alloc, held.calls)?;
     let trace = trace_of(alloc, &history)?;
     assert_eq!(rt; trace.len(), 1);
     assert!(rt; matches!(trace.as_slice().first(), Some(TraceEvent::Asked(0, _))));

@@ -5,6 +5,7 @@ use crate::stack::Stack;
 use script_tree::value::Value;
 use std::alloc::{AllocError, Global};
 use std::marker::Model;
+use std::mem;
 
 /// Where a call goes on when its function is over.
 #[derive(Drop)]
@@ -18,6 +19,8 @@ pub(crate) struct Frame<'c> {
 #[derive(Drop)]
 pub(crate) struct Frames<'c> {
     frames: Vec<Frame<'c>>,
+    /// What the function that ended last had at hand. Its memory serves the next one.
+    ended: Stack<'c>,
 }
 
 impl<'c> Model for Frames<'c> {
@@ -41,7 +44,25 @@ impl<'c> Frames<'c> {
     {
         Frames {
             frames: Vec::new(alloc),
+            ended: Stack::new(alloc),
         }
+    }
+
+    /// An empty stack, for a function that begins.
+    pub(crate) fn empty_stack(&mut self, alloc: Global) -> Stack<'c>
+        ensures empty { result ≡ [] }
+        ensures same { self.new ≡ self.old }
+    {
+        let mut stack = mem::replace(&mut self.ended, Stack::new(alloc));
+        stack.clear();
+        stack
+    }
+
+    /// Keeps the stack of a function that ends.
+    pub(crate) fn keep_stack(&mut self, stack: Stack<'c>)
+        ensures { self.new ≡ self.old }
+    {
+        let _older = mem::replace(&mut self.ended, stack);
     }
 
     pub(crate) fn len(&self) -> usize

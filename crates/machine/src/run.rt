@@ -179,7 +179,7 @@ impl<'c> Run<'c> {
         }
         let frame = Frame {
             place: place + 1,
-            stack: mem::replace(&mut self.state.stack, Stack::new(alloc)),
+            stack: mem::replace(&mut self.state.stack, self.frames.empty_stack(alloc)),
             slots: mem::replace(&mut self.state.slots, values),
         };
         self.frames.push(frame)?;
@@ -216,7 +216,8 @@ impl<'c> Run<'c> {
                 } = frame;
                 stack.push(operand)?;
                 self.place = place;
-                let _callee = mem::replace(&mut self.state.stack, stack);
+                let ended = mem::replace(&mut self.state.stack, stack);
+                self.frames.keep_stack(ended);
                 self.state.slots = slots;
                 Ok(Went::On)
             }

@@ -38,6 +38,12 @@ impl<'c> Stack<'c> {
         }
     }
 
+    pub(crate) fn clear(&mut self)
+        ensures { self.new ≡ [] }
+    {
+        self.cells.clear();
+    }
+
     #[inline(always)]
     pub(crate) fn push(&mut self, operand: Operand<'c>) -> Result<(), AllocError>
         ensures { OnOk result (self.new ≡ operand.entry ∷ self.old) }

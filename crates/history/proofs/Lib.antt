@@ -1,5 +1,9 @@
 pub mod Actions
+pub mod Alike
+pub mod Groupings
+pub mod Groups
 pub mod Legal
 pub mod Namings
+pub mod Reported
 pub mod Seated
 pub mod Traces

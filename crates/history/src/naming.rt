@@ -108,7 +108,7 @@ impl Naming {
     }
 }
 
-fn one_more(count: u32) -> Result<u32, AllocError>
+pub(crate) fn one_more(count: u32) -> Result<u32, AllocError>
     ensures { IfOk result (λ more. more ≡ count + 1) }
 {
     count.checked_add(1).ok_or(AllocError)

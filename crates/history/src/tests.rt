@@ -1,9 +1,10 @@
-//! A request arrives and its history has a trace.
+//! A request arrives, and its history has a trace and a report.
 
 use crate::event::{Event, Reply};
 use crate::happening::history_of;
 use crate::recorder::Recorder;
 use crate::recording::Recording;
+use crate::reports::report_of;
 use crate::trace::trace_of;
 use desk::held::{make_call, opened};
 use object_set::ObjectSet;
@@ -36,5 +37,7 @@ fn an_arrival(rt: HostRuntime) -> Result<(), Fail> {
     let trace = trace_of(alloc, &history)?;
     assert_eq!(rt; trace.len(), 1);
     assert!(rt; matches!(trace.as_slice().first(), Some(TraceEvent::Asked(0, _))));
+    let report = report_of(alloc, history)?;
+    assert_eq!(rt; report.counts.len(), 1);
     Ok(())
 }

@@ -1,0 +1,34 @@
+-- Equal paths, as a test that computes.
+use Rattle.std.specs.Prelude.{ℕ, Bool, true, false, not, ◌&&◌, List, [], ◌∷◌, Option, Some, None, nat_eq}
+use Rattle.script_tree.specs.Faults.{fault_number}
+use Rattle.script_tree.specs.declared.path.End.{End}
+use Rattle.script_tree.specs.declared.path.End.TheVariants.{Normal, Fault, AnswerFault}
+use Rattle.script_tree.specs.declared.path.Path.{Path}
+
+-- two lists of one length, alike at each place
+abbrev pub each : {A : Type 0} → (A → A → Bool) → List A → List A → Bool
+each alike [] [] = true
+each alike [] (y ∷ ys) = false
+each alike (x ∷ xs) [] = false
+each alike (x ∷ xs) (y ∷ ys) = alike x y && each alike xs ys
+
+abbrev pub same_page : Option ℕ → Option ℕ → Bool
+same_page None None = true
+same_page None (Some b) = false
+same_page (Some a) None = false
+same_page (Some a) (Some b) = nat_eq a b
+
+abbrev pub same_decision : Bool → Bool → Bool
+same_decision true b = b
+same_decision false b = not b
+
+abbrev pub same_end : End → End → Bool
+same_end Normal Normal = true
+same_end (Fault a) (Fault b) = nat_eq (fault_number a) (fault_number b)
+same_end AnswerFault AnswerFault = true
+same_end Normal b = false
+same_end (Fault a) b = false
+same_end AnswerFault b = false
+
+abbrev pub same_path : Path → Path → Bool
+same_path a b = same_page a.page b.page && (each same_decision a.decisions b.decisions && (nat_eq a.steps b.steps && same_end a.end b.end))

@@ -1,0 +1,4 @@
+pub mod Events
+pub mod Rounds
+pub mod Standing
+pub mod Steps

@@ -83,6 +83,10 @@ has_bound program here op m valid waits = bound_of _ _ op.object op.act (fits pr
 pub wants_next : (program : Program) (here : Option Visit) (op : Op) (m : Machine) → WaitsFor program here op m → WantsNext program here op
 wants_next program here op m waits = (waits.visit, waits.here', waits.wants)
 
+pub fewer : (program : Program) (here : Option Visit) (op : Op) (m : Machine) → (waits : WaitsFor program here op m) → length waits.visit.answers < MOST_OPERATIONS
+unfolding ending_of
+fewer program here op m waits = ?
+
 -- ---- seats
 
 at_itself : (seat : ℕ) (v : Option Visit) (open_at : ℕ → Option Visit) → seated seat v open_at seat ≡ v
@@ -92,7 +96,7 @@ at_itself seat v open_at = ap (λ here. cond here v (open_at seat)) (eq-eqb seat
 
 pub arrives : (reading : Option ℕ) (seat : ℕ) (job : Request) (arc : Arc Request Global) (reply : Reply) (old new : Log) (dice : ChaCha) (m : Machine)
     → arc.value ≡ job → IsLogged seat (asks.Arrive arc) reply old new → at_seat old.recording.visits seat ≡ None
-    → Follows new.recording.program job [] m → IsReady m → IsRequestWithinLimits job
+    → Follows old.recording.program job [] m → IsReady m → IsRequestWithinLimits job
     → Moves reading seat (job ∷ []) old new dice dice (Some m)
 arrives reading seat job arc reply old new dice m same logged empty follows ready short =
     let v : Visit = visit_of old.recording.arrived job [] in
@@ -106,7 +110,9 @@ arrives reading seat job arc reply old new dice m same logged empty follows read
       came' = ap (λ q. q ∷ []) same;
       rolls = refl;
       reads = λ n is. tt;
-      seated = subst (λ o. IsSeated new.recording.program o (Some m)) (sym here) (record { follows = follows; ready = ready; short = short; few = omega arith });
+      seated =
+          subst (λ o. IsSeated new.recording.program o (Some m)) (sym here)
+          (record { follows = subst (λ p. Follows p job [] m) (sym logged.takes.program) follows; ready = ready; short = short; few = omega arith });
       falls = omega (arith, few);
     }
 

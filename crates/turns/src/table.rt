@@ -100,7 +100,7 @@ impl<'c> Table<'c> {
 
     /// What was recorded, call by call.
     pub(crate) fn into_calls(self) -> Vec<Call<Event, Reply>>
-        ensures { result ≡ self.log.calls }
+        ensures { result ≡ self.entry.log.calls }
     {
         self.log.calls
     }

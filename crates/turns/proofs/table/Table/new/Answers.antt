@@ -1,0 +1,7 @@
+use Rattle.turns.proofs.Opening.{one_more_laid}
+use Rattle.turns.proofs.table.Table.new.Goals as goal
+
+pub loop-seat-preserved : goal.loop-seat-preserved
+loop-seat-preserved c =
+    one_more_laid c.args.seed c.loop-seat.seat c.loop-seat.runs.items c.push.new.self.items c.loop-seat.dice.items c.push-in-loop-seat.new.self.items
+    c.loop-seat.invariant ? ?

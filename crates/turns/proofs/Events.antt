@@ -1,10 +1,13 @@
 -- What events make of a log.
-use Rattle.std.proofs.Common.{◌≡◌, ◌∙◌, ℕ, ℤ, List, [], ◌∷◌, ◌++◌, map, Option, Some, None, refl, ap, sym, subst, arith}
+use Rattle.std.proofs.Common.{◌≡◌, ◌≢◌, ◌∙◌, cond, ℕ, ℤ, List, [], ◌∷◌, ◌++◌, map, Option, Some, None, refl, ap, sym, subst, arith}
 use Rattle.std.proofs.lemmas.List.{map-append}
+use Rattle.std.proofs.lemmas.Bool.{ne_eqb}
 use Rattle.desk.specs.Runs.{call}
 use Rattle.history.specs.Histories.{choice_in, happening_by, happening_in, history_of}
 use Rattle.history.specs.Recordings.{Recorded, room_of, happening_at, reply_to, choice_of, Takes}
-use Rattle.history.specs.Rooms.{Room}
+use Rattle.history.specs.Rooms.{Room, onward}
+use Rattle.history.specs.Seats.{at_seat, seated}
+use Rattle.history.specs.Visits.{Visit}
 use Rattle.history.specs.declared.event.Event.{Event}
 use Rattle.history.specs.declared.event.Event.TheVariants as asks
 use Rattle.history.specs.declared.event.Reply.{Reply}
@@ -37,3 +40,19 @@ happens seat event reply old new logged =
       left = logged.takes.left;
       program = logged.takes.program;
     }
+
+-- ---- other seats
+
+elsewhere : (a b : ℕ) (v : Option Visit) (open_at : ℕ → Option Visit) → a ≢ b → seated a v open_at b ≡ open_at b
+elsewhere a b v open_at ne = ap (λ here. cond here v (open_at b)) (ne_eqb a b ne)
+
+stays_open : (r : Room) (h : Happening) (x : ℕ) → seat_in h ≢ x → (onward r h).open_at x ≡ r.open_at x
+stays_open r (Arrive seat request) x ne = elsewhere seat x _ r.open_at ne
+stays_open r (Act seat op choice) x ne = elsewhere seat x _ r.open_at ne
+stays_open r (Depart seat response path) x ne = elsewhere seat x _ r.open_at ne
+
+-- at other seats the same is open
+pub stays : {seat : ℕ} {h : Happening} {old new : Log} → Happens seat h old new → (x : ℕ) → x ≢ seat
+    → at_seat new.recording.visits x ≡ at_seat old.recording.visits x
+stays {h = h} {old = old} did x ne =
+    ap (λ (r : Room). r.open_at x) did.left ∙ stays_open (room_of old.recording) h x (λ e. ne (sym e ∙ did.here))

@@ -1,4 +1,5 @@
 pub mod Events
+pub mod Laying
 pub mod Opening
 pub mod Rounds
 pub mod Standing

@@ -16,6 +16,7 @@ use Rattle.turns.specs.ByTurns.{seat_of_turn, seat_in}
 use Rattle.turns.specs.Seated.{IsSeated, IsLaid}
 use Rattle.turns.specs.Turned.{turns_left, turns_of_jobs, jobs_left, Moves, Passes, Acts, IsTurn, IsDone}
 use Rattle.turns.specs.declared.table.Table.{Table}
+use Rattle.turns.proofs.Events.{stays}
 
 -- ---- seats of turns
 
@@ -76,27 +77,12 @@ one_changes f g seat (suc n) others within = by (λ below. one_changes f g seat 
 pub work : Table → ℕ
 work t = open_turns (at_seat t.log.recording.visits) SEATS + turns_of_jobs (length (jobs_left t))
 
-elsewhere : (a b : ℕ) (v : Option Visit) (open_at : ℕ → Option Visit) → a ≢ b → seated a v open_at b ≡ open_at b
-elsewhere a b v open_at ne = ap (λ here. cond here v (open_at b)) (ne_eqb a b ne)
-
-stays_open : (r : Room) (h : Happening) (x : ℕ) → seat_in h ≢ x → (onward r h).open_at x ≡ r.open_at x
-stays_open r (Arrive seat request) x ne = elsewhere seat x _ r.open_at ne
-stays_open r (Act seat op choice) x ne = elsewhere seat x _ r.open_at ne
-stays_open r (Depart seat response path) x ne = elsewhere seat x _ r.open_at ne
-
--- at other seats the same is open
-pub stays : {reading : Option ℕ} {seat : ℕ} {old new : Table} → Acts reading seat old new → (x : ℕ) → x ≢ seat
-    → at_seat new.log.recording.visits x ≡ at_seat old.log.recording.visits x
-stays {seat = seat} {old = old} did x ne =
-    let happens = did.moves.happens in
-    ap (λ (r : Room). r.open_at x) happens.left ∙ stays_open (room_of old.log.recording) did.moves.happening x (λ e. ne (sym e ∙ happens.here))
-
 less_left : (reading : Option ℕ) (seat : ℕ) (old new : Table) → seat < SEATS → Acts reading seat old new → work new < work old
 unfolding work
 less_left reading seat old new within did =
     let f = at_seat old.log.recording.visits in
     let g = at_seat new.log.recording.visits in
-    let changed : open_turns g SEATS + turns_left (f seat) ≡ open_turns f SEATS + turns_left (g seat) = one_changes f g seat SEATS (stays did) within in
+    let changed : open_turns g SEATS + turns_left (f seat) ≡ open_turns f SEATS + turns_left (g seat) = one_changes f g seat SEATS (λ x. stays did.moves.happens x) within in
     let jobs : length (jobs_left old) ≡ length did.came + length (jobs_left new) = ap length did.jobs ∙ length-append did.came (jobs_left new) in
     omega (arith, changed, jobs, did.moves.falls)
 

@@ -50,7 +50,7 @@ pub fn run_turns<C: Clock>(
     for turn in turns {
         table.turn(turn.seat(), clock)?;
     }
-    while !table.is_done() {
+    'rounds: while !table.is_done() {
         for seat in 0..SEATS {
             table.turn(seat, clock)?;
         }

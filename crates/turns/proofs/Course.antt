@@ -1,9 +1,10 @@
 -- How far a run of the jobs has come.
-use Rattle.std.proofs.Common.{◌≡◌, ◌∙◌, ℕ, suc, ◌+◌, ◌*◌, ◌<◌, List, [], length, get_or, Option, refl, ap, sym, subst, add-one, arith}
+use Rattle.std.proofs.Common.{◌≡◌, ◌∙◌, ℕ, suc, ◌+◌, ◌*◌, ◌<◌, List, [], length, get_or, Option, Result, Ok, Err, IfOk, refl, ap, sym, subst, add-one, arith}
 use Rattle.script_tree.specs.Programs.{Program}
 use Rattle.script_tree.specs.Requests.{Request}
 use Rattle.workload.specs.declared.limits.TheConstants.{SEATS}
 use Rattle.object_set.specs.ObjectSets.{HeldObjects, objects_of}
+use Rattle.history.specs.declared.happening.Happening.{Happening}
 use Rattle.turns.specs.ByTurns.{seat_of_turn}
 use Rattle.turns.specs.Seated.{IsLaid}
 use Rattle.turns.specs.Turned.{IsTurn}
@@ -20,7 +21,7 @@ pub record Goes (s : Setting) (turn : ℕ) (t : Table) : Type 0 where
   pub laid : IsLaid t
   pub stands : Stands s turn t
 
--- between two rounds behind the listed turns
+-- between two rounds, after the listed turns
 pub record Between (s : Setting) (t : Table) : Type 0 where
   pub round : ℕ
   pub goes : Goes s (length s.listed + SEATS * round) t
@@ -62,3 +63,10 @@ round_turn s seat start old new in_round within laid turn =
 
 pub round_ends : (s : Setting) (start t : Table) → InRound s SEATS start t → Between s t
 round_ends s start t in_round = record { round = suc in_round.round; goes = subst (λ n. Goes s n t) (omega arith) in_round.goes }
+
+-- ---- the end
+
+-- what is told of the whole is told of the history that was made
+pub told_of : {E : Type 0} (P : List Happening → Type 0) (hs : List Happening) (result : Result (List Happening) E) → IfOk result (λ made. made ≡ hs) → P hs → IfOk result P
+told_of P hs (Ok made) is holds = subst P (sym is) holds
+told_of P hs (Err e) is holds = tt

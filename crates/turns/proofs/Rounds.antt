@@ -32,7 +32,7 @@ behind (seat ∷ seats) n =
     let more : n + suc (length seats) ≡ suc (n + length seats) = omega arith in
     ap (seat_of_turn (seat ∷ seats)) more ∙ behind seats n
 
--- a turn of a round behind those that are listed
+-- a turn of a round, after those that are listed
 pub round_seat : (listed : List ℕ) (round seat turn : ℕ) → seat < SEATS → turn ≡ length listed + SEATS * round + seat → seat_of_turn listed turn ≡ seat
 round_seat listed round seat turn below is =
     let so : turn ≡ (SEATS * round + seat) + length listed = omega arith in
@@ -114,11 +114,11 @@ pub goes_on : (reading : Option ℕ) (seat : ℕ) (start old new : Table) → se
 goes_on reading seat start old new within (inl less) (inl passed) = inl (omega (arith, less, work_same new old passed.log passed.jobs))
 goes_on reading seat start old new within (inl less) (inr did) = inl (omega (arith, less, less_left reading seat old new within did))
 goes_on reading seat start old new within (inr quiet) (inl passed) = inr (record {
-      log = passed.log ∙ quiet.log;
-      empty = λ x below. ap (λ l. at_seat l.recording.visits x) passed.log ∙ none_at x below (eqb_tells x seat);
-      jobs = passed.jobs ∙ quiet.jobs;
-      none = λ some. passed.jobs ∙ passed.none;
-    })
+  log = passed.log ∙ quiet.log;
+  empty = λ x below. ap (λ l. at_seat l.recording.visits x) passed.log ∙ none_at x below (eqb_tells x seat);
+  jobs = passed.jobs ∙ quiet.jobs;
+  none = λ some. passed.jobs ∙ passed.none;
+})
   where
     none_at : (x : ℕ) → x < suc seat → ((nat_eq x seat ≡ true) × (x ≡ seat)) ⊎ ((nat_eq x seat ≡ false) × (x ≢ seat)) → at_seat old.log.recording.visits x ≡ None
     none_at x below (inl (is, same)) = ap (at_seat old.log.recording.visits) same ∙ passed.empty
@@ -144,6 +144,7 @@ quiet_is_done start new laid quiet = record {
   where
     within : (x : ℕ) → (x < SEATS) ⊎ (SEATS ≤ x)
     within x = grind arith
+
     by : (x : ℕ) → (x < SEATS) ⊎ (SEATS ≤ x) → at_seat start.runs.items x ≡ None
     by x (inl below) =
         no_run start.log.recording.program (at_seat start.log.recording.visits x) (at_seat start.runs.items x) (laid.seated x)

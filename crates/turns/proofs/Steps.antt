@@ -23,6 +23,7 @@ use Rattle.script_meaning.specs.Conduct as meant
 use Rattle.script_meaning.specs.Conduct.{conduct}
 use Rattle.script_meaning.specs.Replay.{ending_of}
 use Rattle.script_fit.specs.FitsOperation.{FitsAct, FitsOperation}
+use Rattle.script_asks.proofs.RunsFurther.{counted_asks}
 use Rattle.script_asks.proofs.Wanted.{fits}
 use Rattle.machine.specs.Follows.{Follows, IsReady, IsWaiting}
 use Rattle.machine.specs.Told as told
@@ -85,7 +86,7 @@ wants_next program here op m waits = (waits.visit, waits.here', waits.wants)
 
 pub fewer : (program : Program) (here : Option Visit) (op : Op) (m : Machine) → (waits : WaitsFor program here op m) → length waits.visit.answers < MOST_OPERATIONS
 unfolding ending_of
-fewer program here op m waits = ?
+fewer program here op m waits = counted_asks program waits.visit.request waits.visit.answers op waits.wants
 
 -- ---- seats
 

@@ -9,7 +9,7 @@ use Rattle.history.specs.declared.happening.Happening.TheVariants.{Arrive, Act, 
 
 -- ---- seats
 
--- The seat of a turn, by its number: the listed seats first, and behind them all seats in order, again and again.
+-- The seat of a turn, by its number: first the listed ones, then all seats in order, again and again.
 abbrev pub seat_of_turn : List ℕ → ℕ → ℕ
 seat_of_turn [] n = n % SEATS
 seat_of_turn (seat ∷ seats) zero = seat

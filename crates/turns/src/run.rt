@@ -44,6 +44,7 @@ pub fn run_turns<C: Clock>(
     ensures readings { ForSome (C.reading clock.now) (λ reading.
         IfOk result (ReadsClock reading (objects_of start))) }
 {
+    // It tells that the program is valid.
     program.declarations();
     let recording = Recording::new(alloc, program.clone()?, start);
     let mut table = Table::new(alloc, code, recording, jobs.into_vec(), seed)?;

@@ -1,8 +1,5 @@
-<<<<<<< HEAD
 pub mod Balanced
-=======
 pub mod Grouped
->>>>>>> a9c9133a9eb68cfe54e16e33e520c53796ea1403
 pub mod Histories
 pub mod Names
 pub mod Naming

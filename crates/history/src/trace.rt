@@ -59,7 +59,8 @@ fn event_in(
     }
 }
 
-fn copied(alloc: Global, request: &Request) -> Result<Request, AllocError>
+/// A copy of a request.
+pub fn copied(alloc: Global, request: &Request) -> Result<Request, AllocError>
     ensures { IfOk result (λ copy. copy ≡ request.now) }
 {
     request.keeps_limits();

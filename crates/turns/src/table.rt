@@ -1,0 +1,107 @@
+ghost use Rattle.std.specs.Prelude.{◌≡◌, ◌<◌, ◌↔◌, ℕ, None, IfOk, OnOk, IsTrue};
+ghost use Rattle.script_check.specs.Validity.{IsValid};
+ghost use Rattle.script_code.specs.Translated.{IsCodeOf};
+ghost use Rattle.history.specs.Seats.{at_seat};
+ghost use Rattle.workload.specs.declared.limits.TheConstants.{SEATS};
+ghost use Rattle.turns.specs.Seated.{IsLaid};
+ghost use Rattle.turns.specs.Turned.{IsOpened, IsTurn, IsDone};
+
+use crate::log::Log;
+use crate::open_run::{arrive, go_on};
+use desk::Call;
+use dice::Dice;
+use history::{Event, Recording, Reply};
+use machine::Machine;
+use outside::Clock;
+use script_code::translate::Code;
+use script_tree::request::Request;
+use std::alloc::{AllocError, Global};
+use std::vec;
+use workload::limits::SEATS;
+
+/// The seats, the jobs that have not arrived, and what was recorded.
+#[derive(Drop)]
+pub(crate) struct Table<'c> {
+    alloc: Global,
+    code: &'c Code,
+    seed: u64,
+    log: Log,
+    jobs: vec::IntoIter<Request>,
+    /// The machine of the open request of each seat.
+    runs: Vec<Option<Machine<'c>>>,
+    /// The dice of each seat.
+    dice: Vec<Dice>,
+}
+
+impl<'c> Table<'c> {
+    /// With nothing at any seat.
+    pub(crate) fn new(
+        alloc: Global,
+        code: &'c Code,
+        recording: Recording,
+        jobs: Vec<Request>,
+        seed: u64,
+    ) -> Result<Table<'c>, AllocError>
+        requires valid { IsValid recording.program.declarations }
+        requires code { IsCodeOf recording.program code.now }
+        requires empty { (seat : ℕ) → at_seat recording.visits seat ≡ None }
+        ensures laid { IfOk result IsLaid }
+        ensures opened { IfOk result (IsOpened recording jobs.items seed) }
+    {
+        let mut runs = Vec::with_capacity(alloc, usize::from(SEATS))?;
+        let mut dice = Vec::with_capacity(alloc, usize::from(SEATS))?;
+        for seat in 0..SEATS {
+            runs.push(None)?;
+            dice.push(Dice::new(seed, u64::from(seat)))?;
+        }
+        Ok(Table {
+            alloc,
+            code,
+            seed,
+            log: Log::new(alloc, recording),
+            jobs: jobs.into_iter(),
+            runs,
+            dice,
+        })
+    }
+
+    /// The turn of a seat: the next job arrives there, or what is open there goes on.
+    pub(crate) fn turn<C: Clock>(&mut self, seat: u8, clock: &C) -> Result<(), AllocError>
+        requires laid { IsLaid self.old }
+        requires within { seat < SEATS }
+        ensures laid { OnOk result (IsLaid self.new) }
+        ensures turn { OnOk result (IsTurn (C.reading clock.now) seat self.old self.new) }
+    {
+        let place = usize::from(seat);
+        let seat = u32::from(seat);
+        match self.runs[place].take() {
+            Some(machine) => {
+                let dice = &mut self.dice[place];
+                let left = go_on(&mut self.log, seat, machine, dice, clock)?;
+                self.runs[place] = left;
+            }
+            None => {
+                if let Some(job) = self.jobs.next() {
+                    let machine = arrive(self.alloc, self.code, &mut self.log, seat, job)?;
+                    self.runs[place] = Some(machine);
+                }
+            }
+        }
+        Ok(())
+    }
+
+    /// Whether every job has departed.
+    pub(crate) fn is_done(&self) -> bool
+        requires { IsLaid self.now }
+        ensures { IsTrue result ↔ IsDone self.now }
+    {
+        self.jobs.len() == 0 && self.runs.iter().all(|run| run.is_none())
+    }
+
+    /// What was recorded, call by call.
+    pub(crate) fn into_calls(self) -> Vec<Call<Event, Reply>>
+        ensures { result ≡ self.entry.log.calls }
+    {
+        self.log.calls
+    }
+}

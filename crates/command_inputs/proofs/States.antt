@@ -1,5 +1,5 @@
 -- A state that was read whole, and its fault.
-use Rattle.std.proofs.Common.{◌≡◌, ℕ, List, Option, Some, None, Ok, Err, inr, subst}
+use Rattle.std.proofs.Common.{ℕ, List, Option, Some, None, Ok, Err, inr, subst}
 use Rattle.script_tree.specs.Programs.{Program}
 use Rattle.state_file.specs.States.{HasStateFault}
 use Rattle.state_file.specs.declared.fault.StateFault.{StateFault}

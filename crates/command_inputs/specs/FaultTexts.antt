@@ -5,9 +5,10 @@ use Rattle.script_check.specs.Least.{number_of}
 use Rattle.state_file.specs.FaultTexts.{state_fault_text}
 use Rattle.script_tokens.specs.declared.fault.SyntaxFaultKind.{SyntaxFaultKind}
 use Rattle.script_tokens.specs.declared.fault.SyntaxFaultKind.TheVariants.{NoToken, Grammar, Limit}
+use Rattle.workload.specs.FaultTexts.{work_fault_text}
 use Rattle.command_inputs.specs.Roles.{role_name}
 use Rattle.command_inputs.specs.declared.fault.InputFault.{InputFault}
-use Rattle.command_inputs.specs.declared.fault.InputFault.TheVariants.{Absent, TooLong, Syntax, Check, State, Trace}
+use Rattle.command_inputs.specs.declared.fault.InputFault.TheVariants.{Absent, TooLong, Syntax, Check, State, Requests, Turns, Trace}
 use Rattle.command_inputs.specs.declared.fault.TraceFault.{TraceFault}
 use Rattle.command_inputs.specs.declared.fault.TraceFault.TheVariants.{Unreadable, Unbalanced}
 
@@ -28,4 +29,6 @@ fault_text (TooLong role) = role_name role ++ codes ": too long"
 fault_text (Syntax fault) = codes "program: syntax " ++ decimal (syntax_number fault.kind) ++ codes " at " ++ decimal fault.at
 fault_text (Check fault) = codes "program: check " ++ decimal (number_of fault.kind) ++ codes " at " ++ decimal fault.at
 fault_text (State fault) = codes "state: " ++ state_fault_text fault
+fault_text (Requests fault) = codes "requests: " ++ work_fault_text fault
+fault_text (Turns fault) = codes "turns: " ++ work_fault_text fault
 fault_text (Trace fault) = codes "trace: " ++ trace_fault_text fault

@@ -6,7 +6,7 @@ use Rattle.outside.specs.declared.fault.ShelfFault.TheVariants as shelf
 use Rattle.command_inputs.specs.declared.fault.InputError.{InputError}
 use Rattle.command_inputs.specs.declared.fault.InputError.TheVariants.{Fault, Halt as Halts}
 use Rattle.command_inputs.specs.declared.fault.InputFault.{InputFault}
-use Rattle.command_inputs.specs.declared.fault.InputFault.TheVariants.{Absent, TooLong, Syntax, Check, State, Trace}
+use Rattle.command_inputs.specs.declared.fault.InputFault.TheVariants.{Absent, TooLong, Syntax, Check, State, Requests, Turns, Trace}
 use Rattle.command_inputs.specs.declared.halt.Halt.TheVariants.{Failed, Memory}
 use Rattle.command_inputs.specs.declared.role.Role.{Role}
 
@@ -23,6 +23,8 @@ IsAbsence (TooLong role) = ⊥
 IsAbsence (Syntax fault) = ⊥
 IsAbsence (Check fault) = ⊥
 IsAbsence (State fault) = ⊥
+IsAbsence (Requests fault) = ⊥
+IsAbsence (Turns fault) = ⊥
 IsAbsence (Trace fault) = ⊥
 
 -- A read failed.

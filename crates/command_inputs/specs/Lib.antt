@@ -3,7 +3,9 @@ pub mod Faults
 pub mod Halts
 pub mod Inputs
 pub mod Program
+pub mod Requests
 pub mod Roles
 pub mod Schedule
 pub mod State
 pub mod Trace
+pub mod Turns

@@ -8,7 +8,7 @@ use Rattle.state_file.specs.Stored.{given_objects}
 use Rattle.state_file.specs.declared.given.Given.{Given}
 use Rattle.command_inputs.specs.Inputs.{Input}
 use Rattle.command_inputs.specs.declared.fault.InputFault.{InputFault}
-use Rattle.command_inputs.specs.declared.fault.InputFault.TheVariants.{Absent, TooLong, Syntax, Check, State, Trace}
+use Rattle.command_inputs.specs.declared.fault.InputFault.TheVariants.{Absent, TooLong, Syntax, Check, State, Requests, Turns, Trace}
 use Rattle.command_inputs.specs.declared.role.Role.TheVariants as role
 
 -- The bytes are a state of the program without a fault, and this is what the objects hold from it.
@@ -23,6 +23,8 @@ IsStateFault program bytes (TooLong role) = ⊥
 IsStateFault program bytes (Syntax fault) = ⊥
 IsStateFault program bytes (Check fault) = ⊥
 IsStateFault program bytes (State fault) = HasStateFault program bytes fault
+IsStateFault program bytes (Requests fault) = ⊥
+IsStateFault program bytes (Turns fault) = ⊥
 IsStateFault program bytes (Trace fault) = ⊥
 
 abbrev pub state_input : Program → ℕ → Input Objects

@@ -7,7 +7,7 @@ use Rattle.trace_format.specs.Events.{trace_format}
 use Rattle.wire.specs.Files.{Spells, IsFault}
 use Rattle.command_inputs.specs.Inputs.{Input}
 use Rattle.command_inputs.specs.declared.fault.InputFault.{InputFault}
-use Rattle.command_inputs.specs.declared.fault.InputFault.TheVariants.{Absent, TooLong, Syntax, Check, State, Trace}
+use Rattle.command_inputs.specs.declared.fault.InputFault.TheVariants.{Absent, TooLong, Syntax, Check, State, Requests, Turns, Trace}
 use Rattle.command_inputs.specs.declared.fault.TraceFault.{TraceFault}
 use Rattle.command_inputs.specs.declared.fault.TraceFault.TheVariants.{Unreadable, Unbalanced}
 use Rattle.command_inputs.specs.declared.role.Role.TheVariants as role
@@ -32,6 +32,8 @@ IsTraceFault bytes (TooLong role) = ⊥
 IsTraceFault bytes (Syntax fault) = ⊥
 IsTraceFault bytes (Check fault) = ⊥
 IsTraceFault bytes (State fault) = ⊥
+IsTraceFault bytes (Requests fault) = ⊥
+IsTraceFault bytes (Turns fault) = ⊥
 IsTraceFault bytes (Trace fault) = HasTraceFault bytes fault
 
 abbrev pub trace_input : ℕ → Input (List TraceEvent)

@@ -12,6 +12,7 @@ use script_tokens::fault::{SyntaxFault, SyntaxFaultKind};
 use state_file::StateFault;
 use std::alloc::AllocError;
 use std::fmt;
+use workload::WorkFault;
 
 /// What is wrong with a trace.
 #[derive(Clone, Copy, Debug, PartialEq, Eq)]
@@ -34,6 +35,8 @@ pub enum InputFault {
     /// The program's tree has this least fault.
     Check(CheckFault),
     State(StateFault),
+    Requests(WorkFault),
+    Turns(WorkFault),
     Trace(TraceFault),
 }
 
@@ -103,6 +106,8 @@ impl fmt::Display for InputFault {
                 write!(f, "program: check {number} at {at}")
             }
             InputFault::State(fault) => write!(f, "state: {fault}"),
+            InputFault::Requests(fault) => write!(f, "requests: {fault}"),
+            InputFault::Turns(fault) => write!(f, "turns: {fault}"),
             InputFault::Trace(fault) => write!(f, "trace: {fault}"),
         }
     }

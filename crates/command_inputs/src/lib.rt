@@ -6,17 +6,21 @@ pub mod fault;
 pub mod file;
 pub mod halt;
 pub mod program;
+pub mod requests;
 pub mod role;
 pub mod schedule;
 pub mod state;
 #[cfg(test)]
 mod tests;
 pub mod trace;
+pub mod turns;
 
 pub use fault::{InputError, InputFault, TraceFault};
 pub use halt::Halt;
 pub use program::read_program;
+pub use requests::read_requests;
 pub use role::Role;
 pub use schedule::read_schedule;
 pub use state::read_state;
 pub use trace::read_trace;
+pub use turns::read_turns;

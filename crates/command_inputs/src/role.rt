@@ -8,6 +8,8 @@ use std::fmt;
 pub enum Role {
     Program,
     State,
+    Requests,
+    Turns,
     Trace,
     Schedule,
 }
@@ -20,6 +22,8 @@ impl Role {
         match self {
             Role::Program => "program",
             Role::State => "state",
+            Role::Requests => "requests",
+            Role::Turns => "turns",
             Role::Trace => "trace",
             Role::Schedule => "schedule",
         }

@@ -1,7 +1,7 @@
 //! Each input at its limit, and one byte past it.
 use crate::fault::{InputError, InputFault};
 use crate::role::Role;
-use crate::{read_program, read_schedule, read_state, read_trace};
+use crate::{read_program, read_requests, read_schedule, read_state, read_trace, read_turns};
 use outside::MemShelf;
 use script_check::program::check;
 use script_tree::syntax::declaration::Tree;
@@ -28,6 +28,8 @@ fn refusal(
             let program = check(alloc, Tree::new(alloc)).ok().ok_or("a program")?;
             read_state(alloc, shelf, role.name(), most, &program).err()
         }
+        Role::Requests => read_requests(alloc, shelf, role.name(), most).err(),
+        Role::Turns => read_turns(alloc, shelf, role.name(), most).err(),
         Role::Trace => read_trace(alloc, shelf, role.name(), most).err(),
         Role::Schedule => read_schedule(alloc, shelf, role.name(), most).err(),
     })
@@ -38,6 +40,8 @@ fn shelf_of(alloc: Global) -> Result<MemShelf, AllocError> {
     let mut shelf = MemShelf::new(alloc, Vec::new(alloc));
     shelf.put("program", PROGRAM)?;
     shelf.put("state", b"{}")?;
+    shelf.put("requests", b"[]")?;
+    shelf.put("turns", b"[ ]")?;
     shelf.put("trace", TRACE)?;
     shelf.put("schedule", SCHEDULE)?;
     Ok(shelf)
@@ -50,6 +54,8 @@ fn limits(rt: HostRuntime) -> Result<(), Fail> {
     for (role, length) in [
         (Role::Program, 21u32),
         (Role::State, 2),
+        (Role::Requests, 2),
+        (Role::Turns, 3),
         (Role::Trace, 8),
         (Role::Schedule, 8),
     ] {
@@ -67,10 +73,17 @@ fn limits(rt: HostRuntime) -> Result<(), Fail> {
 fn absent(rt: HostRuntime) -> Result<(), Fail> {
     let alloc = rt.alloc();
     let mut shelf = MemShelf::new(alloc, Vec::new(alloc));
-    for role in [Role::Program, Role::State, Role::Trace, Role::Schedule] {
+    for role in [
+        Role::Program,
+        Role::State,
+        Role::Requests,
+        Role::Turns,
+        Role::Trace,
+        Role::Schedule,
+    ] {
         let absent = InputError::Fault(InputFault::Absent(role));
         assert_eq!(rt; refusal(alloc, &mut shelf, role, 9)?, Some(absent));
     }
-    assert_eq!(rt; shelf.absences(), 4);
+    assert_eq!(rt; shelf.absences(), 6);
     Ok(())
 }

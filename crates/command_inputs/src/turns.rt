@@ -1,0 +1,33 @@
+ghost use Rattle.std.specs.Prelude.{◌<◌, ◌^◌};
+ghost use Rattle.command_inputs.specs.Faults.{UsesToRead};
+ghost use Rattle.command_inputs.specs.Inputs.{IsReadUnder};
+ghost use Rattle.command_inputs.specs.Turns.{turns_input};
+
+use crate::fault::{InputError, InputFault};
+use crate::file::read_whole;
+use crate::halt::Halt;
+use crate::role::Role;
+use basis::OrMemory;
+use outside::Shelf;
+use std::alloc::Global;
+use workload::Turns;
+
+/// Reads the turns whose file has this name.
+pub fn read_turns<F: Shelf>(
+    alloc: Global,
+    shelf: &mut F,
+    name: &str,
+    most: usize,
+) -> Result<Turns, InputError>
+    requires { most < 2 ^ 63 }
+    ensures read { let input = turns_input most in
+        IsReadUnder (λ turns. turns) input (F.told shelf.old) name.now result }
+    ensures used { UsesToRead (F.told shelf.old) (F.told shelf.new) result }
+{
+    let bytes = read_whole(alloc, shelf, Role::Turns, name, most)?;
+    match workload::read_turns(alloc, &bytes) {
+        Ok(turns) => Ok(turns),
+        Err(OrMemory::Memory) => Err(InputError::Halt(Halt::Memory)),
+        Err(OrMemory::Other(fault)) => Err(InputError::Fault(InputFault::Turns(fault))),
+    }
+}

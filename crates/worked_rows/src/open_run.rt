@@ -53,8 +53,8 @@ impl<'c> OpenRun<'c> {
             run,
         } = self;
         let op = run.wanted().context("the machine's run ends")?;
-        let answer = answer_of(objects, op, choice)?;
-        answers.push(answer.clone()?)?;
+        let (answer, kept) = answer_of(objects, op, choice)?;
+        answers.push(kept)?;
         let run = run.answered(answer)?;
         Ok(OpenRun {
             rid,
@@ -101,14 +101,17 @@ impl<'c> OpenRun<'c> {
     }
 }
 
-/// What the operation answers.
-fn answer_of(objects: &mut ObjectSet, op: &Op, choice: Choice) -> anyhow::Result<Value> {
+/// What the operation answers, twice.
+fn answer_of(objects: &mut ObjectSet, op: &Op, choice: Choice) -> anyhow::Result<(Value, Value)> {
     ensure!(
         fits(objects, op),
         "an operation that doesn't fit the objects"
     );
     match objects.apply(op, choice) {
-        Ok(answer) => Ok(answer),
+        Ok(answer) => {
+            let kept = answer.clone()?;
+            Ok((answer, kept))
+        }
         Err(OrMemory::Other(Refused)) => bail!("the object doesn't take the choice"),
         Err(OrMemory::Memory) => Err(AllocError.into()),
     }

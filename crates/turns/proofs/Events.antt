@@ -1,4 +1,4 @@
--- What events make of a log.
+-- What events make of a recording.
 use Rattle.std.proofs.Common.{◌≡◌, ◌≢◌, ◌∙◌, cond, ℕ, ℤ, List, [], ◌∷◌, ◌++◌, map, Option, Some, None, refl, ap, sym, subst, arith}
 use Rattle.std.proofs.lemmas.List.{map-append}
 use Rattle.std.proofs.lemmas.Bool.{ne_eqb}
@@ -14,8 +14,7 @@ use Rattle.history.specs.declared.event.Reply.{Reply}
 use Rattle.history.specs.declared.happening.Happening.{Happening}
 use Rattle.history.specs.declared.happening.Happening.TheVariants.{Arrive, Act, Depart}
 use Rattle.turns.specs.ByTurns.{seat_in}
-use Rattle.turns.specs.Logged.{IsLogged, Happens}
-use Rattle.turns.specs.declared.log.Log.{Log}
+use Rattle.turns.specs.Called.{HeldRecording, IsCalled, Happens}
 
 -- The reply tells what happened.
 told : (room : Room) (seat : ℕ) (event : Event) (reply : Reply) → reply ≡ reply_to room (happening_at room seat event) → happening_by seat event reply ≡ happening_at room seat event
@@ -28,14 +27,14 @@ seat_of room seat (asks.Arrive request) = refl
 seat_of room seat (asks.Act op offer) = refl
 seat_of room seat (asks.Depart response path) = refl
 
-pub happens : (seat : ℕ) (event : Event) (reply : Reply) (old new : Log) → IsLogged seat event reply old new → Happens seat (happening_at (room_of old.recording) seat event) old new
+pub happens : (seat : ℕ) (event : Event) (reply : Reply) (old new : HeldRecording) → IsCalled seat event reply old new → Happens seat (happening_at (room_of old.state) seat event) old new
 happens seat event reply old new logged =
-    let h : Happening = happening_at (room_of old.recording) seat event in
+    let h : Happening = happening_at (room_of old.state) seat event in
     record {
       history =
           ap history_of logged.calls ∙ map-append happening_in old.calls.items (call seat event reply ∷ [])
-          ∙ ap (λ k. history_of old.calls.items ++ k ∷ []) (told (room_of old.recording) seat event reply logged.takes.replied);
-      here = seat_of (room_of old.recording) seat event;
+          ∙ ap (λ k. history_of old.calls.items ++ k ∷ []) (told (room_of old.state) seat event reply logged.takes.replied);
+      here = seat_of (room_of old.state) seat event;
       allowed = logged.takes.allowed;
       left = logged.takes.left;
       program = logged.takes.program;
@@ -52,7 +51,7 @@ stays_open r (Act seat op choice) x ne = elsewhere seat x _ r.open_at ne
 stays_open r (Depart seat response path) x ne = elsewhere seat x _ r.open_at ne
 
 -- at other seats the same is open
-pub stays : {seat : ℕ} {h : Happening} {old new : Log} → Happens seat h old new → (x : ℕ) → x ≢ seat
-    → at_seat new.recording.visits x ≡ at_seat old.recording.visits x
+pub stays : {seat : ℕ} {h : Happening} {old new : HeldRecording} → Happens seat h old new → (x : ℕ) → x ≢ seat
+    → at_seat new.state.visits x ≡ at_seat old.state.visits x
 stays {h = h} {old = old} did x ne =
-    ap (λ (r : Room). r.open_at x) did.left ∙ stays_open (room_of old.recording) h x (λ e. ne (sym e ∙ did.here))
+    ap (λ (r : Room). r.open_at x) did.left ∙ stays_open (room_of old.state) h x (λ e. ne (sym e ∙ did.here))

@@ -75,13 +75,13 @@ one_changes f g seat (suc n) others within = by (λ below. one_changes f g seat 
 
 -- how many turns are left at which something happens, at most
 pub work : Table → ℕ
-work t = open_turns (at_seat t.log.recording.visits) SEATS + turns_of_jobs (length (jobs_left t))
+work t = open_turns (at_seat t.held.state.visits) SEATS + turns_of_jobs (length (jobs_left t))
 
 less_left : (reading : Option ℕ) (seat : ℕ) (old new : Table) → seat < SEATS → Acts reading seat old new → work new < work old
 unfolding work
 less_left reading seat old new within did =
-    let f = at_seat old.log.recording.visits in
-    let g = at_seat new.log.recording.visits in
+    let f = at_seat old.held.state.visits in
+    let g = at_seat new.held.state.visits in
     let changed : open_turns g SEATS + turns_left (f seat) ≡ open_turns f SEATS + turns_left (g seat) = one_changes f g seat SEATS (λ x. stays did.moves.happens x) within in
     let jobs : length (jobs_left old) ≡ length did.came + length (jobs_left new) = ap length did.jobs ∙ length-append did.came (jobs_left new) in
     omega (arith, changed, jobs, did.moves.falls)
@@ -90,8 +90,8 @@ less_left reading seat old new within did =
 
 -- In the turns of the first seats nothing happened: they are empty, and no job is left.
 pub record Quiet (seats : ℕ) (old new : Table) : Type 0 where
-  pub log : new.log ≡ old.log
-  pub empty : (x : ℕ) → x < seats → at_seat new.log.recording.visits x ≡ None
+  pub held : new.held ≡ old.held
+  pub empty : (x : ℕ) → x < seats → at_seat new.held.state.visits x ≡ None
   pub jobs : jobs_left new ≡ jobs_left old
   pub none : 0 < seats → jobs_left new ≡ []
 
@@ -99,32 +99,32 @@ pub record Quiet (seats : ℕ) (old new : Table) : Type 0 where
 abbrev pub IsUnderWay : ℕ → Table → Table → Type 0
 IsUnderWay seats old new = (work new < work old) ⊎ Quiet seats old new
 
-work_same : (a b : Table) → a.log ≡ b.log → jobs_left a ≡ jobs_left b → work a ≡ work b
+work_same : (a b : Table) → a.held ≡ b.held → jobs_left a ≡ jobs_left b → work a ≡ work b
 unfolding work
-work_same a b log jobs =
-    let opened : open_turns (at_seat a.log.recording.visits) SEATS ≡ open_turns (at_seat b.log.recording.visits) SEATS
-    = ap (λ l. open_turns (at_seat l.recording.visits) SEATS) log in
+work_same a b held jobs =
+    let opened : open_turns (at_seat a.held.state.visits) SEATS ≡ open_turns (at_seat b.held.state.visits) SEATS
+    = ap (λ l. open_turns (at_seat l.state.visits) SEATS) held in
     let left : turns_of_jobs (length (jobs_left a)) ≡ turns_of_jobs (length (jobs_left b)) = ap (λ js. turns_of_jobs (length js)) jobs in
     omega (arith, opened, left)
 
 pub begins : (t : Table) → IsUnderWay 0 t t
-begins t = inr (record { log = refl; empty = λ x below. absurd (omega arith); jobs = refl; none = λ some. absurd (omega arith) })
+begins t = inr (record { held = refl; empty = λ x below. absurd (omega arith); jobs = refl; none = λ some. absurd (omega arith) })
 
 pub goes_on : (reading : Option ℕ) (seat : ℕ) (start old new : Table) → seat < SEATS → IsUnderWay seat start old → IsTurn reading seat old new → IsUnderWay (suc seat) start new
-goes_on reading seat start old new within (inl less) (inl passed) = inl (omega (arith, less, work_same new old passed.log passed.jobs))
+goes_on reading seat start old new within (inl less) (inl passed) = inl (omega (arith, less, work_same new old passed.held passed.jobs))
 goes_on reading seat start old new within (inl less) (inr did) = inl (omega (arith, less, less_left reading seat old new within did))
 goes_on reading seat start old new within (inr quiet) (inl passed) = inr (record {
-  log = passed.log ∙ quiet.log;
-  empty = λ x below. ap (λ l. at_seat l.recording.visits x) passed.log ∙ none_at x below (eqb_tells x seat);
+  held = passed.held ∙ quiet.held;
+  empty = λ x below. ap (λ l. at_seat l.state.visits x) passed.held ∙ none_at x below (eqb_tells x seat);
   jobs = passed.jobs ∙ quiet.jobs;
   none = λ some. passed.jobs ∙ passed.none;
 })
   where
-    none_at : (x : ℕ) → x < suc seat → ((nat_eq x seat ≡ true) × (x ≡ seat)) ⊎ ((nat_eq x seat ≡ false) × (x ≢ seat)) → at_seat old.log.recording.visits x ≡ None
-    none_at x below (inl (is, same)) = ap (at_seat old.log.recording.visits) same ∙ passed.empty
+    none_at : (x : ℕ) → x < suc seat → ((nat_eq x seat ≡ true) × (x ≡ seat)) ⊎ ((nat_eq x seat ≡ false) × (x ≢ seat)) → at_seat old.held.state.visits x ≡ None
+    none_at x below (inl (is, same)) = ap (at_seat old.held.state.visits) same ∙ passed.empty
     none_at x below (inr (is, other)) = quiet.empty x (omega (arith, below, other))
 goes_on reading seat start old new within (inr quiet) (inr did) =
-    inl (omega (arith, less_left reading seat old new within did, work_same old start quiet.log quiet.jobs))
+    inl (omega (arith, less_left reading seat old new within did, work_same old start quiet.held quiet.jobs))
 
 no_run : (program : Program) (here : Option Visit) (run : Option Machine) → IsSeated program here run → here ≡ None → run ≡ None
 no_run program None None seated is = refl
@@ -147,8 +147,8 @@ quiet_is_done start new laid quiet = record {
 
     by : (x : ℕ) → (x < SEATS) ⊎ (SEATS ≤ x) → at_seat start.runs.items x ≡ None
     by x (inl below) =
-        no_run start.log.recording.program (at_seat start.log.recording.visits x) (at_seat start.runs.items x) (laid.seated x)
-        (ap (λ l. at_seat l.recording.visits x) (sym quiet.log) ∙ quiet.empty x below)
+        no_run start.held.state.program (at_seat start.held.state.visits x) (at_seat start.runs.items x) (laid.seated x)
+        (ap (λ l. at_seat l.state.visits x) (sym quiet.held) ∙ quiet.empty x below)
     by x (inr past) = beyond start.runs.items x (omega (arith, laid.runs, past))
 
 -- Where not all is done, something happens in a round.

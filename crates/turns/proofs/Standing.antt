@@ -23,7 +23,7 @@ use Rattle.turns.specs.ByTurns.{seat_of_turn, seat_in, arrivals, IsOver, GoesByT
 use Rattle.turns.specs.Offers.{rolled, roll_at, rolls_at, AreRolled, AreReadings, IsReading, ReadsClock}
 use Rattle.turns.specs.Seated.{IsSeated, IsLaid}
 use Rattle.turns.specs.Drawn.{IsThrown}
-use Rattle.turns.specs.Logged.{Happens}
+use Rattle.turns.specs.Called.{Happens}
 use Rattle.turns.specs.Turned.{Moves, dice_at, jobs_left, IsOpened, Passes, Acts, IsTurn, IsDone}
 use Rattle.turns.specs.declared.table.Table.{Table}
 
@@ -37,10 +37,10 @@ pub record Setting : Type 0 where
   pub reading : Option ℕ
 
 abbrev pub history : Table → List Happening
-history t = history_of t.log.calls.items
+history t = history_of t.held.calls.items
 
 abbrev pub room : Table → Room
-room t = room_of t.log.recording
+room t = room_of t.held.state
 
 -- What holds of any end from here on holds of the whole from the first.
 abbrev pub Leads : {X : Type 0} → (X → List Happening → Type 0) → X → List Happening → X → Type 0
@@ -51,7 +51,7 @@ by_turns s x hs = GoesByTurns s.listed (length s.jobs) x.0 x.1 hs
 
 -- The table stands before the turn of this number.
 pub record Stands (s : Setting) (turn : ℕ) (t : Table) : Type 0 where
-  pub program : t.log.recording.program ≡ s.program
+  pub program : t.held.state.program ≡ s.program
   pub legal : Leads (AreSteps s.program) (empty_room s.start) (history t) (room t)
   pub left : room t ≡ room_after (empty_room s.start) (history t)
   pub jobs : arrivals (history t) ++ jobs_left t ≡ s.jobs
@@ -104,9 +104,9 @@ rolls_on x first old new hs h so is rest are =
 pub opens : (s : Setting) (t : Table) (recording : Recorded) → IsOpened recording s.jobs s.seed t → recording.program ≡ s.program → room_of recording ≡ empty_room s.start → Stands s 0 t
 opens s t recording opened program fresh =
     let none : history t ≡ [] = ap history_of opened.calls in
-    let now : room t ≡ empty_room s.start = ap room_of opened.recording' ∙ fresh in
+    let now : room t ≡ empty_room s.start = ap room_of opened.state ∙ fresh in
     record {
-      program = ap (λ (r : Recorded). r.program) opened.recording' ∙ program;
+      program = ap (λ (r : Recorded). r.program) opened.state ∙ program;
       legal = λ rest p. subst (λ hs. AreSteps s.program (empty_room s.start) (hs ++ rest)) (sym none) (subst (λ r. AreSteps s.program r rest) now p);
       left = now ∙ ap (room_after (empty_room s.start)) (sym none);
       jobs = ap (λ hs. arrivals hs ++ jobs_left t) none ∙ opened.jobs';
@@ -119,11 +119,11 @@ opens s t recording opened program fresh =
 
 passes : (s : Setting) (turn seat : ℕ) (old new : Table) → Stands s turn old → seat_of_turn s.listed turn ≡ seat → Passes seat old new → Stands s (suc turn) new
 passes s turn seat old new stands here passed =
-    let calls : history new ≡ history old = ap (λ l. history_of l.calls.items) passed.log in
-    let now : room new ≡ room old = ap (λ l. room_of l.recording) passed.log in
+    let calls : history new ≡ history old = ap (λ l. history_of l.calls.items) passed.held in
+    let now : room new ≡ room old = ap (λ l. room_of l.state) passed.held in
     let all_in : (room old).arrived ≡ length s.jobs = omega (arith, stands.arrived, ap length passed.none) in
     record {
-      program = ap (λ l. l.recording.program) passed.log ∙ stands.program;
+      program = ap (λ l. l.state.program) passed.held ∙ stands.program;
       legal = λ rest p. subst (λ hs. AreSteps s.program (empty_room s.start) (hs ++ rest)) (sym calls) (stands.legal rest (subst (λ r. AreSteps s.program r rest) now p));
       left = now ∙ stands.left ∙ ap (room_after (empty_room s.start)) (sym calls);
       jobs = ap (λ hs. arrivals hs ++ jobs_left new) calls ∙ ap (λ js. arrivals (history old) ++ js) passed.jobs ∙ stands.jobs;
@@ -140,7 +140,7 @@ passes s turn seat old new stands here passed =
 acted : (s : Setting) (turn seat : ℕ) (old new : Table) → Stands s turn old → seat_of_turn s.listed turn ≡ seat → Acts s.reading seat old new → Stands s (suc turn) new
 acted s turn seat old new stands here did =
     let h : Happening = did.moves.happening in
-    let happens : Happens seat h old.log new.log = did.moves.happens in
+    let happens : Happens seat h old.held new.held = did.moves.happens in
     let first : Room = empty_room s.start in
     let calls : history new ≡ history old ++ h ∷ [] = happens.history in
     let now : room new ≡ onward (room old) h = happens.left in
@@ -198,7 +198,7 @@ pub closes : (s : Setting) (turn : ℕ) (t : Table) → Stands s turn t → IsLa
 closes s turn t stands laid done =
     let first : Room = empty_room s.start in
     let none : (seat : ℕ) → (room t).open_at seat ≡ None
-    = λ seat. none_open t.log.recording.program (at_seat t.log.recording.visits seat) (at_seat t.runs.items seat) (laid.seated seat) (done.runs seat) in
+    = λ seat. none_open t.held.state.program (at_seat t.held.state.visits seat) (at_seat t.runs.items seat) (laid.seated seat) (done.runs seat) in
     let all_in : (room t).arrived ≡ length s.jobs = omega (arith, stands.arrived, ap length done.jobs) in
     record {
       legal = subst (AreSteps s.program first) (append-nil (history t)) (stands.legal [] tt);

@@ -41,9 +41,8 @@ use Rattle.history.specs.declared.event.Reply.TheVariants.{Arrived, Acted, Depar
 use Rattle.turns.specs.Offers.{rolled, clock_offer, IsReadingOf}
 use Rattle.turns.specs.Seated.{IsAt, IsSeated, WaitsFor}
 use Rattle.turns.specs.Drawn.{HasBound, IsDrawn, IsShown, IsThrown}
-use Rattle.turns.specs.Logged.{IsLogged}
+use Rattle.turns.specs.Called.{HeldRecording, IsCalled}
 use Rattle.turns.specs.Turned.{Moves, turns_left, turns_of_jobs}
-use Rattle.turns.specs.declared.log.Log.{Log}
 use Rattle.turns.proofs.Events.{happens}
 
 -- ---- what a machine tells
@@ -95,45 +94,45 @@ at_itself seat v open_at = ap (λ here. cond here v (open_at seat)) (eq-eqb seat
 
 -- ---- an arrival
 
-pub arrives : (reading : Option ℕ) (seat : ℕ) (job : Request) (arc : Arc Request Global) (reply : Reply) (old new : Log) (dice : ChaCha) (m : Machine)
-    → arc.value ≡ job → IsLogged seat (asks.Arrive arc) reply old new → at_seat old.recording.visits seat ≡ None
-    → Follows old.recording.program job [] m → IsReady m → IsRequestWithinLimits job
+pub arrives : (reading : Option ℕ) (seat : ℕ) (job : Request) (arc : Arc Request Global) (reply : Reply) (old new : HeldRecording) (dice : ChaCha) (m : Machine)
+    → arc.value ≡ job → IsCalled seat (asks.Arrive arc) reply old new → at_seat old.state.visits seat ≡ None
+    → Follows old.state.program job [] m → IsReady m → IsRequestWithinLimits job
     → Moves reading seat (job ∷ []) old new dice dice (Some m)
 arrives reading seat job arc reply old new dice m same logged empty follows ready short =
-    let v : Visit = visit_of old.recording.arrived job [] in
-    let here : at_seat new.recording.visits seat ≡ Some v
-    = ap (λ (r : Room). r.open_at seat) logged.takes.left ∙ at_itself seat _ (at_seat old.recording.visits)
-    ∙ ap (λ q. Some (visit_of old.recording.arrived q [])) same in
-    let few : turns_left (at_seat new.recording.visits seat) ≡ MOST_OPERATIONS + 1 = ap turns_left here in
+    let v : Visit = visit_of old.state.arrived job [] in
+    let here : at_seat new.state.visits seat ≡ Some v
+    = ap (λ (r : Room). r.open_at seat) logged.takes.left ∙ at_itself seat _ (at_seat old.state.visits)
+    ∙ ap (λ q. Some (visit_of old.state.arrived q [])) same in
+    let few : turns_left (at_seat new.state.visits seat) ≡ MOST_OPERATIONS + 1 = ap turns_left here in
     record {
-      happening = happening_at (room_of old.recording) seat (asks.Arrive arc);
+      happening = happening_at (room_of old.state) seat (asks.Arrive arc);
       happens = happens seat (asks.Arrive arc) reply old new logged;
       came' = ap (λ q. q ∷ []) same;
       rolls = refl;
       reads = λ n is. tt;
       seated =
-          subst (λ o. IsSeated new.recording.program o (Some m)) (sym here)
+          subst (λ o. IsSeated new.state.program o (Some m)) (sym here)
           (record { follows = subst (λ p. Follows p job [] m) (sym logged.takes.program) follows; ready = ready; short = short; few = omega arith });
       falls = omega (arith, few);
     }
 
 -- ---- a departure
 
-pub departs : (reading : Option ℕ) (seat : ℕ) (response : Response) (path : Path) (reply : Reply) (old new : Log) (dice : ChaCha) (v : Visit)
-    → IsLogged seat (asks.Depart response path) reply old new → at_seat old.recording.visits seat ≡ Some v → length v.answers ≤ MOST_OPERATIONS
+pub departs : (reading : Option ℕ) (seat : ℕ) (response : Response) (path : Path) (reply : Reply) (old new : HeldRecording) (dice : ChaCha) (v : Visit)
+    → IsCalled seat (asks.Depart response path) reply old new → at_seat old.state.visits seat ≡ Some v → length v.answers ≤ MOST_OPERATIONS
     → Moves reading seat [] old new dice dice None
 departs reading seat response path reply old new dice v logged is few =
-    let here : at_seat new.recording.visits seat ≡ None
-    = ap (λ (r : Room). r.open_at seat) logged.takes.left ∙ at_itself seat _ (at_seat old.recording.visits) in
-    let after : turns_left (at_seat new.recording.visits seat) ≡ 0 = ap turns_left here in
-    let before : turns_left (at_seat old.recording.visits seat) ≡ turns_left (Some v) = ap turns_left is in
+    let here : at_seat new.state.visits seat ≡ None
+    = ap (λ (r : Room). r.open_at seat) logged.takes.left ∙ at_itself seat _ (at_seat old.state.visits) in
+    let after : turns_left (at_seat new.state.visits seat) ≡ 0 = ap turns_left here in
+    let before : turns_left (at_seat old.state.visits seat) ≡ turns_left (Some v) = ap turns_left is in
     record {
-      happening = happening_at (room_of old.recording) seat (asks.Depart response path);
+      happening = happening_at (room_of old.state) seat (asks.Depart response path);
       happens = happens seat (asks.Depart response path) reply old new logged;
       came' = refl;
       rolls = refl;
       reads = λ n is. tt;
-      seated = subst (λ o. IsSeated new.recording.program o None) (sym here) tt;
+      seated = subst (λ o. IsSeated new.state.program o None) (sym here) tt;
       falls = omega (arith, after, before, few);
     }
 
@@ -170,25 +169,25 @@ shown_by reading n (Roll bound) offer cell is shown = tt
 the_answer : (choice made : Choice) (answer d : Datum) → Acted choice answer ≡ Acted made d → answer ≡ d
 the_answer choice made answer d e = cc
 
-pub acts : (reading : Option ℕ) (seat : ℕ) (op : Op) (offer : Option ℤ) (choice : Choice) (answer : Datum) (old new : Log) (before after : ChaCha) (waiting m : Machine)
-    → (waits : WaitsFor old.recording.program (at_seat old.recording.visits seat) op waiting) → length waits.visit.answers < MOST_OPERATIONS
-    → IsLogged seat (asks.Act op offer) (Acted choice answer) old new → IsDrawn op.act before after offer → IsShown reading op.act offer
-    → Follows old.recording.program waits.visit.request (waits.visit.answers ++ answer ∷ []) m → IsReady m
+pub acts : (reading : Option ℕ) (seat : ℕ) (op : Op) (offer : Option ℤ) (choice : Choice) (answer : Datum) (old new : HeldRecording) (before after : ChaCha) (waiting m : Machine)
+    → (waits : WaitsFor old.state.program (at_seat old.state.visits seat) op waiting) → length waits.visit.answers < MOST_OPERATIONS
+    → IsCalled seat (asks.Act op offer) (Acted choice answer) old new → IsDrawn op.act before after offer → IsShown reading op.act offer
+    → Follows old.state.program waits.visit.request (waits.visit.answers ++ answer ∷ []) m → IsReady m
     → Moves reading seat [] old new before after (Some m)
 acts reading seat op offer choice answer old new before after waiting m waits fewer logged drawn shown follows ready =
     let v : Visit = waits.visit in
-    let cell : Cell = (room_of old.recording).objects op.object in
+    let cell : Cell = (room_of old.state).objects op.object in
     let made : Choice = choice_of op.act offer cell in
     let is : answer ≡ (acted op.act made cell).1 = the_answer choice made answer _ logged.takes.replied in
     let w : Visit = visit_of v.rid v.request (v.answers ++ answer ∷ []) in
-    let here : at_seat new.recording.visits seat ≡ Some w
-    = ap (λ (r : Room). r.open_at seat) logged.takes.left ∙ at_itself seat _ (at_seat old.recording.visits)
+    let here : at_seat new.state.visits seat ≡ Some w
+    = ap (λ (r : Room). r.open_at seat) logged.takes.left ∙ at_itself seat _ (at_seat old.state.visits)
     ∙ ap (λ o. and_answer o (acted op.act made cell).1) waits.here' ∙ ap (λ d. Some (visit_of v.rid v.request (v.answers ++ d ∷ []))) (sym is) in
     let more : length (v.answers ++ answer ∷ []) ≡ length v.answers + 1 = length-append v.answers (answer ∷ []) in
-    let left : turns_left (at_seat new.recording.visits seat) ≡ turns_left (Some w) = ap turns_left here in
-    let was : turns_left (at_seat old.recording.visits seat) ≡ turns_left (Some v) = ap turns_left waits.here' in
+    let left : turns_left (at_seat new.state.visits seat) ≡ turns_left (Some w) = ap turns_left here in
+    let was : turns_left (at_seat old.state.visits seat) ≡ turns_left (Some v) = ap turns_left waits.here' in
     record {
-      happening = happening_at (room_of old.recording) seat (asks.Act op offer);
+      happening = happening_at (room_of old.state) seat (asks.Act op offer);
       happens = happens seat (asks.Act op offer) (Acted choice answer) old new logged;
       came' = refl;
       rolls =
@@ -196,7 +195,7 @@ acts reading seat op offer choice answer old new before after waiting m waits fe
           (thrown_by op.act offer cell before after drawn);
       reads = λ n is. shown_by reading n op.act offer cell is shown;
       seated =
-          subst (λ o. IsSeated new.recording.program o (Some m)) (sym here)
+          subst (λ o. IsSeated new.state.program o (Some m)) (sym here)
           (record { follows = subst (λ p. Follows p v.request (v.answers ++ answer ∷ []) m) (sym logged.takes.program) follows; ready = ready; short = waits.short; few = omega (arith, more, fewer) });
       falls = omega (arith, left, was, more, fewer);
     }

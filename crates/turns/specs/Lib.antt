@@ -1,6 +1,6 @@
 pub mod ByTurns
 pub mod Drawn
-pub mod Logged
+pub mod Called
 pub mod Offers
 pub mod Seated
 pub mod Turned

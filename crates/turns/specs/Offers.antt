@@ -1,5 +1,5 @@
 -- The numbers that are offered: to rolls those of the seat's dice, to readings of the clock what the clock outside shows.
-use Rattle.std.specs.Prelude.{◌≡◌, ℕ, ◌-◌, ◌^◌, min, ℤ, pos, unsigned_abs, nat_eq, List, [], ◌∷◌, filter_map, Option, Some, None, if◌then◌else◌}
+use Rattle.std.specs.Prelude.{◌≡◌, ℕ, min, ℤ, pos, unsigned_abs, nat_eq, List, [], ◌∷◌, filter_map, Option, Some, None, if◌then◌else◌}
 use Rattle.rand_chacha.specs.ChaCha.{ChaCha}
 use Rattle.dice.specs.Rolls.{roll}
 use Rattle.script_tree.specs.Objects.{Objects, Cell}
@@ -10,6 +10,7 @@ use Rattle.script_tree.specs.declared.operation.Choice.TheVariants.{Nothing, Num
 use Rattle.history.specs.Recordings.{reading_of}
 use Rattle.history.specs.Rooms.{Room, onward, empty_room}
 use Rattle.history.specs.declared.happening.Happening.{Happening}
+use Rattle.turns.specs.declared.offer.TheConstants.{MOST_READING}
 use Rattle.history.specs.declared.happening.Happening.TheVariants.{Arrive, Act, Depart}
 
 -- ---- rolls
@@ -46,9 +47,9 @@ AreRolled dice (r ∷ rs) = (r.1 ≡ pos (thrown r.0 dice).0) × AreRolled (thro
 
 -- ---- readings of the clock
 
--- what is offered where the clock outside shows so many milliseconds
+-- what is offered where the clock outside shows so many milliseconds: never more than an integer holds
 abbrev pub clock_offer : ℕ → ℤ
-clock_offer n = pos (min n (2 ^ 63 - 1))
+clock_offer n = pos (min n MOST_READING)
 
 -- A reading of the clock takes what the clock makes of the offer.
 abbrev pub IsReadingOf : ℕ → Deed → Cell → Choice → Type 0

@@ -41,9 +41,9 @@ pub record WaitsFor (program : Program) (here : Option Visit) (op : Op) (m : Mac
 
 -- Each seat has its dice, and the machine of the request that is open there.
 pub record IsLaid (t : Table) : Type 0 where
-  pub code : IsCodeOf t.log.recording.program t.code.now
-  pub valid : IsValid t.log.recording.program.declarations
-  pub seated : (seat : ℕ) → IsSeated t.log.recording.program (at_seat t.log.recording.visits seat) (at_seat t.runs.items seat)
+  pub code : IsCodeOf t.held.state.program t.code.now
+  pub valid : IsValid t.held.state.program.declarations
+  pub seated : (seat : ℕ) → IsSeated t.held.state.program (at_seat t.held.state.visits seat) (at_seat t.runs.items seat)
   pub runs : length t.runs.items ≡ SEATS
   pub dice : length t.dice.items ≡ SEATS
   pub jobs : into_iter_len t.jobs ≡ length (into_iter_items t.jobs)

@@ -13,10 +13,9 @@ use Rattle.history.specs.Visits.{Visit}
 use Rattle.history.specs.declared.happening.Happening.{Happening}
 use Rattle.turns.specs.ByTurns.{arrivals}
 use Rattle.turns.specs.Drawn.{IsThrown}
-use Rattle.turns.specs.Logged.{Happens}
+use Rattle.turns.specs.Called.{HeldRecording, Happens}
 use Rattle.turns.specs.Offers.{IsReading, roll_at}
 use Rattle.turns.specs.Seated.{IsSeated}
-use Rattle.turns.specs.declared.log.Log.{Log}
 use Rattle.turns.specs.declared.table.Table.{Table}
 
 -- how many turns an open request has left, at most
@@ -29,14 +28,14 @@ abbrev pub turns_of_jobs : ℕ → ℕ
 turns_of_jobs jobs = jobs * (MOST_OPERATIONS + 2)
 
 -- One thing happens at the seat, where the clock shows this reading. These jobs come, the dice go on so, and this machine is left.
-pub record Moves (reading : Option ℕ) (seat : ℕ) (came : List Request) (old new : Log) (before after : ChaCha) (left : Option Machine) : Type 0 where
+pub record Moves (reading : Option ℕ) (seat : ℕ) (came : List Request) (old new : HeldRecording) (before after : ChaCha) (left : Option Machine) : Type 0 where
   pub happening : Happening
   pub happens : Happens seat happening old new
   pub came' : arrivals (happening ∷ []) ≡ came
   pub rolls : IsThrown (roll_at seat happening) before after
-  pub reads : ForSome reading (λ n. IsReading n (room_of old.recording) happening)
-  pub seated : IsSeated new.recording.program (at_seat new.recording.visits seat) left
-  pub falls : turns_left (at_seat new.recording.visits seat) < turns_left (at_seat old.recording.visits seat) + turns_of_jobs (length came)
+  pub reads : ForSome reading (λ n. IsReading n (room_of old.state) happening)
+  pub seated : IsSeated new.state.program (at_seat new.state.visits seat) left
+  pub falls : turns_left (at_seat new.state.visits seat) < turns_left (at_seat old.state.visits seat) + turns_of_jobs (length came)
 
 -- ---- turns of a table
 
@@ -50,24 +49,24 @@ jobs_left t = into_iter_items t.jobs
 
 -- Nothing is recorded, no job has arrived, and the dice are those of the seed.
 pub record IsOpened (recording : Recorded) (jobs : List Request) (seed : ℕ) (t : Table) : Type 0 where
-  pub recording' : t.log.recording ≡ recording
-  pub calls : t.log.calls.items ≡ []
+  pub state : t.held.state ≡ recording
+  pub calls : t.held.calls.items ≡ []
   pub jobs' : jobs_left t ≡ jobs
   pub dice : (seat : ℕ) → dice_at t seat ≡ dice_of seed seat
 
 -- Nothing is open at the seat, no job is left, and nothing happens.
 pub record Passes (seat : ℕ) (old new : Table) : Type 0 where
-  pub empty : at_seat old.log.recording.visits seat ≡ None
+  pub empty : at_seat old.held.state.visits seat ≡ None
   pub none : jobs_left old ≡ []
   pub jobs : jobs_left new ≡ jobs_left old
-  pub log : new.log ≡ old.log
+  pub held : new.held ≡ old.held
   pub dice : (x : ℕ) → dice_at new x ≡ dice_at old x
 
 -- One thing happens, and the dice of other seats stay.
 pub record Acts (reading : Option ℕ) (seat : ℕ) (old new : Table) : Type 0 where
   pub came : List Request
   pub jobs : jobs_left old ≡ came ++ jobs_left new
-  pub moves : Moves reading seat came old.log new.log (dice_at old seat) (dice_at new seat) (at_seat new.runs.items seat)
+  pub moves : Moves reading seat came old.held new.held (dice_at old seat) (dice_at new seat) (at_seat new.runs.items seat)
   pub others : (x : ℕ) → x ≢ seat → dice_at new x ≡ dice_at old x
 
 abbrev pub IsTurn : Option ℕ → ℕ → Table → Table → Type 0

@@ -1,8 +1,7 @@
 //! Jobs that run by turns on one thread, and the history of it.
 #![tactic(auto)]
 
-mod log;
-mod offer;
+pub mod offer;
 mod open_run;
 pub mod run;
 mod table;

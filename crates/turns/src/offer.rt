@@ -44,4 +44,4 @@ fn throw(dice: &mut Dice, bound: i64) -> i64
 }
 
 /// The greatest number that is offered to the clock.
-const MOST_READING: u64 = 9_223_372_036_854_775_807;
+pub const MOST_READING: u64 = 9_223_372_036_854_775_807;

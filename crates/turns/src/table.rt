@@ -6,11 +6,11 @@ ghost use Rattle.workload.specs.declared.limits.TheConstants.{SEATS};
 ghost use Rattle.turns.specs.Seated.{IsLaid};
 ghost use Rattle.turns.specs.Turned.{IsOpened, IsTurn, IsDone};
 
-use crate::log::Log;
 use crate::open_run::{arrive, go_on};
-use desk::Call;
+use desk::held::opened;
+use desk::{Call, HeldOf};
 use dice::Dice;
-use history::{Event, Recording, Reply};
+use history::{Event, Recorder, Recording, Reply};
 use machine::Machine;
 use outside::Clock;
 use script_code::translate::Code;
@@ -25,7 +25,7 @@ pub(crate) struct Table<'c> {
     alloc: Global,
     code: &'c Code,
     seed: u64,
-    log: Log,
+    held: HeldOf<Recorder>,
     jobs: vec::IntoIter<Request>,
     /// The machine of the open request of each seat.
     runs: Vec<Option<Machine<'c>>>,
@@ -58,7 +58,7 @@ impl<'c> Table<'c> {
             alloc,
             code,
             seed,
-            log: Log::new(alloc, recording),
+            held: opened::<Recorder>(alloc, recording),
             jobs: jobs.into_iter(),
             runs,
             dice,
@@ -77,12 +77,12 @@ impl<'c> Table<'c> {
         match self.runs[place].take() {
             Some(machine) => {
                 let dice = &mut self.dice[place];
-                let left = go_on(&mut self.log, seat, machine, dice, clock)?;
+                let left = go_on(&mut self.held, seat, machine, dice, clock)?;
                 self.runs[place] = left;
             }
             None => {
                 if let Some(job) = self.jobs.next() {
-                    let machine = arrive(self.alloc, self.code, &mut self.log, seat, job)?;
+                    let machine = arrive(self.alloc, self.code, &mut self.held, seat, job)?;
                     self.runs[place] = Some(machine);
                 }
             }
@@ -100,8 +100,8 @@ impl<'c> Table<'c> {
 
     /// What was recorded, call by call.
     pub(crate) fn into_calls(self) -> Vec<Call<Event, Reply>>
-        ensures { result ≡ self.entry.log.calls }
+        ensures { result ≡ self.entry.held.calls }
     {
-        self.log.calls
+        self.held.calls
     }
 }

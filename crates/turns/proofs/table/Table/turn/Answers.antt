@@ -12,7 +12,7 @@ returns-in_ok-left-in-Some-clause-laid g c =
     let place = c.from-place.result in
     let within : place < length old.runs.items = omega (arith, c.from-place.ensures, c.requires.within, c.requires.laid.runs) in
     laid_on (g.C.Clock.reading c.args.clock.now) c.args.seat [] old _ c.index_mut-dice.result.now c.go_on.new.dice c.in_ok-left-in-Some.left c.requires.laid
-    (subst (λ n. Moves (g.C.Clock.reading c.args.clock.now) n [] old.log c.go_on.new.log c.index_mut-dice.result.now c.go_on.new.dice c.in_ok-left-in-Some.left)
+    (subst (λ n. Moves (g.C.Clock.reading c.args.clock.now) n [] old.held c.go_on.new.held c.index_mut-dice.result.now c.go_on.new.dice c.in_ok-left-in-Some.left)
     c.from-seat.ensures c.in_ok-left-in-Some.ensures)
     (put_twice place c.args.seat c.take.new.self c.in_ok-left-in-Some.left old.runs.items c.from-place.ensures within)
     refl (length-set old.dice.items place c.go_on.new.dice) c.requires.laid.jobs
@@ -28,7 +28,7 @@ returns-in_ok-left-in-Some-clause-turn g c =
     let thrown : Throws old.seed c.args.seat before after old.dice.items (slice_set old.dice.items place after)
     = threw old.seed place c.args.seat before after old.dice.items c.from-place.ensures inside c.index_mut-dice.ensures.value in
     inr (acts_on (g.C.Clock.reading c.args.clock.now) c.args.seat [] old _ before after c.in_ok-left-in-Some.left
-    (subst (λ n. Moves (g.C.Clock.reading c.args.clock.now) n [] old.log c.go_on.new.log before after c.in_ok-left-in-Some.left)
+    (subst (λ n. Moves (g.C.Clock.reading c.args.clock.now) n [] old.held c.go_on.new.held before after c.in_ok-left-in-Some.left)
     c.from-seat.ensures c.in_ok-left-in-Some.ensures)
     refl thrown.was thrown.is thrown.others
     (put_twice place c.args.seat c.take.new.self c.in_ok-left-in-Some.left old.runs.items c.from-place.ensures within).here)
@@ -43,7 +43,7 @@ returns-in_ok-machine-in-None-clause-laid g c =
     let machine = c.in_ok-machine-in-None.machine in
     let within : place < length old.runs.items = omega (arith, c.from-place.ensures, c.requires.within, c.requires.laid.runs) in
     laid_on reading c.args.seat (job ∷ []) old _ dice dice (Some machine) c.requires.laid
-    (subst (λ n. Moves reading n (job ∷ []) old.log c.arrive.new.log dice dice (Some machine)) c.from-seat.ensures (c.in_ok-machine-in-None.ensures reading dice))
+    (subst (λ n. Moves reading n (job ∷ []) old.held c.arrive.new.held dice dice (Some machine)) c.from-seat.ensures (c.in_ok-machine-in-None.ensures reading dice))
     (put_twice place c.args.seat c.take.new.self (Some machine) old.runs.items c.from-place.ensures within)
     refl refl
     (counted (into_iter_items old.jobs) (job ∷ []) (into_iter_items c.next.new.self) (into_iter_len old.jobs) (into_iter_len c.next.new.self)

@@ -4,27 +4,32 @@ use Rattle.std.specs.Result.{IsErrAnd}
 use Rattle.command_inputs.specs.Inputs.{Input, IsInput, IsRead}
 use Rattle.command_inputs.specs.declared.fault.InputError.{InputError}
 use Rattle.command_inputs.specs.declared.fault.InputError.TheVariants.{Fault, Halt as Halts}
-use Rattle.commands.specs.Outcome.{IfAnswered, WithInput}
-use Rattle.commands.specs.declared.answer.Answer.{Answer}
+use Rattle.commands.specs.Outcome.{IfFound, WithInput}
+use Rattle.commands.specs.Outputs.{Outcome, says}
+use Rattle.commands.specs.declared.answer.Answer.TheVariants.{Replay}
+use Rattle.commands.specs.declared.answer.Finding.{Finding}
+
+abbrev pub replay_says : Finding → Outcome
+replay_says finding = says (Replay finding)
 
 -- This input was read, and so it goes on.
-pub goes_on : {A F : Type 0} (answer : F → Answer) (input : Input A) (file : Option (List ℕ)) (x : A)
-    (next : A → Answer → Type 0) (r : Result F InputError) → IsInput input file (Ok x)
-    → IfAnswered answer (next x) r → IfAnswered answer (WithInput input file next) r
-goes_on answer input file x next (Ok found) is h = inr (x, is, h)
-goes_on answer input file x next (Err (Fault fault)) is h = inr (x, is, h)
-goes_on answer input file x next (Err (Halts halt)) is h = h
+pub goes_on : {A F : Type 0} (outcome : F → Outcome) (input : Input A) (file : Option (List ℕ)) (x : A)
+    (next : A → Outcome → Type 0) (r : Result F InputError) → IsInput input file (Ok x)
+    → IfFound outcome (next x) r → IfFound outcome (WithInput input file next) r
+goes_on outcome input file x next (Ok found) is h = inr (x, is, h)
+goes_on outcome input file x next (Err (Fault fault)) is h = inr (x, is, h)
+goes_on outcome input file x next (Err (Halts halt)) is h = h
 
-ends_by : {A F X : Type 0} (answer : F → Answer) (view : X → A) (input : Input A)
-    (file : Option (List ℕ)) (next : A → Answer → Type 0) (e : InputError)
-    → IsRead view input file (Err e) → IfAnswered answer (WithInput input file next) (Err e)
-ends_by answer view input file next (Fault fault) read = inl (fault, read, refl)
-ends_by answer view input file next (Halts halt) read = read
+ends_by : {A F X : Type 0} (outcome : F → Outcome) (view : X → A) (input : Input A)
+    (file : Option (List ℕ)) (next : A → Outcome → Type 0) (e : InputError)
+    → IsRead view input file (Err e) → IfFound outcome (WithInput input file next) (Err e)
+ends_by outcome view input file next (Fault fault) read = inl (fault, read, refl)
+ends_by outcome view input file next (Halts halt) read = read
 
 -- This input wasn't read, and so it ends, as `?` passes the error on.
-pub ends : {A F X : Type 0} (answer : F → Answer) (view : X → A) (input : Input A)
-    (file : Option (List ℕ)) (next : A → Answer → Type 0) (e : InputError) (r : Result F InputError)
+pub ends : {A F X : Type 0} (outcome : F → Outcome) (view : X → A) (input : Input A)
+    (file : Option (List ℕ)) (next : A → Outcome → Type 0) (e : InputError) (r : Result F InputError)
     → IsRead view input file (Err e) → IsErrAnd r (λ passed. passed ≡ e)
-    → IfAnswered answer (WithInput input file next) r
-ends answer view input file next e (Ok found) read is = absurd is
-ends answer view input file next e (Err passed) read same = rw same (ends_by answer view input file next e read)
+    → IfFound outcome (WithInput input file next) r
+ends outcome view input file next e (Ok found) read is = absurd is
+ends outcome view input file next e (Err passed) read same = rw same (ends_by outcome view input file next e read)

@@ -2,7 +2,10 @@ pub mod Explained
 pub mod Lines
 pub mod NamesView
 pub mod Outcome
+pub mod Outputs
 pub mod Printing
+pub mod RecordWords
+pub mod Recorded
 pub mod Runs
 pub mod Words
 pub mod WordsApp

@@ -8,8 +8,9 @@ use Rattle.replayer.specs.declared.reason.Replayed.{Replayed}
 use Rattle.replayer.specs.declared.reason.Replayed.TheVariants as replayed
 use Rattle.command_inputs.specs.FaultTexts.{fault_text}
 use Rattle.script_check.specs.declared.counts.Counts.{Counts}
+use Rattle.trace_and_report.specs.declared.record.TooLong.TheVariants as past
 use Rattle.commands.specs.declared.answer.Answer.{Answer}
-use Rattle.commands.specs.declared.answer.Answer.TheVariants.{Usage, Input, Checked, Replay}
+use Rattle.commands.specs.declared.answer.Answer.TheVariants.{Usage, Input, Checked, Replay, Recorded, TooLong}
 use Rattle.commands.specs.declared.answer.Finding.{Finding}
 use Rattle.commands.specs.declared.answer.Finding.TheVariants.{Agrees, Differs}
 
@@ -22,8 +23,10 @@ abbrev pub status_of : Answer → ℕ
 status_of (Checked counts) = 0
 status_of (Replay (Agrees moments)) = 0
 status_of (Replay (Differs reason)) = 1
+status_of (Recorded requests groups) = 0
 status_of Usage = 2
 status_of (Input fault) = 3
+status_of (TooLong which) = 3
 
 -- how many declarations of each sort a program has
 abbrev pub counts_line : Counts → List ℕ
@@ -48,5 +51,9 @@ abbrev pub line_of : Answer → List ℕ
 line_of (Replay (Agrees moments)) = codes "agrees: moments " ++ (decimal moments ++ codes "\n")
 line_of (Replay (Differs reason)) = difference_line reason
 line_of (Checked counts) = counts_line counts
+line_of (Recorded requests groups) =
+    codes "recorded: requests " ++ (decimal requests ++ (codes ", groups " ++ (decimal groups ++ codes "\n")))
 line_of Usage = codes "usage\n"
 line_of (Input fault) = fault_text fault ++ codes "\n"
+line_of (TooLong past.Trace) = codes "trace: too long\n"
+line_of (TooLong past.Report) = codes "report: too long\n"

@@ -1,6 +1,21 @@
 -- The names that are lent, by their bytes.
+use Rattle.std.specs.Prelude.{option_map}
+use Rattle.commands.specs.RecordWords as meant_record
 use Rattle.commands.specs.Words as meant
+use Rattle.commands.specs.declared.record_words.RecordWords.{RecordWords}
 use Rattle.commands.specs.declared.words.ReplayNames.{ReplayNames}
 
 abbrev pub names_of : ReplayNames → meant.ReplayNames
 names_of n = record { program = n.program.now; state = n.state.now; trace = n.trace.now; schedule = n.schedule.now }
+
+abbrev pub record_words_of : RecordWords → meant_record.RecordWords
+record_words_of w = record {
+  program = w.program.now;
+  state = w.state.now;
+  requests = w.requests.now;
+  trace = w.trace.now;
+  report = w.report.now;
+  turns = option_map (λ name. name.now) w.turns;
+  workers = w.workers;
+  seed = w.seed;
+}

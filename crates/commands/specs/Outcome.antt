@@ -1,99 +1,171 @@
--- What a command answers, from its words and the files.
-use Rattle.std.specs.Prelude.{◌≡◌, ◌⊎◌, ℕ, List, length, Option, Some, None, Result, Ok, Err}
+-- What a command comes to, from its words, the files and the clock.
+use Rattle.std.specs.Prelude.{◌≡◌, ◌⊎◌, ℕ, List, [], ◌∷◌, length, Option, Some, None, Result, Ok, Err, IsOkAnd}
 use Rattle.std.specs.FinMap.{get}
 use Rattle.outside.specs.Files.{Files}
 use Rattle.script_tree.specs.Objects.{Objects}
 use Rattle.script_tree.specs.Programs.{Program}
+use Rattle.script_tree.specs.Requests.{Request}
 use Rattle.script_tree.specs.declared.schedule.Moment.{Moment}
 use Rattle.script_tree.specs.declared.trace.TraceEvent.{TraceEvent}
 use Rattle.script_check.specs.Counts.{counts_of}
+use Rattle.script_check.specs.declared.counts.Counts.{Counts}
 use Rattle.wire.specs.declared.limits.TheConstants.{MOST_FILE_BYTES, MOST_SCHEDULE_BYTES}
 use Rattle.replayer.specs.Differences.{replayed}
+use Rattle.history.specs.declared.happening.Happening.{Happening}
+use Rattle.trace_and_report.specs.Recorded.{IsRunOf, AreFilesOf, HasTooLong}
+use Rattle.trace_and_report.specs.declared.record.Recorded.{Recorded as TraceAndReport}
+use Rattle.trace_and_report.specs.declared.record.TooLong.{TooLong as Which}
 use Rattle.command_inputs.specs.Faults.{IsAbsence}
-use Rattle.command_inputs.specs.Inputs.{Input, IsInput}
+use Rattle.command_inputs.specs.Inputs.{Input, IsInput, IsRead}
 use Rattle.command_inputs.specs.Program.{program_input}
+use Rattle.command_inputs.specs.Requests.{requests_input}
 use Rattle.command_inputs.specs.Schedule.{schedule_input}
 use Rattle.command_inputs.specs.State.{state_input}
 use Rattle.command_inputs.specs.Trace.{trace_input}
+use Rattle.command_inputs.specs.Turns.{turns_input}
 use Rattle.command_inputs.specs.declared.fault.InputError.{InputError}
 use Rattle.command_inputs.specs.declared.fault.InputError.TheVariants as error
 use Rattle.command_inputs.specs.declared.fault.InputFault.{InputFault}
 use Rattle.commands.specs.Lines.{finding_of}
+use Rattle.commands.specs.Outputs.{Outcome, says}
+use Rattle.commands.specs.RecordWords.{RecordWords, record_words}
 use Rattle.commands.specs.Words.{ReplayNames, check_name, replay_names}
-use Rattle.script_check.specs.declared.counts.Counts.{Counts}
 use Rattle.commands.specs.declared.answer.Answer.{Answer}
 use Rattle.commands.specs.declared.answer.Finding.{Finding}
-use Rattle.commands.specs.declared.answer.Answer.TheVariants.{Usage, Input as InputAnswer, Checked, Replay}
+use Rattle.commands.specs.declared.answer.Answer.TheVariants.{Usage, Input as InputAnswer, Checked, Replay, Recorded, TooLong}
 
 -- The input is at fault, which is the answer; or it is this thing, with which it goes on.
-abbrev pub WithInput : {A : Type 0} → Input A → Option (List ℕ) → (A → Answer → Type 0) → Answer
+abbrev pub WithInput : {A : Type 0} → Input A → Option (List ℕ) → (A → Outcome → Type 0) → Outcome
     → Type 0
-WithInput {A = A} input file next answer =
-    ((fault : InputFault) × IsInput input file (Err fault) × (answer ≡ InputAnswer fault))
-    ⊎ ((x : A) × IsInput input file (Ok x) × next x answer)
+WithInput {A = A} input file next outcome =
+    ((fault : InputFault) × IsInput input file (Err fault) × (outcome ≡ says (InputAnswer fault)))
+    ⊎ ((x : A) × IsInput input file (Ok x) × next x outcome)
 
 abbrev pub moment_count : Result (List Moment) ℕ → ℕ
 moment_count (Ok schedule) = length schedule
 moment_count (Err at) = 0
 
 -- The answer is what a replay of the schedule finds.
-abbrev pub IsFound : Program → Objects → List TraceEvent → Result (List Moment) ℕ → Answer → Type 0
-IsFound program start trace schedule answer =
-    answer ≡ Replay (finding_of (moment_count schedule) (replayed program start trace schedule))
+abbrev pub IsFound : Program → Objects → List TraceEvent → Result (List Moment) ℕ → Outcome → Type 0
+IsFound program start trace schedule outcome =
+    outcome
+    ≡ says (Replay (finding_of (moment_count schedule) (replayed program start trace schedule)))
 
 -- ---- a replay, from its last input to its first
 
-abbrev pub WithTrace : Files → ReplayNames → Program → Objects → List TraceEvent → Answer → Type 0
+abbrev pub WithTrace : Files → ReplayNames → Program → Objects → List TraceEvent → Outcome → Type 0
 WithTrace files names program start trace =
     WithInput (schedule_input MOST_SCHEDULE_BYTES) (get files names.schedule)
     (IsFound program start trace)
 
-abbrev pub WithState : Files → ReplayNames → Program → Objects → Answer → Type 0
+abbrev pub WithState : Files → ReplayNames → Program → Objects → Outcome → Type 0
 WithState files names program start =
     WithInput (trace_input MOST_FILE_BYTES) (get files names.trace)
     (WithTrace files names program start)
 
-abbrev pub WithProgram : Files → ReplayNames → Program → Answer → Type 0
+abbrev pub WithProgram : Files → ReplayNames → Program → Outcome → Type 0
 WithProgram files names program =
     WithInput (state_input program MOST_FILE_BYTES) (get files names.state) (WithState files names program)
 
-abbrev pub IsReplayed : Files → ReplayNames → Answer → Type 0
+abbrev pub IsReplayed : Files → ReplayNames → Outcome → Type 0
 IsReplayed files names =
     WithInput (program_input MOST_FILE_BYTES) (get files names.program) (WithProgram files names)
 
 -- ---- a check
 
 -- The answer is how much the program declares.
-abbrev pub IsCounted : Program → Answer → Type 0
-IsCounted program answer = answer ≡ Checked (counts_of program.declarations)
+abbrev pub IsCounted : Program → Outcome → Type 0
+IsCounted program outcome = outcome ≡ says (Checked (counts_of program.declarations))
 
-abbrev pub IsCheckedFile : Files → List ℕ → Answer → Type 0
+abbrev pub IsCheckedFile : Files → List ℕ → Outcome → Type 0
 IsCheckedFile files name = WithInput (program_input MOST_FILE_BYTES) (get files name) IsCounted
+
+-- ---- a recording, from its last input to its first
+
+-- how much was recorded, and the files of it under the names that the words give: first the trace
+abbrev pub written : RecordWords → TraceAndReport → Outcome
+written words files = record {
+  answer = Recorded files.requests files.groups;
+  puts = (words.trace, files.trace.items) ∷ (words.report, files.report.items) ∷ [];
+}
+
+-- The outcome is the files of the history, and how many requests and groups there are.
+abbrev pub IsWritten : RecordWords → Objects → List Happening → Outcome → Type 0
+IsWritten words start history outcome =
+    (files : TraceAndReport) × AreFilesOf start history files × (outcome ≡ written words files)
+
+-- The outcome is which of its files is too long.
+abbrev pub IsPastLimit : Objects → List Happening → Outcome → Type 0
+IsPastLimit start history outcome =
+    (which : Which) × HasTooLong start history which × (outcome ≡ says (TooLong which))
+
+-- The outcome is what a history of the jobs gives, where the clock shows this reading.
+abbrev pub IsOfJobs : Option ℕ → RecordWords → Program → Objects → List Request → List ℕ → Outcome
+    → Type 0
+IsOfJobs reading words program start jobs turns outcome =
+    (history : List Happening) × IsRunOf program start jobs turns words.seed reading history
+    × (IsWritten words start history outcome ⊎ IsPastLimit start history outcome)
+
+-- The turns of the file, where there is one, and else none.
+abbrev pub WithTurns : Files → Option (List ℕ) → (List ℕ → Outcome → Type 0) → Outcome → Type 0
+WithTurns files None next = next []
+WithTurns files (Some name) next = WithInput (turns_input MOST_FILE_BYTES) (get files name) next
+
+abbrev pub WithJobs : Option ℕ → Files → RecordWords → Program → Objects → List Request → Outcome
+    → Type 0
+WithJobs reading files words program start jobs =
+    WithTurns files words.turns (IsOfJobs reading words program start jobs)
+
+abbrev pub WithStart : Option ℕ → Files → RecordWords → Program → Objects → Outcome → Type 0
+WithStart reading files words program start =
+    WithInput (requests_input MOST_FILE_BYTES) (get files words.requests)
+    (WithJobs reading files words program start)
+
+abbrev pub WithPages : Option ℕ → Files → RecordWords → Program → Outcome → Type 0
+WithPages reading files words program =
+    WithInput (state_input program MOST_FILE_BYTES) (get files words.state)
+    (WithStart reading files words program)
+
+abbrev pub IsRecording : Option ℕ → Files → RecordWords → Outcome → Type 0
+IsRecording reading files words =
+    WithInput (program_input MOST_FILE_BYTES) (get files words.program) (WithPages reading files words)
 
 -- ---- commands
 
-abbrev pub IsOutcomeOf : Files → Option ReplayNames → Option (List ℕ) → Answer → Type 0
-IsOutcomeOf files (Some names) check answer = IsReplayed files names answer
-IsOutcomeOf files None (Some name) answer = IsCheckedFile files name answer
-IsOutcomeOf files None None answer = answer ≡ Usage
+abbrev pub IsOutcomeOf : Option ℕ → Files → Option ReplayNames → Option (List ℕ) → Option RecordWords
+    → Outcome → Type 0
+IsOutcomeOf reading files (Some names) check words outcome = IsReplayed files names outcome
+IsOutcomeOf reading files None (Some name) words outcome = IsCheckedFile files name outcome
+IsOutcomeOf reading files None None (Some words) outcome = IsRecording reading files words outcome
+IsOutcomeOf reading files None None None outcome = outcome ≡ says Usage
 
--- The outcome of the words over these files.
-abbrev pub IsOutcome : List (List ℕ) → Files → Answer → Type 0
-IsOutcome words files = IsOutcomeOf files (replay_names words) (check_name words)
+-- The outcome of the words over these files, where the clock shows this reading.
+abbrev pub IsOutcome : List (List ℕ) → Option ℕ → Files → Outcome → Type 0
+IsOutcome words reading files =
+    IsOutcomeOf reading files (replay_names words) (check_name words) (record_words words)
 
--- The answer of which a result tells: the one for what was found, or the input's fault. Nothing is
+-- The outcome of which a result tells: the one for what was found, or the input's fault. Nothing is
 -- said where the command halts.
-abbrev pub IfAnswered : {A : Type 0} → (A → Answer) → (Answer → Type 0) → Result A InputError
+abbrev pub IfFound : {A : Type 0} → (A → Outcome) → (Outcome → Type 0) → Result A InputError
     → Type 0
-IfAnswered answer is (Ok found) = is (answer found)
-IfAnswered answer is (Err (error.Fault fault)) = is (InputAnswer fault)
-IfAnswered answer is (Err (error.Halt halt)) = Unit {0}
+IfFound outcome is (Ok found) = is (outcome found)
+IfFound outcome is (Err (error.Fault fault)) = is (says (InputAnswer fault))
+IfFound outcome is (Err (error.Halt halt)) = Unit {0}
 
 abbrev pub IfReplayed : Files → ReplayNames → Result Finding InputError → Type 0
-IfReplayed files names = IfAnswered Replay (IsReplayed files names)
+IfReplayed files names = IfFound (λ finding. says (Replay finding)) (IsReplayed files names)
 
 abbrev pub IfChecked : Files → List ℕ → Result Counts InputError → Type 0
-IfChecked files name = IfAnswered Checked (IsCheckedFile files name)
+IfChecked files name = IfFound (λ counts. says (Checked counts)) (IsCheckedFile files name)
+
+abbrev pub IfRecorded : Option ℕ → Files → RecordWords → Result Outcome InputError → Type 0
+IfRecorded reading files words = IfFound (λ outcome. outcome) (IsRecording reading files words)
+
+-- The turns that were read are those of the file, where one is named, and else none.
+abbrev pub IfTurns : Files → Option (List ℕ) → Result (List ℕ) InputError → Type 0
+IfTurns files None result = IsOkAnd result (λ turns. turns ≡ [])
+IfTurns files (Some name) result =
+    IsRead (λ turns. turns) (turns_input MOST_FILE_BYTES) (get files name) result
 
 -- The answer is that an input isn't there.
 abbrev pub IsAbsent : Answer → Type 0
@@ -101,3 +173,8 @@ IsAbsent Usage = ⊥
 IsAbsent (InputAnswer fault) = IsAbsence fault
 IsAbsent (Checked counts) = ⊥
 IsAbsent (Replay finding) = ⊥
+IsAbsent (Recorded requests groups) = ⊥
+IsAbsent (TooLong which) = ⊥
+
+abbrev pub SaysAbsent : Outcome → Type 0
+SaysAbsent outcome = IsAbsent outcome.answer

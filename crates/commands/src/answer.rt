@@ -5,6 +5,7 @@ use command_inputs::InputFault;
 use replayer::{ReplayReason, Replayed};
 use script_check::counts::Counts;
 use std::alloc::{AllocError, Global};
+use trace_and_report::TooLong;
 
 /// What a replay found.
 #[derive(Clone, Copy, Debug, PartialEq, Eq)]
@@ -24,6 +25,10 @@ pub enum Answer {
     /// The program is valid, and declares so much.
     Checked(Counts),
     Replay(Finding),
+    /// So many requests were recorded, which took so many paths.
+    Recorded { requests: usize, groups: usize },
+    /// This file of a recording would be longer than a file may be.
+    TooLong(TooLong),
 }
 
 impl Finding {
@@ -46,9 +51,11 @@ impl Answer {
         match self {
             Answer::Checked(_) => 0,
             Answer::Replay(Finding::Agrees(_)) => 0,
+            Answer::Recorded { .. } => 0,
             Answer::Replay(Finding::Differs(_)) => 1,
             Answer::Usage => 2,
             Answer::Input(_) => 3,
+            Answer::TooLong(_) => 3,
         }
     }
 
@@ -64,6 +71,11 @@ impl Answer {
                 format!(in alloc; "agrees: moments {moments}\n")
             }
             Answer::Replay(Finding::Differs(reason)) => difference_line(alloc, reason),
+            Answer::Recorded { requests, groups } => {
+                format!(in alloc; "recorded: requests {requests}, groups {groups}\n")
+            }
+            Answer::TooLong(TooLong::Trace) => String::from_str(alloc, "trace: too long\n"),
+            Answer::TooLong(TooLong::Report) => String::from_str(alloc, "report: too long\n"),
         }
     }
 }

@@ -2,13 +2,16 @@ ghost use Rattle.std.specs.Prelude.{◌≡◌, ◌<◌, ◌≤◌, Err, IfOk, Is
 ghost use Rattle.std.specs.Option.{ForSome};
 ghost use Rattle.outside.specs.Shelves.{UsesShelf};
 ghost use Rattle.commands.specs.Explained.{AskCheck, AskReplay, IsExplained, IsProgramFile, IsUnexplained};
-ghost use Rattle.commands.specs.Outcome.{IsAbsent, IsOutcome};
+ghost use Rattle.commands.specs.Outcome.{SaysAbsent, IsOutcome};
+ghost use Rattle.commands.specs.Recorded.{AskRecord, IsRecordedBy};
 ghost use Rattle.commands.specs.Runs.{IsAnswered, IsHalted};
 ghost use Rattle.command_inputs.specs.declared.halt.Halt.TheVariants.{Failed};
 
 use crate::answer::Answer;
 use crate::check::check_file;
+use crate::outcome::{Outcome, write_outputs};
 use crate::print::print_line;
+use crate::record::record_files;
 use crate::replay::replay_files;
 use crate::words::Words;
 use command_inputs::{Halt, InputError};
@@ -16,24 +19,24 @@ use outside::{Clock, Gate, House, Shelf, Sink};
 use replayer::law::agreement;
 use std::alloc::Global;
 
-/// What the words ask for, over the files of a shelf. It writes one line to `out`, or a front part of
-/// it where it can't, and answers the status.
+/// What the words ask for, over the files of a shelf. It puts the files that it makes under their
+/// names, writes one line to `out`, or a front part of it where it can't, and answers the status.
 pub fn run<F: Shelf, O: Sink, H: House, C: Clock + Sync, G: Gate + Sync>(
     alloc: Global,
     words: &Words,
     shelf: &mut F,
     out: &mut O,
     _house: &mut H,
-    _clock: &C,
+    clock: &C,
     _gate: &G,
 ) -> u8
-    // With status 0 to 3 the reads came to an answer, and its line was printed.
-    ensures answered { result < 4 → IsAnswered words.now (F.told shelf.old) (F.told shelf.new)
-        (O.told out.old) (O.told out.new) result }
+    // With status 0 to 3 the reads came to an answer, its files were written, and its line printed.
+    ensures answered { result < 4 → IsAnswered words.now (C.reading clock.now) (F.told shelf.old)
+        (F.told shelf.new) (O.told out.old) (O.told out.new) result }
 
     // With status 4 a read or a write failed, and with 5 it ran out of memory.
-    ensures halted { 4 ≤ result → IsHalted words.now (F.told shelf.old) (F.told shelf.new)
-        (O.told out.old) (O.told out.new) result }
+    ensures halted { 4 ≤ result → IsHalted words.now (C.reading clock.now) (F.told shelf.old)
+        (F.told shelf.new) (O.told out.old) (O.told out.new) result }
 
     // With status 0 of a check the file spells a program.
     ensures valid { result ≡ 0 → AskCheck words.now →
@@ -44,14 +47,22 @@ pub fn run<F: Shelf, O: Sink, H: House, C: Clock + Sync, G: Gate + Sync>(
         ForSome (F.told shelf.old).files (IsExplained words.now) }
     ensures differs { result ≡ 1 → ForSome (F.told shelf.old).files (IsUnexplained words.now) }
 
+    // With status 0 of a recording the trace and the report are those of one history of the jobs.
+    ensures recorded { result ≡ 0 → AskRecord words.now → IsRecordedBy words.now
+        (C.reading clock.now) (F.told shelf.old).files (F.told shelf.new).files }
+
     ensures status { result ≤ 5 }
     ensures house { _house.new ≡ _house.old }
 {
     agreement();
-    let answer = match answer_of(alloc, words, shelf) {
-        Ok(answer) => answer,
+    let outcome = match outcome_of(alloc, words, shelf, clock) {
+        Ok(outcome) => outcome,
         Err(halt) => return halt.status(),
     };
+    if let Err(fault) = write_outputs(shelf, &outcome.outputs) {
+        return Halt::from(fault).status();
+    }
+    let answer = outcome.answer;
     match print_line(alloc, out, answer) {
         Ok(()) => answer.status(),
         Err(halt) => halt.status(),
@@ -59,25 +70,37 @@ pub fn run<F: Shelf, O: Sink, H: House, C: Clock + Sync, G: Gate + Sync>(
 }
 
 /// The outcome of the words over the files.
-fn answer_of<F: Shelf>(alloc: Global, words: &Words, shelf: &mut F) -> Result<Answer, Halt>
-    ensures outcome { let outcome = IsOutcome words.now in
+fn outcome_of<'w, F: Shelf, C: Clock>(
+    alloc: Global,
+    words: &'w Words,
+    shelf: &mut F,
+    clock: &C,
+) -> Result<Outcome<'w>, Halt>
+    ensures outcome { let outcome = IsOutcome words.now (C.reading clock.now) in
         ForSome (F.told shelf.old).files (λ files. IfOk result (outcome files)) }
     ensures used { UsesShelf (F.told shelf.old) (F.told shelf.new) (result ≡ Err Failed)
-        (IsOkAnd result IsAbsent) }
+        (IsOkAnd result SaysAbsent) }
 {
     if let Some(names) = words.replay_names(alloc)? {
         return match replay_files(alloc, shelf, names) {
-            Ok(finding) => Ok(Answer::Replay(finding)),
-            Err(InputError::Fault(fault)) => Ok(Answer::Input(fault)),
+            Ok(finding) => Ok(Outcome::says(alloc, Answer::Replay(finding))),
+            Err(InputError::Fault(fault)) => Ok(Outcome::says(alloc, Answer::Input(fault))),
             Err(InputError::Halt(halt)) => Err(halt),
         };
     }
     if let Some(name) = words.check_name() {
         return match check_file(alloc, shelf, name) {
-            Ok(counts) => Ok(Answer::Checked(counts)),
-            Err(InputError::Fault(fault)) => Ok(Answer::Input(fault)),
+            Ok(counts) => Ok(Outcome::says(alloc, Answer::Checked(counts))),
+            Err(InputError::Fault(fault)) => Ok(Outcome::says(alloc, Answer::Input(fault))),
             Err(InputError::Halt(halt)) => Err(halt),
         };
     }
-    Ok(Answer::Usage)
+    if let Some(words) = words.record_words(alloc)? {
+        return match record_files(alloc, shelf, words, clock) {
+            Ok(outcome) => Ok(outcome),
+            Err(InputError::Fault(fault)) => Ok(Outcome::says(alloc, Answer::Input(fault))),
+            Err(InputError::Halt(halt)) => Err(halt),
+        };
+    }
+    Ok(Outcome::says(alloc, Answer::Usage))
 }

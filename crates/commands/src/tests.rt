@@ -129,7 +129,7 @@ fn repeated(
 
 // ---- runs
 
-fn words_of(alloc: Global, texts: &[&str]) -> Result<Words, AllocError> {
+pub fn words_of(alloc: Global, texts: &[&str]) -> Result<Words, AllocError> {
     let mut words = Words::new(alloc);
     for text in texts {
         words.push(text)?;

@@ -3,8 +3,9 @@ ghost use Rattle.clap.specs.Matches.{found_of};
 ghost use Rattle.clap.specs.Simple.{app_of};
 ghost use Rattle.commands.specs.Words.{in_four, in_one, is_option, names_in};
 ghost use Rattle.commands.specs.WordsApp.{found_names, replay_app};
-ghost use Rattle.commands.specs.NamesView.{names_of};
+ghost use Rattle.commands.specs.NamesView.{names_of, record_words_of};
 
+use crate::record_words::{RecordWords, taken_words};
 use clap::error::ErrorKind;
 use clap::{Arg, ArgMatches, Command};
 use std::alloc::{AllocError, Global};
@@ -35,6 +36,7 @@ pub struct ReplayNames<'a> {
 }
 
 impl Words {
+    ghost use Rattle.commands.specs.RecordWords.{record_words};
     ghost use Rattle.commands.specs.Words.{check_name, replay_names};
 
     pub fn new(alloc: Global) -> Words
@@ -72,6 +74,16 @@ impl Words {
     {
         match self.items.as_slice() {
             [command, rest @ ..] if command.as_str() == "replay" => four_names(alloc, rest),
+            _ => Ok(None),
+        }
+    }
+
+    /// What the words ask `record` to do, where they are its words.
+    pub fn record_words(&self, alloc: Global) -> Result<Option<RecordWords<'_>>, AllocError>
+        ensures { IfOk result (λ words. option_map record_words_of words ≡ record_words self.now) }
+    {
+        match self.items.as_slice() {
+            [command, rest @ ..] if command.as_str() == "record" => taken_words(alloc, rest),
             _ => Ok(None),
         }
     }

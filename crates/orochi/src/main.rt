@@ -6,8 +6,8 @@ ghost use Rattle.orochi.specs.declared.TheConstants.{OUT_OF_MEMORY};
 
 use commands::run::run;
 use commands::words::Words;
-use outside::{FixedClock, MemHouse, OpenGate};
-use outside_os::{FileShelf, StdSink};
+use outside::{MemHouse, OpenGate};
+use outside_os::{FileShelf, StdSink, SystemClock};
 use std::io::ErrorKind;
 use std::process::ExitCode;
 use std::{env, io};
@@ -42,20 +42,15 @@ fn words_of(rt: &HostRuntime) -> io::Result<Words> {
     }
 }
 
-/// The status of what the words ask, with the system's files and standard output.
+/// The status of what the words ask, with the system's files, standard output and clock.
 fn status_of(rt: HostRuntime) -> io::Result<u8> {
     let alloc = rt.alloc();
     let words = words_of(&rt)?;
     let mut out = StdSink::new(rt.stdout());
+    let clock = SystemClock::new(rt.clone()?);
     let mut shelf = FileShelf::new(rt);
     let mut house = MemHouse::new(alloc, Vec::new(alloc), Vec::new(alloc));
     Ok(run(
-        alloc,
-        &words,
-        &mut shelf,
-        &mut out,
-        &mut house,
-        &FixedClock(0),
-        &OpenGate,
+        alloc, &words, &mut shelf, &mut out, &mut house, &clock, &OpenGate,
     ))
 }

@@ -1,4 +1,4 @@
-//! Runs the rows of the files that lie beside it, programs that are checked and replays, each over memory, and tells
+//! Runs the rows of the files that lie beside it, programs that are checked, replays and recordings, each over memory, and tells
 //! those that end in another way than the row says.
 #![tactic(auto)]
 
@@ -13,12 +13,12 @@ mod stopped_run;
 
 use machines::compare;
 use rows::Rows;
-use runs::{checked, replayed};
+use runs::{checked, recorded, replayed};
 use std::alloc::Global;
 use std::fs;
 
 /// The files of rows.
-const FILES: [&str; 2] = ["checks.toml", "replays.toml"];
+const FILES: [&str; 3] = ["checks.toml", "replays.toml", "records.toml"];
 
 /// How the end of a replay that agrees begins.
 const AGREES: &str = "0 agrees";
@@ -46,7 +46,21 @@ fn differing(rt: &impl Print, alloc: Global, rows: &Rows) -> anyhow::Result<usiz
             count = count.saturating_add(1);
         }
     }
+    for row in &rows.records {
+        let ended = recorded(alloc, row)?;
+        if !is_as_wanted(rt, row.what.as_str(), row.ends.as_str(), ended.as_str())? {
+            count = count.saturating_add(1);
+        }
+    }
     Ok(count)
+}
+
+/// How many rows there are.
+fn row_count(rows: &Rows) -> usize {
+    let checks = rows.checks.len();
+    let replays = rows.replays.len();
+    let records = rows.records.len();
+    checks.saturating_add(replays).saturating_add(records)
 }
 
 /// How many replays of these rows agree, and how many of those the machine doesn't run as the walker does.
@@ -70,7 +84,7 @@ fn main(rt: HostRuntime) -> anyhow::Result<()> {
     for name in FILES {
         let text = fs::read_to_string(&rt, name)?;
         let rows: Rows = toml::from_str(alloc, text.as_str())?;
-        let count = rows.checks.len().saturating_add(rows.replays.len());
+        let count = row_count(&rows);
         let differ = differing(&rt, alloc, &rows)?;
         println!(rt; "{name}: {count} rows, {differ} differ")?;
         if !rows.replays.is_empty() {

@@ -8,6 +8,8 @@ pub struct Rows {
     pub checks: Vec<CheckRow>,
     #[serde(default)]
     pub replays: Vec<ReplayRow>,
+    #[serde(default)]
+    pub records: Vec<RecordRow>,
 }
 
 /// A program that is checked.
@@ -39,6 +41,32 @@ pub struct ReplayRow {
     pub path: Option<PathRow>,
     /// The status and the line with which it ends.
     pub ends: String,
+}
+
+/// A recording.
+#[derive(Drop, Deserialize)]
+#[serde(deny_unknown_fields)]
+pub struct RecordRow {
+    pub what: String,
+    pub program: String,
+    /// The state; `{}` where it isn't given.
+    pub state: Option<String>,
+    /// The file of the requests, and that of the turns where there is one.
+    pub requests: String,
+    pub turns: Option<String>,
+    /// The seed, as a word.
+    pub seed: Option<String>,
+    /// What the clock shows.
+    #[serde(default)]
+    pub clock: u64,
+    /// A part, and how often it stands in place of each `…` of the program, the requests and the turns.
+    pub repeat: Option<(String, usize)>,
+    /// The status and the line with which it ends.
+    pub ends: String,
+    /// The trace that is written, where it is told.
+    pub trace: Option<Vec<EventRow>>,
+    /// The report that is written, in hexadecimal digits, where it is told.
+    pub report: Option<String>,
 }
 
 /// A path that ends normally.

@@ -1,6 +1,6 @@
 //! The run of a row.
 use crate::files::{repeated, schedule_of, trace_of};
-use crate::rows::{CheckRow, ReplayRow};
+use crate::rows::{CheckRow, RecordRow, ReplayRow};
 use commands::run::run;
 use commands::words::Words;
 use outside::{FixedClock, MemHouse, MemShelf, MemSink, OpenGate};
@@ -15,8 +15,20 @@ pub const TRACE: &str = "trace";
 
 pub const SCHEDULE: &str = "schedule";
 
-/// The status and the line with which the program ends, with these words and over these files.
-fn ended(alloc: Global, texts: &[&str], shelf: &mut MemShelf) -> anyhow::Result<String> {
+pub const REQUESTS: &str = "requests";
+
+pub const TURNS: &str = "turns";
+
+pub const REPORT: &str = "report";
+
+/// The status and the line with which the program ends, with these words, over these files, and where the clock
+/// shows this.
+fn ended(
+    alloc: Global,
+    texts: &[&str],
+    shelf: &mut MemShelf,
+    clock: u64,
+) -> anyhow::Result<String> {
     let mut words = Words::new(alloc);
     for text in texts {
         words.push(text)?;
@@ -29,7 +41,7 @@ fn ended(alloc: Global, texts: &[&str], shelf: &mut MemShelf) -> anyhow::Result<
         shelf,
         &mut out,
         &mut house,
-        &FixedClock(0),
+        &FixedClock(clock),
         &OpenGate,
     );
     let line = String::from_utf8_lossy(alloc, out.written())?;
@@ -40,7 +52,7 @@ pub fn checked(alloc: Global, row: &CheckRow) -> anyhow::Result<String> {
     let mut shelf = MemShelf::new(alloc, Vec::new(alloc));
     let program = repeated(alloc, row.program.as_str(), &row.repeat)?;
     shelf.put(PROGRAM, program.as_bytes())?;
-    ended(alloc, &["check", PROGRAM], &mut shelf)
+    ended(alloc, &["check", PROGRAM], &mut shelf, 0)
 }
 
 /// The files of a replay.
@@ -58,5 +70,58 @@ pub fn replay_shelf(alloc: Global, row: &ReplayRow) -> anyhow::Result<MemShelf> 
 pub fn replayed(alloc: Global, row: &ReplayRow) -> anyhow::Result<String> {
     let mut shelf = replay_shelf(alloc, row)?;
     let words = ["replay", PROGRAM, STATE, TRACE, SCHEDULE];
-    ended(alloc, &words, &mut shelf)
+    ended(alloc, &words, &mut shelf, 0)
+}
+
+/// The inputs of a recording.
+fn record_shelf(alloc: Global, row: &RecordRow) -> anyhow::Result<MemShelf> {
+    let mut shelf = MemShelf::new(alloc, Vec::new(alloc));
+    let program = repeated(alloc, row.program.as_str(), &row.repeat)?;
+    shelf.put(PROGRAM, program.as_bytes())?;
+    let state = row.state.as_ref().map_or("{}", |state| state.as_str());
+    shelf.put(STATE, state.as_bytes())?;
+    let requests = repeated(alloc, row.requests.as_str(), &row.repeat)?;
+    shelf.put(REQUESTS, requests.as_bytes())?;
+    if let Some(turns) = &row.turns {
+        let turns = repeated(alloc, turns.as_str(), &row.repeat)?;
+        shelf.put(TURNS, turns.as_bytes())?;
+    }
+    Ok(shelf)
+}
+
+/// What is told of a file that is written, where another one is wanted, or none is and there is one.
+fn difference(written: Option<&[u8]>, wanted: Option<&[u8]>, ends_well: bool) -> bool {
+    match wanted {
+        Some(_) => written != wanted,
+        None => written.is_some() != ends_well,
+    }
+}
+
+/// How the recording ends, and whether it writes other files than it should.
+pub fn recorded(alloc: Global, row: &RecordRow) -> anyhow::Result<String> {
+    let mut shelf = record_shelf(alloc, row)?;
+    let mut words = ["record", PROGRAM, STATE, REQUESTS, TRACE, REPORT].to_vec(alloc)?;
+    if row.turns.is_some() {
+        words.extend_from_slice(&["--turns", TURNS])?;
+    }
+    if let Some(seed) = &row.seed {
+        words.extend_from_slice(&["--seed", seed.as_str()])?;
+    }
+    let ended = ended(alloc, &words, &mut shelf, row.clock)?;
+    let ends_well = ended.as_str().starts_with("0 ");
+    let trace = match &row.trace {
+        Some(trace) => Some(trace_of(alloc, trace, &row.repeat)?),
+        None => None,
+    };
+    let report = match &row.report {
+        Some(report) => Some(hex::decode(alloc, report.as_str())?),
+        None => None,
+    };
+    if difference(shelf.get(TRACE), trace.as_deref(), ends_well) {
+        return Ok(format!(in alloc; "{ended}, with another trace")?);
+    }
+    if difference(shelf.get(REPORT), report.as_deref(), ends_well) {
+        return Ok(format!(in alloc; "{ended}, with another report")?);
+    }
+    Ok(ended)
 }

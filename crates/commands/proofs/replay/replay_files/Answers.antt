@@ -3,8 +3,7 @@ use Rattle.object_set.specs.ObjectSets.{objects_of}
 use Rattle.commands.specs.Lines.{finding_of}
 use Rattle.commands.specs.NamesView.{names_of}
 use Rattle.commands.specs.Outcome.{IsFound, WithProgram, WithState, WithTrace}
-use Rattle.commands.proofs.Steps.{goes_on, ends}
-use Rattle.commands.specs.declared.answer.Answer.TheVariants.{Replay}
+use Rattle.commands.proofs.Steps.{goes_on, ends, replay_says}
 use Rattle.commands.proofs.replay.replay_files.Goals as goal
 
 pub returns-in_err-trace-clause-answer : goal.returns-in_err-trace-clause-answer
@@ -16,9 +15,9 @@ returns-in_err-trace-clause-answer g c = λ files told.
     let refused = c.in_err-trace.ensures.read files told'' in
     let names = names_of c.args.names in
     let held = objects_of c.in_ok-start.start in
-    goes_on Replay _ _ _ (WithProgram files names) _ program
-    (goes_on Replay _ _ _ (WithState files names c.in_ok-program.program) _ start
-    (ends Replay (λ trace. trace) _ _ (WithTrace files names c.in_ok-program.program held) _ _ refused c.from_residual-in_err-trace.ensures.1))
+    goes_on replay_says _ _ _ (WithProgram files names) _ program
+    (goes_on replay_says _ _ _ (WithState files names c.in_ok-program.program) _ start
+    (ends replay_says (λ trace. trace) _ _ (WithTrace files names c.in_ok-program.program held) _ _ refused c.from_residual-in_err-trace.ensures.1))
 
 pub returns-in_err-schedule-clause-answer : goal.returns-in_err-schedule-clause-answer
 returns-in_err-schedule-clause-answer g c = λ files told.
@@ -31,10 +30,10 @@ returns-in_err-schedule-clause-answer g c = λ files told.
     let refused = c.in_err-schedule.ensures.read files told3 in
     let names = names_of c.args.names in
     let held = objects_of c.in_ok-start.start in
-    goes_on Replay _ _ _ (WithProgram files names) _ program
-    (goes_on Replay _ _ _ (WithState files names c.in_ok-program.program) _ start
-    (goes_on Replay _ _ _ (WithTrace files names c.in_ok-program.program held) _ trace
-    (ends Replay (λ schedule. schedule) _ _ (IsFound c.in_ok-program.program held c.in_ok-trace.trace)
+    goes_on replay_says _ _ _ (WithProgram files names) _ program
+    (goes_on replay_says _ _ _ (WithState files names c.in_ok-program.program) _ start
+    (goes_on replay_says _ _ _ (WithTrace files names c.in_ok-program.program held) _ trace
+    (ends replay_says (λ schedule. schedule) _ _ (IsFound c.in_ok-program.program held c.in_ok-trace.trace)
     _ _ refused c.from_residual-in_err-schedule.ensures.1)))
 
 pub returns-in-Ok-clause-answer : goal.returns-in-Ok-clause-answer
@@ -47,7 +46,7 @@ returns-in-Ok-clause-answer g c = λ files told.
     let trace = c.in_ok-trace.ensures.read files told'' in
     let schedule = rw c.in-Ok.is at c.in_ok-schedule.ensures.read files told3 in
     let found = c.new.ensures ∙ (λ i. finding_of (c.len.ensures i) (c.in_ok-replayed-in-Ok.ensures.replayed i)) in
-    inr (_, program, inr (_, start, inr (_, trace, inr (_, schedule, ap Replay found))))
+    inr (_, program, inr (_, start, inr (_, trace, inr (_, schedule, ap replay_says found))))
 
 pub returns-clause-answer : goal.returns-clause-answer
 returns-clause-answer g c = λ files told.
@@ -59,4 +58,4 @@ returns-clause-answer g c = λ files told.
     let trace = c.in_ok-trace.ensures.read files told'' in
     let schedule = rw c.in-Err.is at c.in_ok-schedule.ensures.read files told3 in
     let found = c.new-in-Err.ensures ∙ ap (finding_of 0) c.in_ok-replayed-in-Err.ensures.replayed in
-    inr (_, program, inr (_, start, inr (_, trace, inr (_, schedule, ap Replay found))))
+    inr (_, program, inr (_, start, inr (_, trace, inr (_, schedule, ap replay_says found))))

@@ -1,0 +1,93 @@
+-- What the words of a command line ask `record` to do: five names and three options, read as the command-line library reads a simple command.
+use Rattle.std.specs.Prelude.{ℕ, ◌+◌, ◌<◌, ◌^◌, Bool, true, ◌&&◌, not, nat_lt, if◌then◌else◌, List, [], ◌∷◌, fold, codes, Option, Some, None}
+use Rattle.std.specs.Fmt.{decimal}
+use Rattle.std.specs.Str.{bytes_eq}
+use Rattle.std.specs.Str.Parse.{digits_value}
+use Rattle.basis.specs.Options.{◌>>=◌}
+use Rattle.clap.specs.Faults.{fault_of}
+use Rattle.clap.specs.Simple.{App, matches_of, new_app, new_rule, on_top, with_rule}
+use Rattle.clap.specs.Walk.{Rule, first_of, is_empty}
+use Rattle.commands.specs.WordsApp.{name_rule}
+use Rattle.commands.specs.declared.record_words.TheConstants.{MOST_WORKERS}
+
+-- the names of the files, with that of the turns where there is one, how many workers there are, and the seed
+pub record RecordWords : Type 0 where
+  pub program : List ℕ
+  pub state : List ℕ
+  pub requests : List ℕ
+  pub trace : List ℕ
+  pub report : List ℕ
+  pub turns : Option (List ℕ)
+  pub workers : ℕ
+  pub seed : ℕ
+
+-- ---- numbers
+
+-- the number below 2^64 of which the text is the decimal form
+abbrev pub number_of : List ℕ → Option ℕ
+number_of text =
+    let n = digits_value 10 text in
+    if bytes_eq (decimal n) text && nat_lt n (2 ^ 64) then Some n else None
+
+-- the number of an option, and another where it isn't given
+abbrev pub number_or : ℕ → Option (List ℕ) → Option ℕ
+number_or other None = Some other
+number_or other (Some text) = number_of text
+
+-- ---- words
+
+-- an option that takes a value
+abbrev pub option_rule : List ℕ → Rule
+option_rule id = record (new_rule id) { long = Some id }
+
+abbrev pub record_rules : List Rule
+record_rules =
+    name_rule (codes "program") ∷ name_rule (codes "state") ∷ name_rule (codes "requests")
+    ∷ name_rule (codes "trace") ∷ name_rule (codes "report")
+    ∷ option_rule (codes "workers") ∷ option_rule (codes "turns") ∷ option_rule (codes "seed") ∷ []
+
+abbrev pub record_app : App
+record_app =
+    fold with_rule (on_top (λ s. record s { no_binary_name = true }) (new_app (codes "record"))) record_rules
+
+-- The trace and the report have different names, and the workers are 1 to the most.
+abbrev pub is_sound : RecordWords → Bool
+is_sound w = not (bytes_eq w.trace w.report) && (nat_lt 0 w.workers && nat_lt w.workers (MOST_WORKERS + 1))
+
+abbrev pub if_sound : RecordWords → Option RecordWords
+if_sound w = if is_sound w then Some w else None
+
+-- what the words say whose names and options have these values, with these numbers
+abbrev pub words_of : (List ℕ → Option (List ℕ)) → Option ℕ → Option ℕ → Option RecordWords
+words_of value workers seed = do
+  program ← value (codes "program")
+  state ← value (codes "state")
+  requests ← value (codes "requests")
+  trace ← value (codes "trace")
+  report ← value (codes "report")
+  count ← workers
+  number ← seed
+  if_sound (record {
+    program = program;
+    state = state;
+    requests = requests;
+    trace = trace;
+    report = report;
+    turns = value (codes "turns");
+    workers = count;
+    seed = number;
+  })
+
+-- what was found of the words
+abbrev pub words_in : (List ℕ → Option (List ℕ)) → Option RecordWords
+words_in value =
+    words_of value (number_or 1 (value (codes "workers"))) (number_or 0 (value (codes "seed")))
+
+-- what the words behind `record` say, where the simple command takes them
+unfoldable pub taken_words : List (List ℕ) → Option RecordWords
+taken_words words = if is_empty (fault_of record_app words) then words_in (λ id. first_of id (matches_of record_app words)) else None
+
+-- `record`, and words that the simple command takes
+abbrev pub record_words : List (List ℕ) → Option RecordWords
+record_words [] = None
+record_words (command ∷ words) = if bytes_eq command (codes "record") then taken_words words else None

@@ -1,0 +1,8 @@
+mod Allowed
+mod Files
+mod Fitting
+mod Jobs
+mod Spellable
+mod TraceFollows
+mod TraceLimits
+mod Values

@@ -1,0 +1,77 @@
+-- The files of a recording: what they tell is a history that follows the turns.
+use Rattle.std.specs.Prelude.{◌≡◌, ℕ, ◌≤◌, ◌<◌, List, length, Option, Result}
+use Rattle.std.specs.Option.{ForSome}
+use Rattle.basis.specs.UnlessMemory.{UnlessMemory}
+use Rattle.basis.specs.declared.or_memory.OrMemory.{OrMemory}
+use Rattle.script_tree.specs.Objects.{Objects}
+use Rattle.script_tree.specs.Programs.{Program}
+use Rattle.script_tree.specs.Requests.{Request}
+use Rattle.script_tree.specs.declared.limits.TheConstants.{MOST_REQUESTS}
+use Rattle.wire.specs.Files.{Format, Spells, IsFileWithin, file_spelling}
+use Rattle.wire.specs.declared.limits.TheConstants.{MOST_FILE_BYTES}
+use Rattle.trace_format.specs.Events.{trace_format}
+use Rattle.report_format.specs.Reports.{report_format, records_of}
+use Rattle.dice.specs.Rolls.{dice_of}
+use Rattle.history.specs.Rooms.{IsLegal, IsClosed}
+use Rattle.history.specs.TraceOf.{trace_of}
+use Rattle.history.specs.ReportOf.{report_of}
+use Rattle.history.specs.declared.happening.Happening.{Happening}
+use Rattle.turns.specs.ByTurns.{FollowsTurns, arrivals}
+use Rattle.turns.specs.Offers.{AreRolled, rolls_at, ReadsClock}
+use Rattle.trace_and_report.specs.declared.record.Recorded.{Recorded}
+use Rattle.trace_and_report.specs.declared.record.TooLong.{TooLong}
+use Rattle.trace_and_report.specs.declared.record.TooLong.TheVariants as past
+
+-- The program did these jobs by turns, with the dice of the seed and the clock outside.
+pub record IsRunOf (program : Program) (start : Objects) (jobs : List Request) (turns : List ℕ)
+    (seed : ℕ) (reading : Option ℕ) (history : List Happening) : Type 0 where
+  pub legal : IsLegal program start history
+  pub closed : IsClosed start history
+  pub arrive : arrivals history ≡ jobs
+  pub in_turn : FollowsTurns turns (length jobs) start history
+  pub rolls : (seat : ℕ) → AreRolled (dice_of seed seat) (rolls_at seat history)
+  pub readings : ForSome reading (λ n. ReadsClock n start history)
+
+-- ---- files
+
+-- The bytes are the file of the trace. Where there are no more requests than a trace may have, they are read as it.
+pub record IsTraceFile (start : Objects) (history : List Happening) (bytes : List ℕ) : Type 0 where
+  pub within : IsFileWithin trace_format MOST_FILE_BYTES (trace_of start history) bytes
+  pub read_again : length (arrivals history) ≤ MOST_REQUESTS → Spells trace_format bytes (trace_of start history)
+
+-- The bytes are the file of the report, and are read as it.
+pub record IsReportFile (start : Objects) (history : List Happening) (bytes : List ℕ) : Type 0 where
+  pub within : IsFileWithin report_format MOST_FILE_BYTES (records_of (report_of start history)) bytes
+  pub read_again : Spells report_format bytes (records_of (report_of start history))
+
+-- The file of these would be longer than a file may be.
+abbrev pub IsTooLong : {A : Type 0} → Format A → List A → Type 0
+IsTooLong format items = MOST_FILE_BYTES < length (file_spelling format items)
+
+abbrev pub TraceIsTooLong : Objects → List Happening → Type 0
+TraceIsTooLong start history = IsTooLong trace_format (trace_of start history)
+
+abbrev pub ReportIsTooLong : Objects → List Happening → Type 0
+ReportIsTooLong start history = IsTooLong report_format (records_of (report_of start history))
+
+-- ---- recordings
+
+-- the files of the history, and how many requests and groups there are
+pub record AreFilesOf (start : Objects) (history : List Happening) (recorded : Recorded) : Type 0 where
+  pub trace : IsTraceFile start history recorded.trace.items
+  pub report : IsReportFile start history recorded.report.items
+  pub requests : recorded.requests ≡ length (arrivals history)
+  pub groups : recorded.groups ≡ length (report_of start history).groups
+
+-- The first of the two files that is too long is this one.
+abbrev pub HasTooLong : Objects → List Happening → TooLong → Type 0
+HasTooLong start history past.Trace = TraceIsTooLong start history
+HasTooLong start history past.Report = ¬ TraceIsTooLong start history × ReportIsTooLong start history
+
+-- The files of such a history, or which of them is too long, unless memory ran out.
+abbrev pub IsRecorded : (List Happening → Type 0) → Objects → Result Recorded (OrMemory TooLong) → Type 0
+IsRecorded IsRun start result =
+    UnlessMemory
+    (λ recorded. (history : List Happening) × IsRun history × AreFilesOf start history recorded)
+    (λ which. (history : List Happening) × IsRun history × HasTooLong start history which)
+    result

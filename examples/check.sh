@@ -1,8 +1,9 @@
 #!/bin/sh
-# Runs the blocks of README.md, in their order and in one shell, and compares what they print with what the page says.
-# Ends with 0 where they agree.
-page=$(CDPATH= cd -- "$(dirname -- "$0")" && pwd -P)/README.md || exit 125
-cd "${page%/examples/replay/README.md}" || exit 125
+# Usage: sh examples/check.sh NAME. Runs the blocks of examples/NAME/README.md, in their order and in one shell, and
+# compares what they print with what the page says. Ends with 0 where they agree.
+cd "$(dirname -- "$0")/.." || exit 125
+page=examples/$1/README.md
+[ -f "$page" ] || { echo "no page $page" >&2; exit 125; }
 room=$(mktemp -d) || exit 125
 trap 'rm -rf "$room"' EXIT
 export TMPDIR="$room"

@@ -1,19 +1,4 @@
 #!/bin/sh
-# Usage: sh examples/check.sh NAME. Runs the blocks of examples/NAME/README.md, in their order and in one shell, and
-# compares what they print with what the page says. Ends with 0 where they agree.
-cd "$(dirname -- "$0")/.." || exit 125
-page=examples/$1/README.md
-[ -f "$page" ] || { echo "no page $page" >&2; exit 125; }
-room=$(mktemp -d) || exit 125
-trap 'rm -rf "$room"' EXIT
-export TMPDIR="$room"
-
-# The lines inside the page's blocks of this kind.
-blocks() {
-    awk -v kind="$1" '/^```/ { inside = ($0 == "```" kind); next } inside' "$page"
-}
-
-blocks sh >"$room/blocks"
-blocks text >"$room/wanted"
-sh "$room/blocks" >"$room/printed"
-diff "$room/wanted" "$room/printed"
+# Usage: sh examples/check.sh NAME. Runs the blocks of examples/NAME/README.md, and compares what they print with what the
+# page says. Ends with 0 where they agree.
+exec sh "$(dirname -- "$0")/../docs/check_blocks.sh" "examples/$1/README.md"

@@ -100,14 +100,12 @@ fn difference(written: Option<&[u8]>, wanted: Option<&[u8]>, ends_well: bool) ->
 /// How the recording ends, and whether it writes other files than it should.
 pub fn recorded(alloc: Global, row: &RecordRow) -> anyhow::Result<String> {
     let mut shelf = record_shelf(alloc, row)?;
-    let mut words = ["record", PROGRAM, STATE, REQUESTS, TRACE, REPORT].to_vec(alloc)?;
-    if row.turns.is_some() {
-        words.extend_from_slice(&["--turns", TURNS])?;
-    }
-    if let Some(seed) = &row.seed {
-        words.extend_from_slice(&["--seed", seed.as_str()])?;
-    }
-    let ended = ended(alloc, &words, &mut shelf, row.clock)?;
+    let seed = row.seed.as_ref().map_or("0", |seed| seed.as_str());
+    let words = [
+        "record", PROGRAM, STATE, REQUESTS, TRACE, REPORT, "--seed", seed, "--turns", TURNS,
+    ];
+    let used = if row.turns.is_some() { 10 } else { 8 };
+    let ended = ended(alloc, &words[..used], &mut shelf, row.clock)?;
     let ends_well = ended.as_str().starts_with("0 ");
     let trace = match &row.trace {
         Some(trace) => Some(trace_of(alloc, trace, &row.repeat)?),

@@ -1,4 +1,4 @@
-//! The sample of examples/guestbook: records the jobs that lie beside it, on a clock that stands still, and prints
+//! The sample of examples/guestbook: records the jobs of its data, on a clock that stands still, and prints
 //! the status and the line.
 #![tactic(auto)]
 

@@ -1,6 +1,7 @@
 pub mod Balanced
 pub mod Grouped
 pub mod Histories
+pub mod Journals
 pub mod Names
 pub mod Naming
 pub mod Others

@@ -4,6 +4,7 @@
 pub mod event;
 mod grouped;
 pub mod happening;
+pub mod journal;
 pub mod law;
 mod naming;
 pub mod recorder;
@@ -17,7 +18,8 @@ pub mod trace;
 mod visit;
 
 pub use event::{Event, Reply};
-pub use happening::{Happening, History, history_of};
+pub use happening::{Happening, History, happening_by};
+pub use journal::Journal;
 pub use recorder::Recorder;
 pub use recording::Recording;
 pub use reports::report_of;

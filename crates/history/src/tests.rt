@@ -1,12 +1,13 @@
 //! A request arrives, and its history has a trace and a report.
 
 use crate::event::{Event, Reply};
-use crate::happening::history_of;
+use crate::happening::{History, happening_by};
+use crate::journal::Journal;
 use crate::recorder::Recorder;
 use crate::recording::Recording;
 use crate::reports::report_of;
 use crate::trace::trace_of;
-use desk::held::{make_call, opened};
+use desk::Bench;
 use object_set::ObjectSet;
 use script_check::program::check;
 use script_tree::request::{Parameters, Request};
@@ -29,11 +30,12 @@ fn an_arrival(rt: HostRuntime) -> Result<(), Fail> {
     let alloc = rt.alloc();
     let program = check(alloc, Tree::new(alloc)).ok().ok_or("a program")?;
     let objects = ObjectSet::new(alloc, program.declarations())?;
-    let recording = Recording::new(alloc, Arc::new(alloc, program)?, objects);
-    let mut held = opened::<Recorder>(alloc, recording);
-    let told = make_call::<Recorder>(&mut held, 3, Event::Arrive(request(alloc)?))?;
-    assert!(rt; matches!(told, Reply::Arrived(0)));
-    let history = history_of(alloc, held.calls)?;
+    let mut recording = Recording::new(alloc, Arc::new(alloc, program)?, objects);
+    let event = Event::Arrive(request(alloc)?);
+    let (reply, _) = Recorder::step(&mut recording, 3, &event)?;
+    assert!(rt; matches!(reply, Reply::Arrived(0)));
+    let mut history = History::new(alloc);
+    history.take(happening_by(3, event, &reply))?;
     let trace = trace_of(alloc, &history)?;
     assert_eq!(rt; trace.len(), 1);
     assert!(rt; matches!(trace.as_slice().first(), Some(TraceEvent::Asked(0, _))));

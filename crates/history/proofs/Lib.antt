@@ -1,11 +1,5 @@
 pub mod Actions
-pub mod Alike
 pub mod Balances
-pub mod Groupings
-pub mod Groups
 pub mod Legal
-pub mod Namings
-pub mod Reported
 pub mod Rests
 pub mod Seated
-pub mod Traces

@@ -1,15 +1,12 @@
 pub mod Balanced
-pub mod Grouped
 pub mod Histories
 pub mod Journals
 pub mod Names
-pub mod Naming
 pub mod Others
 pub mod Paths
 pub mod Recordings
 pub mod RecordingView
 pub mod ReportOf
-pub mod Reporting
 pub mod Rooms
 pub mod Seats
 pub mod TraceOf

@@ -1,5 +1,5 @@
 -- The trace of a history: its arrivals and its departures.
-use Rattle.std.specs.Prelude.{List, [], ◌∷◌, ◌++◌, filter_map, Option, Some, None}
+use Rattle.std.specs.Prelude.{List, filter_map, Option, Some, None}
 use Rattle.script_tree.specs.Objects.{Objects}
 use Rattle.script_tree.specs.declared.trace.TraceEvent.{TraceEvent}
 use Rattle.script_tree.specs.declared.trace.TraceEvent.TheVariants.{Asked, Answered}
@@ -17,8 +17,3 @@ trace_in names = filter_map event_in names
 
 abbrev pub trace_of : Objects → List Happening → List TraceEvent
 trace_of start history = trace_in (names_from (empty_room start) history)
-
--- these, and one more where there is one
-abbrev pub and_event : Option TraceEvent → List TraceEvent → List TraceEvent
-and_event None events = events
-and_event (Some e) events = events ++ e ∷ []

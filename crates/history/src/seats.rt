@@ -4,7 +4,7 @@ ghost use Rattle.history.specs.Seats.{at_seat, seated};
 use std::alloc::AllocError;
 
 /// Puts something at a seat, in a list by seat.
-pub(crate) fn put_at<T: Drop>(
+pub fn put_at<T: Drop>(
     seats: &mut Vec<Option<T>>,
     seat: u32,
     value: T,
@@ -23,7 +23,7 @@ pub(crate) fn put_at<T: Drop>(
 }
 
 /// Puts nothing at a seat.
-pub(crate) fn clear_at<T: Drop>(seats: &mut Vec<Option<T>>, seat: u32)
+pub fn clear_at<T: Drop>(seats: &mut Vec<Option<T>>, seat: u32)
     ensures { at_seat seats.new.items ≡ seated seat None (at_seat seats.old.items) }
 {
     let place = seat as usize;

@@ -1,19 +1,16 @@
-//! A request arrives, and its history has a trace and a report.
+//! A request arrives, and a journal of all that happened takes it in.
 
 use crate::event::{Event, Reply};
-use crate::happening::{History, happening_by};
+use crate::happening::{Happening, History, happening_by};
 use crate::journal::Journal;
 use crate::recorder::Recorder;
 use crate::recording::Recording;
-use crate::reports::report_of;
-use crate::trace::trace_of;
 use desk::Bench;
 use object_set::ObjectSet;
 use script_check::program::check;
 use script_tree::request::{Parameters, Request};
 use script_tree::syntax::declaration::Tree;
 use script_tree::text::Text;
-use script_tree::trace::TraceEvent;
 use std::alloc::Global;
 use std::sync::Arc;
 use std::test::Fail;
@@ -31,15 +28,14 @@ fn an_arrival(rt: HostRuntime) -> Result<(), Fail> {
     let program = check(alloc, Tree::new(alloc)).ok().ok_or("a program")?;
     let objects = ObjectSet::new(alloc, program.declarations())?;
     let mut recording = Recording::new(alloc, Arc::new(alloc, program)?, objects);
-    let event = Event::Arrive(request(alloc)?);
+    let request = request(alloc)?;
+    request.keeps_limits();
+    let event = Event::Arrive(request);
     let (reply, _) = Recorder::step(&mut recording, 3, &event)?;
     assert!(rt; matches!(reply, Reply::Arrived(0)));
     let mut history = History::new(alloc);
     history.take(happening_by(3, event, &reply))?;
-    let trace = trace_of(alloc, &history)?;
-    assert_eq!(rt; trace.len(), 1);
-    assert!(rt; matches!(trace.as_slice().first(), Some(TraceEvent::Asked(0, _))));
-    let report = report_of(alloc, history)?;
-    assert_eq!(rt; report.counts.len(), 1);
+    assert_eq!(rt; history.len(), 1);
+    assert!(rt; matches!(history.as_slice().first(), Some(Happening::Arrive(3, _))));
     Ok(())
 }

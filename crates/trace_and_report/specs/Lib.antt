@@ -1,3 +1,7 @@
+pub mod Draft
+pub mod Grouped
+pub mod Journaled
+pub mod Naming
 pub mod Recorded
-pub mod Recording
 pub mod Widths
+pub mod Written

@@ -18,19 +18,9 @@ use Rattle.history.specs.ReportOf.{report_of}
 use Rattle.history.specs.declared.happening.Happening.{Happening}
 use Rattle.turns.specs.ByTurns.{FollowsTurns, arrivals}
 use Rattle.turns.specs.Offers.{AreRolled, rolls_at, ReadsClock}
-use Rattle.trace_and_report.specs.declared.record.Recorded.{Recorded}
-use Rattle.trace_and_report.specs.declared.record.TooLong.{TooLong}
-use Rattle.trace_and_report.specs.declared.record.TooLong.TheVariants as past
-
--- The program did these jobs by turns, with the dice of the seed and the clock outside.
-pub record IsRunOf (program : Program) (start : Objects) (jobs : List Request) (turns : List ℕ)
-    (seed : ℕ) (reading : Option ℕ) (history : List Happening) : Type 0 where
-  pub legal : IsLegal program start history
-  pub closed : IsClosed start history
-  pub arrive : arrivals history ≡ jobs
-  pub in_turn : FollowsTurns turns (length jobs) start history
-  pub rolls : (seat : ℕ) → AreRolled (dice_of seed seat) (rolls_at seat history)
-  pub readings : ForSome reading (λ n. ReadsClock n start history)
+use Rattle.trace_and_report.specs.declared.recorded.Recorded.{Recorded}
+use Rattle.trace_and_report.specs.declared.recorded.TooLong.{TooLong}
+use Rattle.trace_and_report.specs.declared.recorded.TooLong.TheVariants as past
 
 -- ---- files
 

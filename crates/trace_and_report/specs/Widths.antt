@@ -7,16 +7,11 @@ use Rattle.script_tree.specs.declared.transaction.Test.{Test}
 use Rattle.script_tree.specs.declared.transaction.Change.{Change}
 use Rattle.script_tree.specs.declared.transaction.Statement.{Statement}
 use Rattle.script_tree.specs.declared.transaction.Statement.TheVariants.{Insert, Select, Update, Delete, Expect}
-use Rattle.script_tree.specs.declared.trace.TraceEvent.{TraceEvent}
-use Rattle.script_tree.specs.declared.trace.TraceEvent.TheVariants.{Asked, Answered}
-use Rattle.trace_format.specs.Events.{IsResponse}
 use Rattle.wire.specs.Spellings.{integer_field, bytes_field, HasWideNumbers, HaveWideNumbers, IsWideChoice}
 use Rattle.report.specs.Groups.{IsSome}
 use Rattle.report.specs.declared.Count.{Count}
-use Rattle.report.specs.declared.Log.{Log}
 use Rattle.report.specs.declared.LogEntry.{LogEntry}
-use Rattle.report.specs.declared.Report.{Report}
-use Rattle.report_format.specs.Operations.{u32_field, IsObject}
+use Rattle.report_format.specs.Operations.{u32_field}
 
 -- each of them is so
 abbrev pub Each : {A : Type 0} → (A → Type 0) → List A → Type 0
@@ -70,19 +65,5 @@ IsWideCount c = IsWide c.rid × IsWide c.operations
 abbrev pub IsWideEntry : LogEntry → Type 0
 IsWideEntry e = IsWide e.rid × IsWide e.number × IsWideAct e.act × IsWideChoice e.choice
 
-abbrev pub IsWideLog : Log → Type 0
-IsWideLog l = IsObject l.object × EachCounted IsWideEntry l.entries
-
 abbrev pub IsWideGroup : List ℕ → Type 0
 IsWideGroup rids = IsSome rids × EachCounted IsWide rids
-
-pub record IsWideReport (report : Report) : Type 0 where
-  pub counts : Each IsWideCount report.counts
-  pub logs : Each IsWideLog report.logs
-  pub groups : Each IsWideGroup report.groups
-
--- ---- traces
-
-abbrev pub IsWideEvent : TraceEvent → Type 0
-IsWideEvent (Asked rid request) = IsWide rid
-IsWideEvent (Answered rid response) = IsWide rid × IsResponse response

@@ -4,12 +4,11 @@ ghost use Rattle.std.specs.Prelude.{◌<◌, ◌^◌, length, OnOk};
 ghost use Rattle.script_tree.specs.Datum.{data_of};
 ghost use Rattle.script_tree.specs.ValueView.{datum_of};
 ghost use Rattle.wire.specs.Spellings.{HasWideNumbers, HaveWideNumbers};
-ghost use Rattle.trace_and_report.specs.Widths.{Each, EachCounted, IsWideEvent, IsWideReport};
+ghost use Rattle.trace_and_report.specs.Widths.{Each, EachCounted};
 
-use report::{Count, Group, Log, LogEntry, Report};
+use report::{Count, Group, LogEntry};
 use script_tree::operation::{Act, Choice, Object};
 use script_tree::request::Response;
-use script_tree::trace::{Trace, TraceEvent};
 use script_tree::transaction::{Change, Statement, Test};
 use script_tree::value::{Node, Value};
 use std::alloc::AllocError;
@@ -249,17 +248,6 @@ impl Wide for LogEntry {
     }
 }
 
-impl Wide for Log {
-    ghost use Rattle.trace_and_report.specs.Widths.{IsWideLog};
-
-    ghost is_wide = { λ l. IsWideLog l };
-
-    fn keep_widths(&self) -> Result<(), AllocError> {
-        self.object.keep_widths()?;
-        keep_counted(self.entries.as_slice())
-    }
-}
-
 impl Wide for Group {
     ghost use Rattle.trace_and_report.specs.Widths.{IsWideGroup};
 
@@ -279,36 +267,4 @@ impl Wide for Response {
         let _status: u16 = self.status;
         keep_count(self.body.as_bytes())
     }
-}
-
-impl Wide for TraceEvent {
-    ghost use Rattle.trace_and_report.specs.Widths.{IsWideEvent};
-
-    ghost is_wide = { λ e. IsWideEvent e };
-
-    fn keep_widths(&self) -> Result<(), AllocError> {
-        match self {
-            TraceEvent::Asked(rid, _request) => rid.keep_widths(),
-            TraceEvent::Answered(rid, response) => {
-                rid.keep_widths()?;
-                response.keep_widths()
-            }
-        }
-    }
-}
-
-/// The numbers of a trace have their bits, and 32 bits count its bodies.
-pub(crate) fn keep_trace_widths(trace: &Trace) -> Result<(), AllocError>
-    ensures { OnOk result (Each IsWideEvent trace.now) }
-{
-    keep_each(trace.as_slice())
-}
-
-/// The numbers of a report have their bits, and 32 bits count what it lists.
-pub(crate) fn keep_report_widths(report: &Report) -> Result<(), AllocError>
-    ensures { OnOk result (IsWideReport report.now) }
-{
-    keep_each(report.counts.as_slice())?;
-    keep_each(report.logs.as_slice())?;
-    keep_each(report.groups.as_slice())
 }

@@ -1,5 +1,0 @@
-use Rattle.history.proofs.Groups.{none_yet}
-use Rattle.history.proofs.grouped.no_groups.Goals as goal
-
-pub returns : goal.returns
-returns g c = none_yet c.new.result c.new.ensures.len

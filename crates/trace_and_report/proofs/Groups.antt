@@ -1,0 +1,52 @@
+-- Groups, and one member more.
+use Rattle.std.proofs.Common.{◌≡◌, ◌∙◌, arith, length, Bool, true, false, cond, List, [], ◌∷◌, ◌++◌, Option, Some, None, Vec, Global, map, refl, ap, unwrap_or}
+use Rattle.std.specs.Map.{lookup}
+use Rattle.indexmap.specs.IndexMap.{IndexMap, get, insert_entry}
+use Rattle.trace_and_report.specs.Grouped.{groups_in, and_member}
+
+abbrev pub lists : {K V : Type 0} → List (K × Vec V Global) → List (K × List V)
+lists es = map (λ g. (g.0, g.1.items)) es
+
+module _ {K V : Type 0} (alike : K → K → Bool) (k : K) (v : V) where
+  -- the members that a key has
+  abbrev members_at : Option (Vec V Global) → List V
+  members_at None = []
+  members_at (Some w) = w.items
+
+  one_more : (b : Bool) (e : K × Vec V Global) (es rest : List (K × Vec V Global)) (w : Vec V Global)
+      → w.items ≡ members_at (cond b (Some e.1) (lookup (alike k) es)) ++ v ∷ []
+      → (w.items ≡ members_at (lookup (alike k) es) ++ v ∷ [] → lists rest ≡ and_member alike k v (lists es))
+      → lists (cond b ((e.0, w) ∷ es) (e ∷ rest)) ≡ cond b ((e.0, e.1.items ++ v ∷ []) ∷ lists es) ((e.0, e.1.items) ∷ and_member alike k v (lists es))
+  one_more true e es rest w is more = ap (λ vs. (e.0, vs) ∷ lists es) is
+  one_more false e es rest w is more = ap (λ gs. (e.0, e.1.items) ∷ gs) (more is)
+
+  inserted : (es : List (K × Vec V Global)) (w : Vec V Global) → w.items ≡ members_at (lookup (alike k) es) ++ v ∷ []
+      → lists (insert_entry alike es k w) ≡ and_member alike k v (lists es)
+  inserted [] w is = ap (λ vs. (k, vs) ∷ []) is
+  inserted (e ∷ es) w is = one_more (alike k e.0) e es (insert_entry alike es k w) w is (inserted es w)
+
+  or_none : (was : Option (Vec V Global)) (none : Vec V Global) → none.items ≡ [] → (unwrap_or was none).items ≡ members_at was
+  or_none None none is = is
+  or_none (Some w) none is = refl
+
+  -- what a value that is written for the key makes of the groups
+  pub written : {S : Type 0} (old made left : IndexMap K (Vec V Global) S) (was : Option (Vec V Global)) (none before after : Vec V Global)
+      → left ≡ made → made.entries ≡ insert_entry alike old.entries k after → was ≡ get alike old k
+      → none.items ≡ [] → before ≡ unwrap_or was none → after.items ≡ before.items ++ v ∷ []
+      → groups_in left ≡ and_member alike k v (groups_in old)
+  unfolding groups_in
+  written old made left was none before after same put found empty is more =
+      ap (λ (m : IndexMap K (Vec V Global) _). lists m.entries) same ∙ ap lists put
+      ∙ inserted old.entries after (more ∙ ap (λ (w : Vec V Global). w.items ++ v ∷ []) is ∙ ap (λ vs. vs ++ v ∷ []) (or_none was none empty ∙ ap members_at found))
+
+pub empty_list : {A : Type 0} (xs : List A) → length xs ≡ 0 → xs ≡ []
+empty_list [] none = refl
+empty_list (x ∷ xs) none = absurd (omega arith)
+
+pub none_yet : {K V S : Type 0} (m : IndexMap K (Vec V Global) S) → length m.entries ≡ 0 → groups_in m ≡ []
+unfolding groups_in
+none_yet m none = ap lists (empty_list m.entries none)
+
+pub lists_in : {K V S : Type 0} (m : IndexMap K (Vec V Global) S) (es : List (K × Vec V Global)) → es ≡ m.entries → lists es ≡ groups_in m
+unfolding groups_in
+lists_in m es is = ap lists is

@@ -1,0 +1,48 @@
+-- The records of a report, written one behind the other.
+use Rattle.std.specs.Prelude.{◌≡◌, ℕ, ◌≤◌, ◌<◌, List, ◌++◌, map, filter_map, length, Option, Some, None}
+use Rattle.script_tree.specs.declared.operation.Object.{Object}
+use Rattle.wire.specs.Files.{file_spelling, records_spelling}
+use Rattle.wire.specs.declared.limits.TheConstants.{MOST_FILE_BYTES}
+use Rattle.trace_format.specs.Events.{trace_format}
+use Rattle.report.specs.declared.LogEntry.{LogEntry}
+use Rattle.report_format.specs.Parts.{AllAllowed}
+use Rattle.report_format.specs.Reports.{any_record_field, entry_field, records_of, report_format, IsSpellable}
+use Rattle.report_format.specs.declared.format.ReportRecord.{ReportRecord}
+use Rattle.report_format.specs.declared.format.ReportRecord.TheVariants as it
+use Rattle.history.specs.Names.{Named}
+use Rattle.history.specs.ReportOf.{report_in}
+use Rattle.history.specs.TraceOf.{trace_in}
+use Rattle.trace_and_report.specs.Draft.{arrival_in, count_at}
+use Rattle.trace_and_report.specs.declared.recorded.Recorded.{Recorded}
+use Rattle.trace_and_report.specs.declared.recorded.TooLong.{TooLong}
+use Rattle.trace_and_report.specs.declared.recorded.TooLong.TheVariants as past
+
+-- These records stand behind the bytes, and each may stand in a report.
+pub record AreAdded (records : List ReportRecord) (old new : List ℕ) : Type 0 where
+  pub behind : new ≡ old ++ records_spelling report_format records
+  pub allowed : AllAllowed any_record_field records
+
+-- the records of the counts of these requests
+abbrev pub count_records : List (Option ℕ) → List ℕ → List ReportRecord
+count_records operations rids = map (λ r. it.Count (count_at operations r)) rids
+
+abbrev pub log_record : Object × List LogEntry → ReportRecord
+log_record g = it.Log (record { object = g.0; entries = g.1 })
+
+-- Each entry of the log may be spelled.
+abbrev pub HasSpellings : Object × List LogEntry → Type 0
+HasSpellings g = AllAllowed entry_field g.1
+
+-- They are the files of these names.
+pub record AreFiles (names : List Named) (recorded : Recorded) : Type 0 where
+  pub trace : recorded.trace.items ≡ file_spelling trace_format (trace_in names)
+  pub report : recorded.report.items ≡ file_spelling report_format (records_of (report_in names))
+  pub spellable : IsSpellable (report_in names)
+  pub requests : recorded.requests ≡ length (filter_map arrival_in names)
+  pub groups : recorded.groups ≡ length (report_in names).groups
+
+-- The first of them that is longer than a file may be is this one, if any.
+abbrev pub TellsTooLong : Recorded → Option TooLong → Type 0
+TellsTooLong r None = (length r.trace.items ≤ MOST_FILE_BYTES) × (length r.report.items ≤ MOST_FILE_BYTES)
+TellsTooLong r (Some past.Trace) = MOST_FILE_BYTES < length r.trace.items
+TellsTooLong r (Some past.Report) = (length r.trace.items ≤ MOST_FILE_BYTES) × (MOST_FILE_BYTES < length r.report.items)

@@ -1,0 +1,153 @@
+ghost use Rattle.std.specs.Prelude.{◌≡◌, ℕ, [], List, IfOk, OnOk};
+ghost use Rattle.script_tree.specs.Programs.{Program};
+ghost use Rattle.script_tree.specs.Requests.{IsRequestWithinLimits};
+ghost use Rattle.script_tree.specs.declared.path.Path.{Path as Taken};
+ghost use Rattle.script_tree.specs.declared.request.Response.{Response as Answered};
+ghost use Rattle.script_fit.specs.FitsOperation.{FitsOperation};
+ghost use Rattle.history.specs.Journals.{CanHappen};
+ghost use Rattle.history.specs.Names.{Named, came, did, went, name, rid_in, number_in};
+ghost use Rattle.history.specs.Rooms.{Room};
+ghost use Rattle.trace_and_report.specs.Draft.{IsOfNames, TakesIn, counted, one_more_of};
+ghost use Rattle.trace_and_report.specs.Written.{AreFiles};
+
+use crate::grouped::{Grouped, add_member, no_groups};
+use crate::logs::{Logs, add_entry, no_logs};
+use crate::naming::one_more;
+use crate::recorded::Recorded;
+use crate::widths::Wide;
+use crate::writing::{write_counts, write_groups, write_logs};
+use history::Happening;
+use history::seats::put_at;
+use report::LogEntry;
+use report_format::appending::begin as begin_report;
+use script_tree::operation::{Choice, Op};
+use script_tree::path::Path;
+use script_tree::request::{Request, Response};
+use std::alloc::{AllocError, Global};
+use trace_format::appending::{add_request, add_response, begin as begin_trace};
+
+/// What is kept of a history to write its files, while one goes through it: the trace as its file
+/// has it, and the parts of the report.
+#[derive(Drop)]
+pub(crate) struct Draft {
+    alloc: Global,
+    trace: Vec<u8>,
+    /// The ids of the requests that arrived.
+    arrived: Vec<u32>,
+    /// How many operations each request did, by id.
+    operations: Vec<Option<u32>>,
+    logs: Logs,
+    groups: Grouped<Path, u32>,
+}
+
+impl Draft {
+    /// Before anything has happened.
+    pub(crate) fn new(alloc: Global) -> Result<Draft, AllocError>
+        ensures { IfOk result (IsOfNames []) }
+    {
+        Ok(Draft {
+            alloc,
+            trace: begin_trace(alloc)?,
+            arrived: Vec::new(alloc),
+            operations: Vec::new(alloc),
+            logs: no_logs(alloc),
+            groups: no_groups(alloc),
+        })
+    }
+
+    /// Takes in what happened to a request: its id, and of an operation also its number.
+    pub(crate) fn take(
+        &mut self,
+        rid: u32,
+        number: u32,
+        happening: Happening,
+    ) -> Result<(), AllocError>
+        requires { CanHappen happening }
+        ensures { (room : Room) → rid ≡ rid_in room happening → number ≡ number_in room happening
+            → TakesIn (name room happening) self.old self.new result }
+    {
+        match happening {
+            Happening::Arrive(_seat, request) => self.arrive(rid, &request),
+            Happening::Act(_seat, op, choice) => self.act(rid, number, op, choice),
+            Happening::Depart(_seat, response, path) => self.depart(rid, &response, path),
+        }
+    }
+
+    fn arrive(&mut self, rid: u32, request: &Request) -> Result<(), AllocError>
+        requires { IsRequestWithinLimits request.now }
+        ensures { TakesIn (came rid request.now) self.old self.new result }
+    {
+        rid.keep_widths()?;
+        add_request(&mut self.trace, rid, request)?;
+        self.arrived.push(rid)?;
+        Ok(())
+    }
+
+    fn act(&mut self, rid: u32, number: u32, op: Op, choice: Choice) -> Result<(), AllocError>
+        requires { (program : Program) × FitsOperation program op }
+        ensures { TakesIn (did rid number op choice) self.old self.new result }
+    {
+        let Op { object, act } = op;
+        let entry = LogEntry {
+            rid,
+            number,
+            act,
+            choice,
+        };
+        entry.keep_widths()?;
+        count(&mut self.operations, rid)?;
+        add_entry(self.alloc, &mut self.logs, object, &entry)
+    }
+
+    fn depart(&mut self, rid: u32, response: &Response, path: Path) -> Result<(), AllocError>
+        ensures { TakesIn (went rid response.now path) self.old self.new result }
+    {
+        rid.keep_widths()?;
+        response.keep_widths()?;
+        add_response(&mut self.trace, rid, response)?;
+        add_member(self.alloc, &mut self.groups, path, rid)
+    }
+
+    /// The files of all that was taken in.
+    pub(crate) fn finish(self) -> Result<Recorded, AllocError>
+        ensures { (names : List Named) → IsOfNames names self → IfOk result (AreFiles names) }
+    {
+        let Draft {
+            alloc,
+            trace,
+            arrived,
+            operations,
+            logs,
+            groups,
+        } = self;
+        let requests = arrived.len();
+        let paths = groups.len();
+        let mut report = begin_report(alloc)?;
+        write_counts(&mut report, &arrived, &operations)?;
+        write_logs(&mut report, logs)?;
+        write_groups(&mut report, groups)?;
+        Ok(Recorded {
+            trace,
+            report,
+            requests,
+            groups: paths,
+        })
+    }
+}
+
+/// One operation more of a request.
+fn count(operations: &mut Vec<Option<u32>>, rid: u32) -> Result<(), AllocError>
+    ensures { OnOk result ((r : ℕ) → counted operations.new.items r
+        ≡ one_more_of rid (counted operations.old.items) r) }
+{
+    let more = one_more(counted(operations, rid))?;
+    put_at(operations, rid, more)
+}
+
+/// How many operations a request did.
+pub(crate) fn counted(operations: &[Option<u32>], rid: u32) -> u32
+    ensures { result ≡ counted operations.now rid }
+{
+    let here = operations.get(rid as usize).copied().flatten();
+    here.unwrap_or(0)
+}

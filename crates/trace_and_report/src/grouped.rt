@@ -1,0 +1,31 @@
+ghost use Rattle.std.specs.Prelude.{◌≡◌, [], OnOk};
+ghost use Rattle.trace_and_report.specs.Grouped.{groups_in, and_member};
+
+use indexmap::IndexMap;
+use std::alloc::{AllocError, Global};
+use std::hash::Hash;
+
+/// Keys in the order of their first use, each with its members in their order.
+pub(crate) type Grouped<K, V> = IndexMap<K, Vec<V>>;
+
+/// No key.
+pub(crate) fn no_groups<K: Eq + Hash, V>(alloc: Global) -> Grouped<K, V>
+    ensures { groups_in result ≡ [] }
+{
+    IndexMap::new(alloc)
+}
+
+/// Puts a member behind the others of its key. A new key goes last.
+pub(crate) fn add_member<K: Eq + Hash + Drop, V: Drop>(
+    alloc: Global,
+    groups: &mut Grouped<K, V>,
+    key: K,
+    member: V,
+) -> Result<(), AllocError>
+    ensures { OnOk result
+        (groups_in groups.new ≡ and_member K.eq key member (groups_in groups.old)) }
+{
+    let members = groups.entry(key)?.or_insert(Vec::new(alloc));
+    members.push(member)?;
+    Ok(())
+}

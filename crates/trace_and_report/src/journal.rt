@@ -1,0 +1,49 @@
+ghost use Rattle.std.specs.Prelude.{[], List, IfOk};
+ghost use Rattle.history.specs.declared.happening.Happening.{Happening as Happened};
+ghost use Rattle.history.specs.Names.{names_from};
+ghost use Rattle.history.specs.Rooms.{empty_room};
+ghost use Rattle.script_tree.specs.Objects.{Objects};
+ghost use Rattle.trace_and_report.specs.Journaled.{Keeps};
+ghost use Rattle.trace_and_report.specs.Written.{AreFiles};
+
+use crate::draft::Draft;
+use crate::naming::Naming;
+use crate::recorded::Recorded;
+use history::{Happening, Journal};
+use std::alloc::{AllocError, Global};
+
+/// A journal that writes the files of a history while it goes on.
+#[derive(Drop)]
+pub(crate) struct FileJournal {
+    naming: Naming,
+    draft: Draft,
+}
+
+impl FileJournal {
+    /// Before anything has happened.
+    pub(crate) fn new(alloc: Global) -> Result<FileJournal, AllocError>
+        ensures { IfOk result (Keeps []) }
+    {
+        Ok(FileJournal {
+            naming: Naming::new(alloc),
+            draft: Draft::new(alloc)?,
+        })
+    }
+
+    /// The files of the history.
+    pub(crate) fn finish(self) -> Result<Recorded, AllocError>
+        ensures { (start : Objects) (history : List Happened) → Keeps history self
+            → IfOk result (AreFiles (names_from (empty_room start) history)) }
+    {
+        self.draft.finish()
+    }
+}
+
+impl Journal for FileJournal {
+    ghost keeps = { Keeps };
+
+    fn take(&mut self, happening: Happening) -> Result<(), AllocError> {
+        let name = self.naming.pass(&happening)?;
+        self.draft.take(name.rid, name.number, happening)
+    }
+}

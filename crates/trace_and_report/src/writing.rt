@@ -1,0 +1,68 @@
+//! The records of a report, one behind the other.
+ghost use Rattle.std.specs.Prelude.{◌≡◌, List, map, OnOk};
+ghost use Rattle.script_tree.specs.declared.operation.Object.{Object as Used};
+ghost use Rattle.report.specs.declared.LogEntry.{LogEntry as Entry};
+ghost use Rattle.report_format.specs.declared.format.ReportRecord.TheVariants as it;
+ghost use Rattle.trace_and_report.specs.Draft.{spelled_log};
+ghost use Rattle.trace_and_report.specs.Grouped.{groups_in, HaveMembers};
+ghost use Rattle.trace_and_report.specs.Widths.{Each};
+ghost use Rattle.trace_and_report.specs.Written.{AreAdded, count_records, log_record, HasSpellings};
+
+use crate::draft::counted;
+use crate::grouped::Grouped;
+use crate::logs::Logs;
+use crate::widths::Wide;
+use report::{Count, Group};
+use report_format::appending::{add_count, add_group, add_log};
+use script_tree::path::Path;
+use std::alloc::AllocError;
+
+/// Writes how many operations each request did that arrived.
+pub(crate) fn write_counts(
+    out: &mut Vec<u8>,
+    arrived: &[u32],
+    operations: &[Option<u32>],
+) -> Result<(), AllocError>
+    ensures { let records = count_records operations.now arrived.now in
+        OnOk result (AreAdded records out.old.items out.new.items) }
+{
+    for rid in arrived {
+        let count = Count {
+            rid: *rid,
+            operations: counted(operations, *rid),
+        };
+        count.keep_widths()?;
+        add_count(out, count)?;
+    }
+    Ok(())
+}
+
+/// Writes the logs, and drops each of them then.
+pub(crate) fn write_logs(out: &mut Vec<u8>, logs: Logs) -> Result<(), AllocError>
+    ensures { (gs : List (Used × List Entry)) → logs.entries ≡ map spelled_log gs
+        → Each HasSpellings gs
+        → OnOk result (AreAdded (map log_record gs) out.old.items out.new.items) }
+{
+    for (object, entries) in logs {
+        object.keep_widths()?;
+        entries.len().keep_widths()?;
+        add_log(out, &object, &entries)?;
+    }
+    Ok(())
+}
+
+/// Writes the groups of requests that took one path.
+pub(crate) fn write_groups(out: &mut Vec<u8>, groups: Grouped<Path, u32>) -> Result<(), AllocError>
+    requires { HaveMembers (groups_in groups) }
+    ensures { let records = map (λ g. it.Group g.1) (groups_in groups) in
+        OnOk result (AreAdded records out.old.items out.new.items) }
+{
+    for (_path, rids) in groups {
+        let Some(group) = Group::new(rids) else {
+            unreachable!()
+        };
+        group.keep_widths()?;
+        add_group(out, &group)?;
+    }
+    Ok(())
+}

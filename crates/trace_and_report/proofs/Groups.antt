@@ -1,5 +1,6 @@
 -- Groups, and one member more.
-use Rattle.std.proofs.Common.{◌≡◌, ◌∙◌, arith, length, Bool, true, false, cond, List, [], ◌∷◌, ◌++◌, Option, Some, None, Vec, Global, map, refl, ap, unwrap_or}
+use Rattle.std.proofs.Common.{◌≡◌, ◌∙◌, arith, length, Bool, true, false, cond, List, [], ◌∷◌, ◌++◌, Option, Some, None, Vec, Global, map, refl, ap, sym, unwrap_or}
+use Rattle.std.specs.Prelude.{option_map}
 use Rattle.std.specs.Map.{lookup}
 use Rattle.indexmap.specs.IndexMap.{IndexMap, get, insert_entry}
 use Rattle.trace_and_report.specs.Grouped.{groups_in, and_member}
@@ -50,3 +51,51 @@ none_yet m none = ap lists (empty_list m.entries none)
 pub lists_in : {K V S : Type 0} (m : IndexMap K (Vec V Global) S) (es : List (K × Vec V Global)) → es ≡ m.entries → lists es ≡ groups_in m
 unfolding groups_in
 lists_in m es is = ap lists is
+
+-- ---- members that are kept as something else
+
+module _ {K V W : Type 0} (seen : List V → W) (alike : K → K → Bool) (k : K) (v : V) where
+  abbrev seen_as : K × List V → K × W
+  seen_as g = (g.0, seen g.1)
+
+  abbrev list_at : Option (List V) → List V
+  list_at None = []
+  list_at (Some vs) = vs
+
+  seen_there : (b : Bool) (vs : List V) (o : Option (List V)) (p : Option W) → p ≡ option_map seen o → cond b (Some (seen vs)) p ≡ option_map seen (cond b (Some vs) o)
+  seen_there true vs o p is = refl
+  seen_there false vs o p is = is
+
+  found_seen : (gs : List (K × List V)) → lookup (alike k) (map seen_as gs) ≡ option_map seen (lookup (alike k) gs)
+  found_seen [] = refl
+  found_seen (g ∷ gs) = seen_there (alike k g.0) g.1 (lookup (alike k) gs) (lookup (alike k) (map seen_as gs)) (found_seen gs)
+
+  one_more_seen : (b : Bool) (g : K × List V) (gs : List (K × List V)) (rest : List (K × W)) (w : W)
+      → w ≡ seen (list_at (cond b (Some g.1) (lookup (alike k) gs)) ++ v ∷ [])
+      → (w ≡ seen (list_at (lookup (alike k) gs) ++ v ∷ []) → rest ≡ map seen_as (and_member alike k v gs))
+      → cond b ((g.0, w) ∷ map seen_as gs) (seen_as g ∷ rest) ≡ map seen_as (cond b ((g.0, g.1 ++ v ∷ []) ∷ gs) (g ∷ and_member alike k v gs))
+  one_more_seen true g gs rest w is more = ap (λ x. (g.0, x) ∷ map seen_as gs) is
+  one_more_seen false g gs rest w is more = ap (λ xs. seen_as g ∷ xs) (more is)
+
+  inserted_seen : (gs : List (K × List V)) (w : W) → w ≡ seen (list_at (lookup (alike k) gs) ++ v ∷ [])
+      → insert_entry alike (map seen_as gs) k w ≡ map seen_as (and_member alike k v gs)
+  inserted_seen [] w is = ap (λ x. (k, x) ∷ []) is
+  inserted_seen (g ∷ gs) w is = one_more_seen (alike k g.0) g gs (insert_entry alike (map seen_as gs) k w) w is (inserted_seen gs w)
+
+  seen_or_none : (o : Option (List V)) → unwrap_or (option_map seen o) (seen []) ≡ seen (list_at o)
+  seen_or_none None = refl
+  seen_or_none (Some vs) = refl
+
+  -- what was written for the key before
+  pub before_seen : {S : Type 0} (old : IndexMap K W S) (gs : List (K × List V)) (was : Option W) (none before : W) → old.entries ≡ map seen_as gs
+      → was ≡ get alike old k → none ≡ seen [] → before ≡ unwrap_or was none → before ≡ seen (list_at (lookup (alike k) gs))
+  before_seen old gs was none before are found empty is =
+      is ∙ (λ i. unwrap_or (found i) (empty i)) ∙ ap (λ es. unwrap_or (lookup (alike k) es) (seen [])) are ∙ ap (λ o. unwrap_or o (seen [])) (found_seen gs)
+      ∙ seen_or_none (lookup (alike k) gs)
+
+  -- what a value that is written for the key makes of them
+  pub written_seen : {S : Type 0} (old made left : IndexMap K W S) (gs : List (K × List V)) (after : W) → old.entries ≡ map seen_as gs
+      → left ≡ made → made.entries ≡ insert_entry alike old.entries k after → after ≡ seen (list_at (lookup (alike k) gs) ++ v ∷ [])
+      → left.entries ≡ map seen_as (and_member alike k v gs)
+  written_seen old made left gs after are same put is =
+      ap (λ (m : IndexMap K W _). m.entries) same ∙ put ∙ ap (λ es. insert_entry alike es k after) are ∙ inserted_seen gs after is

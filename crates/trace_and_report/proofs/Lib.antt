@@ -1,8 +1,13 @@
+mod Alike
 mod Allowed
+mod Drafts
 mod Files
-mod Fitting
-mod Jobs
-mod Spellable
+mod Groupings
+mod Groups
+mod Journals
+mod Namings
+mod Reports
 mod TraceFollows
 mod TraceLimits
 mod Values
+mod Writings

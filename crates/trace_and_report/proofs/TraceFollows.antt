@@ -9,13 +9,22 @@ use Rattle.script_tree.specs.declared.trace.TraceEvent.TheVariants.{Asked, Answe
 use Rattle.wire.specs.Files.{MayFollow, Spells, IsFileWithin, record_spelling, records_spelling}
 use Rattle.wire.specs.Spellings.{bytes_spelling}
 use Rattle.wire.specs.declared.limits.TheConstants.{MOST_FILE_BYTES}
-use Rattle.trace_format.specs.Events.{trace_format, event_spelling, is_request, request_count, IsEvent}
-use Rattle.trace_and_report.specs.Widths.{Each, IsWideEvent}
+use Rattle.trace_format.specs.Events.{trace_format, event_spelling, is_request, request_count, IsEvent, IsResponse}
+use Rattle.history.specs.Names.{Named, came, did, went}
+use Rattle.history.specs.TraceOf.{trace_in}
+use Rattle.trace_and_report.specs.Draft.{HasSpelling}
+use Rattle.trace_and_report.specs.Widths.{Each, IsWide}
 
--- A request that is asked is within its limits.
-abbrev pub IsShortEvent : TraceEvent → Type 0
-IsShortEvent (Asked rid request) = IsRequestWithinLimits request
-IsShortEvent (Answered rid response) = Unit {0}
+-- What is spelled of the event has its widths and is within the limits.
+abbrev IsSpellableEvent : TraceEvent → Type 0
+IsSpellableEvent (Asked rid request) = IsWide rid × IsRequestWithinLimits request
+IsSpellableEvent (Answered rid response) = IsWide rid × IsResponse response
+
+events_spellable : (names : List Named) → Each HasSpelling names → Each IsSpellableEvent (trace_in names)
+events_spellable [] each = tt
+events_spellable (came r request ∷ names) each = (each.0, events_spellable names each.1)
+events_spellable (did r k op choice ∷ names) each = events_spellable names each.1
+events_spellable (went r response path ∷ names) each = (each.0, events_spellable names each.1)
 
 payload_len : (e : TraceEvent) → length (event_spelling e) ≤ length (record_spelling trace_format e)
 payload_len e = omega (arith, length-append (bytes_spelling []) (event_spelling e))
@@ -30,22 +39,23 @@ count_more before e = sum_by_push one before e
 pub count_split : (e : TraceEvent) (rest : List TraceEvent) → request_count (e ∷ rest) ≡ one e + request_count rest
 count_split e rest = sum_by-cons one e rest
 
-event_may_stand : (asked : ℕ) (e : TraceEvent) → asked + one e ≤ MOST_REQUESTS → IsWideEvent e → IsShortEvent e → IsEvent asked e
-event_may_stand asked (Asked rid request) few wide short = (wide, (short, omega (arith, few)))
-event_may_stand asked (Answered rid response) few wide short = wide
+event_may_stand : (asked : ℕ) (e : TraceEvent) → asked + one e ≤ MOST_REQUESTS → IsSpellableEvent e → IsEvent asked e
+event_may_stand asked (Asked rid request) few (wide, short) = (wide, (short, omega (arith, few)))
+event_may_stand asked (Answered rid response) few spellable = spellable
 
-follow : (before events : List TraceEvent) → request_count before + request_count events ≤ MOST_REQUESTS → Each IsWideEvent events → Each IsShortEvent events
+follow : (before events : List TraceEvent) → request_count before + request_count events ≤ MOST_REQUESTS → Each IsSpellableEvent events
     → length (records_spelling trace_format events) < 2 ^ 32 → MayFollow trace_format before events
-follow before [] few wide short room = tt
-follow before (e ∷ events) few (first, wide) (here, short) room =
+follow before [] few each room = tt
+follow before (e ∷ events) few (first, each) room =
     let parts = length-append (record_spelling trace_format e) (records_spelling trace_format events) in (
-      (event_may_stand (request_count before) e (omega (arith, few, count_split e events)) first here, omega (arith, parts, payload_len e, room)),
-      follow (before ++ e ∷ []) events (omega (arith, few, count_more before e, count_split e events)) wide short (omega (arith, parts, room)),
+      (event_may_stand (request_count before) e (omega (arith, few, count_split e events)) first, omega (arith, parts, payload_len e, room)),
+      follow (before ++ e ∷ []) events (omega (arith, few, count_more before e, count_split e events)) each (omega (arith, parts, room)),
     )
 
-pub trace_read_again : (trace : List TraceEvent) (bytes : List ℕ) → request_count trace ≤ MOST_REQUESTS → Each IsWideEvent trace → Each IsShortEvent trace
-    → IsFileWithin trace_format MOST_FILE_BYTES trace bytes → Spells trace_format bytes trace
-trace_read_again trace bytes few wide short file =
+pub trace_read_again : (names : List Named) (bytes : List ℕ) → request_count (trace_in names) ≤ MOST_REQUESTS → Each HasSpelling names
+    → IsFileWithin trace_format MOST_FILE_BYTES (trace_in names) bytes → Spells trace_format bytes (trace_in names)
+trace_read_again names bytes few each file =
+    let trace : List TraceEvent = trace_in names in
     let len = length-append trace_format.magic (records_spelling trace_format trace) in
     let same : length bytes ≡ length (trace_format.magic ++ records_spelling trace_format trace) = ap length file.0 in
-    record { spelled = file.0; allowed = follow [] trace (omega (arith, few)) wide short (omega (arith, len, same, file.1)) }
+    record { spelled = file.0; allowed = follow [] trace (omega (arith, few)) (events_spellable names each) (omega (arith, len, same, file.1)) }

@@ -7,12 +7,14 @@ use Rattle.trace_format.specs.Events.{trace_format}
 use Rattle.report.specs.declared.LogEntry.{LogEntry}
 use Rattle.report_format.specs.Parts.{AllAllowed}
 use Rattle.report_format.specs.Reports.{any_record_field, entry_field, records_of, report_format, IsSpellable}
+use Rattle.report_format.specs.Spelled.{log_with}
 use Rattle.report_format.specs.declared.format.ReportRecord.{ReportRecord}
 use Rattle.report_format.specs.declared.format.ReportRecord.TheVariants as it
 use Rattle.history.specs.Names.{Named}
 use Rattle.history.specs.ReportOf.{report_in}
 use Rattle.history.specs.TraceOf.{trace_in}
-use Rattle.trace_and_report.specs.Draft.{arrival_in, count_at}
+use Rattle.trace_and_report.specs.Draft.{HasSpelling, arrival_in, count_at}
+use Rattle.trace_and_report.specs.Widths.{Each}
 use Rattle.trace_and_report.specs.declared.recorded.Recorded.{Recorded}
 use Rattle.trace_and_report.specs.declared.recorded.TooLong.{TooLong}
 use Rattle.trace_and_report.specs.declared.recorded.TooLong.TheVariants as past
@@ -27,7 +29,7 @@ abbrev pub count_records : List (Option ℕ) → List ℕ → List ReportRecord
 count_records operations rids = map (λ r. it.Count (count_at operations r)) rids
 
 abbrev pub log_record : Object × List LogEntry → ReportRecord
-log_record g = it.Log (record { object = g.0; entries = g.1 })
+log_record g = it.Log (log_with g.0 g.1)
 
 -- Each entry of the log may be spelled.
 abbrev pub HasSpellings : Object × List LogEntry → Type 0
@@ -37,6 +39,7 @@ HasSpellings g = AllAllowed entry_field g.1
 pub record AreFiles (names : List Named) (recorded : Recorded) : Type 0 where
   pub trace : recorded.trace.items ≡ file_spelling trace_format (trace_in names)
   pub report : recorded.report.items ≡ file_spelling report_format (records_of (report_in names))
+  pub spellings : Each HasSpelling names
   pub spellable : IsSpellable (report_in names)
   pub requests : recorded.requests ≡ length (filter_map arrival_in names)
   pub groups : recorded.groups ≡ length (report_in names).groups

@@ -1,4 +1,5 @@
-ghost use Rattle.std.specs.Prelude.{◌≡◌, ◌++◌, ◌∷◌, [], List, map, OnOk};
+ghost use Rattle.std.specs.Prelude.{◌≡◌, [], List, map, OnOk};
+ghost use Rattle.script_tree.specs.Objects.{is_same};
 ghost use Rattle.script_tree.specs.declared.operation.Object.{Object as Used};
 ghost use Rattle.report.specs.declared.LogEntry.{LogEntry as Entry};
 ghost use Rattle.report_format.specs.Reports.{entry_field};
@@ -31,7 +32,7 @@ pub(crate) fn add_entry(
     requires { entry_field.allows entry.now }
     ensures { (gs : List (Used × List Entry)) → logs.old.entries ≡ map spelled_log gs
         → OnOk result
-            (logs.new.entries ≡ map spelled_log (and_member Object.eq object entry.now gs)) }
+        (logs.new.entries ≡ map spelled_log (and_member Object.eq object entry.now gs)) }
 {
     let entries = logs.entry(object)?.or_insert(SpelledEntries::new(alloc));
     entries.push(entry)

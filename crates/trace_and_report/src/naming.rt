@@ -9,8 +9,8 @@ ghost use Rattle.history.specs.Rooms.{empty_room};
 ghost use Rattle.history.specs.Seats.{at_seat};
 ghost use Rattle.history.specs.declared.happening.Happening.TheVariants as did;
 
-use crate::happening::Happening;
-use crate::seats::{clear_at, put_at};
+use history::Happening;
+use history::seats::{clear_at, put_at};
 use script_tree::request::Request;
 use std::alloc::{AllocError, Global};
 use std::sync::Arc;

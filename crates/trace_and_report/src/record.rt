@@ -32,7 +32,9 @@ pub fn record_jobs<C: Clock>(
 {
     let code = translate(alloc, program)?;
     let journal = FileJournal::new(alloc)?;
-    let journal = run_turns(alloc, program, &code, start, jobs, turns, seed, clock, journal)?;
+    let journal = run_turns(
+        alloc, program, &code, start, jobs, turns, seed, clock, journal,
+    )?;
     let recorded = journal.finish()?;
     match recorded.too_long() {
         Some(which) => Err(OrMemory::Other(which)),

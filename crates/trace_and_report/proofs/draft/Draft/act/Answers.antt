@@ -1,10 +1,13 @@
-use Rattle.std.proofs.Common.{◌∙◌, refl}
-use Rattle.trace_and_report.proofs.Alike.{by_object}
-use Rattle.trace_and_report.proofs.Reported.{acts, on_ok}
-use Rattle.trace_and_report.proofs.reporting.Reporting.act.Goals as goal
+use Rattle.std.proofs.Common.{refl}
+use Rattle.trace_and_report.proofs.Drafts.{acts, entry_allowed, on_ok_all}
+use Rattle.trace_and_report.proofs.draft.Draft.act.Goals as goal
+
+pub add_entry-requires : goal.add_entry-requires
+add_entry-requires c = entry_allowed c.requires.0 c.args.op _ c.requires.1 refl c.in_ok-keep_widths.ensures
 
 pub returns : goal.returns
 returns c = λ names of.
-    on_ok c.add_member.result
-    (λ added. acts names c.args.self.now _ c.args.rid c.args.number c.args.op c.args.choice of refl c.in_ok-count.ensures (added ∙ by_object c.args.op.object _ _) refl)
-    c.add_member.ensures
+    on_ok c.add_entry.result
+    (λ added. acts names c.args.self.now _ c.args.rid c.args.number c.args.op c.args.choice of refl refl c.in_ok-count.ensures added refl
+      (entry_allowed c.requires.0 c.args.op _ c.requires.1 refl c.in_ok-keep_widths.ensures))
+    ?

@@ -3,6 +3,7 @@ ghost use Rattle.wire.specs.Spellings.{bytes_spelling};
 ghost use Rattle.wire.specs.Files.{Encodes, LeavesRoom};
 ghost use Rattle.trace_format.specs.Events.{trace_format, parameter_spelling, parameters_spelling};
 ghost use Rattle.trace_format.specs.Events.{request_spelling, response_spelling, event_spelling};
+ghost use Rattle.script_tree.specs.declared.trace.TraceEvent.TheVariants.{Asked, Answered};
 
 use crate::format::Events;
 use basis::OrMemory;
@@ -15,6 +16,9 @@ use wire::file::write_file_within;
 use wire::limits::MOST_FILE_BYTES;
 use wire::record::RecordWriter;
 use wire::writing::{write_bytes, write_u8, write_u16, write_u32};
+
+/// How many bytes an event's tag and id have.
+pub(crate) const HEAD_BYTES: usize = 5;
 
 /// What is left of so much room behind the text's spelling, or `None` where it has more bytes.
 fn room_behind_text(room: usize, text: &Text) -> Option<usize>
@@ -40,7 +44,7 @@ fn room_behind_parameters(room: usize, parameters: &[Parameter]) -> Option<usize
     Some(left)
 }
 
-fn room_behind_request(room: usize, request: &Request) -> Option<usize>
+pub(crate) fn room_behind_request(room: usize, request: &Request) -> Option<usize>
     ensures { LeavesRoom room (request_spelling request.now) result }
 {
     let left = room_behind_text(room, request.method())?;
@@ -50,7 +54,7 @@ fn room_behind_request(room: usize, request: &Request) -> Option<usize>
     room_behind_text(left, request.body())
 }
 
-fn room_behind_response(room: usize, response: &Response) -> Option<usize>
+pub(crate) fn room_behind_response(room: usize, response: &Response) -> Option<usize>
     ensures { LeavesRoom room (response_spelling response.now) result }
 {
     let left = room.checked_sub(2)?;
@@ -60,7 +64,7 @@ fn room_behind_response(room: usize, response: &Response) -> Option<usize>
 fn room_behind_event(room: usize, event: &TraceEvent) -> Option<usize>
     ensures { LeavesRoom room (event_spelling event.now) result }
 {
-    let left = room.checked_sub(5)?;
+    let left = room.checked_sub(HEAD_BYTES)?;
     match event {
         TraceEvent::Asked(_, request) => room_behind_request(left, request),
         TraceEvent::Answered(_, response) => room_behind_response(left, response),
@@ -105,21 +109,39 @@ fn write_response(out: &mut Vec<u8>, response: &Response) -> Result<(), AllocErr
     write_bytes(out, response.body.as_bytes())
 }
 
+/// Writes the event that a request came.
+pub(crate) fn write_asked(out: &mut Vec<u8>, rid: u32, request: &Request) -> Result<(), AllocError>
+    requires { length (event_spelling (Asked rid request.now)) < 2 ^ 32 }
+    ensures { OnOk result
+        (out.new.items ≡ out.old.items ++ event_spelling (Asked rid request.now)) }
+{
+    write_u8(out, 1)?;
+    write_u32(out, rid)?;
+    write_request(out, request)
+}
+
+/// Writes the event that a response was sent.
+pub(crate) fn write_answered(
+    out: &mut Vec<u8>,
+    rid: u32,
+    response: &Response,
+) -> Result<(), AllocError>
+    requires { length (event_spelling (Answered rid response.now)) < 2 ^ 32 }
+    ensures { OnOk result
+        (out.new.items ≡ out.old.items ++ event_spelling (Answered rid response.now)) }
+{
+    write_u8(out, 2)?;
+    write_u32(out, rid)?;
+    write_response(out, response)
+}
+
 fn write_event(out: &mut Vec<u8>, event: &TraceEvent) -> Result<(), AllocError>
     requires { length (event_spelling event.now) < 2 ^ 32 }
     ensures { OnOk result (out.new.items ≡ out.old.items ++ event_spelling event.now) }
 {
     match event {
-        TraceEvent::Asked(rid, request) => {
-            write_u8(out, 1)?;
-            write_u32(out, *rid)?;
-            write_request(out, request)
-        }
-        TraceEvent::Answered(rid, response) => {
-            write_u8(out, 2)?;
-            write_u32(out, *rid)?;
-            write_response(out, response)
-        }
+        TraceEvent::Asked(rid, request) => write_asked(out, *rid, request),
+        TraceEvent::Answered(rid, response) => write_answered(out, *rid, response),
     }
 }
 

@@ -1,3 +1,4 @@
+use crate::appending::{add_request, add_response, begin};
 use crate::balance::first_unbalanced;
 use crate::decoding::decode;
 use crate::encoding::encode;
@@ -61,6 +62,19 @@ fn files_of_the_examples(rt: HostRuntime) -> Result<(), Fail> {
     assert!(rt; has_the_parameter(&trace));
     let bytes = encode(rt.alloc(), &trace)?;
     assert!(rt; bytes.as_slice() == PARAMETER.as_slice());
+    Ok(())
+}
+
+#[test]
+fn a_file_that_grows(rt: HostRuntime) -> Result<(), Fail> {
+    let mut bytes = begin(rt.alloc())?;
+    for event in decode(rt.alloc(), FILE)?.as_slice() {
+        match event {
+            TraceEvent::Asked(rid, request) => add_request(&mut bytes, *rid, request)?,
+            TraceEvent::Answered(rid, response) => add_response(&mut bytes, *rid, response)?,
+        }
+    }
+    assert!(rt; bytes.as_slice() == FILE.as_slice());
     Ok(())
 }
 

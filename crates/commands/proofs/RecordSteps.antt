@@ -10,9 +10,10 @@ use Rattle.script_tree.specs.Programs.{Program}
 use Rattle.script_tree.specs.Requests.{Request}
 use Rattle.wire.specs.declared.limits.TheConstants.{MOST_FILE_BYTES}
 use Rattle.history.specs.declared.happening.Happening.{Happening}
-use Rattle.trace_and_report.specs.Recorded.{AreFilesOf, IsRecorded, IsRunOf}
-use Rattle.trace_and_report.specs.declared.record.Recorded.{Recorded as TraceAndReport}
-use Rattle.trace_and_report.specs.declared.record.TooLong.{TooLong as Which}
+use Rattle.turns.specs.Run.{IsRunOf}
+use Rattle.trace_and_report.specs.Recorded.{AreFilesOf, IsRecorded}
+use Rattle.trace_and_report.specs.declared.recorded.Recorded.{Recorded as TraceAndReport}
+use Rattle.trace_and_report.specs.declared.recorded.TooLong.{TooLong as Which}
 use Rattle.command_inputs.specs.Inputs.{IsInput, IsRead}
 use Rattle.command_inputs.specs.Program.{program_input}
 use Rattle.command_inputs.specs.Requests.{requests_input}

@@ -12,8 +12,9 @@ use Rattle.script_tree.specs.Objects.{Objects}
 use Rattle.script_tree.specs.Programs.{Program}
 use Rattle.script_tree.specs.Requests.{Request}
 use Rattle.history.specs.declared.happening.Happening.{Happening}
-use Rattle.trace_and_report.specs.Recorded.{IsRunOf, IsTraceFile, IsReportFile, AreFilesOf}
-use Rattle.trace_and_report.specs.declared.record.Recorded.{Recorded as TraceAndReport}
+use Rattle.turns.specs.Run.{IsRunOf}
+use Rattle.trace_and_report.specs.Recorded.{IsTraceFile, IsReportFile, AreFilesOf}
+use Rattle.trace_and_report.specs.declared.recorded.Recorded.{Recorded as TraceAndReport}
 use Rattle.commands.specs.Outcome.{IsOfJobs, IsOutcome, IsOutcomeOf, WithInput, WithJobs, WithPages, WithStart, WithTurns, written}
 use Rattle.commands.specs.Outputs.{Outcome, with_puts}
 use Rattle.commands.specs.RecordWords.{RecordWords, record_words}

@@ -8,7 +8,7 @@ use Rattle.replayer.specs.declared.reason.Replayed.{Replayed}
 use Rattle.replayer.specs.declared.reason.Replayed.TheVariants as replayed
 use Rattle.command_inputs.specs.FaultTexts.{fault_text}
 use Rattle.script_check.specs.declared.counts.Counts.{Counts}
-use Rattle.trace_and_report.specs.declared.record.TooLong.TheVariants as past
+use Rattle.trace_and_report.specs.declared.recorded.TooLong.TheVariants as past
 use Rattle.commands.specs.declared.answer.Answer.{Answer}
 use Rattle.commands.specs.declared.answer.Answer.TheVariants.{Usage, Input, Checked, Replay, Recorded, TooLong}
 use Rattle.commands.specs.declared.answer.Finding.{Finding}

@@ -12,9 +12,10 @@ use Rattle.script_check.specs.declared.counts.Counts.{Counts}
 use Rattle.wire.specs.declared.limits.TheConstants.{MOST_FILE_BYTES, MOST_SCHEDULE_BYTES}
 use Rattle.replayer.specs.Differences.{replayed}
 use Rattle.history.specs.declared.happening.Happening.{Happening}
-use Rattle.trace_and_report.specs.Recorded.{IsRunOf, AreFilesOf, HasTooLong}
-use Rattle.trace_and_report.specs.declared.record.Recorded.{Recorded as TraceAndReport}
-use Rattle.trace_and_report.specs.declared.record.TooLong.{TooLong as Which}
+use Rattle.turns.specs.Run.{IsRunOf}
+use Rattle.trace_and_report.specs.Recorded.{AreFilesOf, HasTooLong}
+use Rattle.trace_and_report.specs.declared.recorded.Recorded.{Recorded as TraceAndReport}
+use Rattle.trace_and_report.specs.declared.recorded.TooLong.{TooLong as Which}
 use Rattle.command_inputs.specs.Faults.{IsAbsence}
 use Rattle.command_inputs.specs.Inputs.{Input, IsInput, IsRead}
 use Rattle.command_inputs.specs.Program.{program_input}

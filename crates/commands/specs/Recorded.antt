@@ -7,7 +7,8 @@ use Rattle.script_tree.specs.Programs.{Program}
 use Rattle.script_tree.specs.Requests.{Request}
 use Rattle.wire.specs.declared.limits.TheConstants.{MOST_FILE_BYTES}
 use Rattle.history.specs.declared.happening.Happening.{Happening}
-use Rattle.trace_and_report.specs.Recorded.{IsRunOf, IsTraceFile, IsReportFile}
+use Rattle.turns.specs.Run.{IsRunOf}
+use Rattle.trace_and_report.specs.Recorded.{IsTraceFile, IsReportFile}
 use Rattle.command_inputs.specs.Inputs.{IsInput}
 use Rattle.command_inputs.specs.Program.{program_input}
 use Rattle.command_inputs.specs.Requests.{requests_input}

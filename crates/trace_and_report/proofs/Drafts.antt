@@ -190,3 +190,12 @@ counts_one old new rid more put is r = ap (λ (f : ℕ → Option ℕ). unwrap_o
         ∙ sym (ap (λ b. cond b (counted old r + 1) (counted old r)) (nat_eq_equiv.symm r rid ∙ here))
     by (inr (apart, other)) =
         ap (λ b. unwrap_or (cond b (Some more) (at_seat old r)) 0) apart ∙ sym (ap (λ b. cond b (counted old r + 1) (counted old r)) (nat_eq_equiv.symm r rid ∙ apart))
+
+-- the same of what is so for each that is given
+pub on_ok_all : {X : Type 0} (A P : X → Type 0) (result : Result (Unit {0}) AllocError) → ((x : X) → A x → OnOk result (P x)) → OnOk result ((x : X) → A x → P x)
+on_ok_all A P (Ok u) all = all
+on_ok_all A P (Err e) all = tt
+
+pub on_ok_each : {X : Type 0} (P : X → Type 0) (result : Result (Unit {0}) AllocError) → ((x : X) → OnOk result (P x)) → OnOk result ((x : X) → P x)
+on_ok_each P (Ok u) all = all
+on_ok_each P (Err e) all = tt

@@ -2,6 +2,7 @@
 use Rattle.std.proofs.Common.{◌≡◌, ◌∙◌, arith, length, Bool, true, false, cond, List, [], ◌∷◌, ◌++◌, Option, Some, None, Vec, Global, map, refl, ap, sym, unwrap_or}
 use Rattle.std.specs.Prelude.{option_map}
 use Rattle.std.specs.Map.{lookup}
+use Rattle.std.proofs.lemmas.List.{length-map}
 use Rattle.indexmap.specs.IndexMap.{IndexMap, get, insert_entry}
 use Rattle.trace_and_report.specs.Grouped.{groups_in, and_member}
 
@@ -47,6 +48,10 @@ empty_list (x ∷ xs) none = absurd (omega arith)
 pub none_yet : {K V S : Type 0} (m : IndexMap K (Vec V Global) S) → length m.entries ≡ 0 → groups_in m ≡ []
 unfolding groups_in
 none_yet m none = ap lists (empty_list m.entries none)
+
+pub as_many : {K V S : Type 0} (m : IndexMap K (Vec V Global) S) → length (groups_in m) ≡ length m.entries
+unfolding groups_in
+as_many m = length-map m.entries _
 
 pub lists_in : {K V S : Type 0} (m : IndexMap K (Vec V Global) S) (es : List (K × Vec V Global)) → es ≡ m.entries → lists es ≡ groups_in m
 unfolding groups_in
@@ -94,8 +99,8 @@ module _ {K V W : Type 0} (seen : List V → W) (alike : K → K → Bool) (k : 
       ∙ seen_or_none (lookup (alike k) gs)
 
   -- what a value that is written for the key makes of them
-  pub written_seen : {S : Type 0} (old made left : IndexMap K W S) (gs : List (K × List V)) (after : W) → old.entries ≡ map seen_as gs
+  pub written_seen : {S : Type 0} (old made left : IndexMap K W S) (gs others : List (K × List V)) (after : W) → old.entries ≡ map seen_as gs
       → left ≡ made → made.entries ≡ insert_entry alike old.entries k after → after ≡ seen (list_at (lookup (alike k) gs) ++ v ∷ [])
-      → left.entries ≡ map seen_as (and_member alike k v gs)
-  written_seen old made left gs after are same put is =
-      ap (λ (m : IndexMap K W _). m.entries) same ∙ put ∙ ap (λ es. insert_entry alike es k after) are ∙ inserted_seen gs after is
+      → and_member alike k v gs ≡ others → left.entries ≡ map seen_as others
+  written_seen old made left gs others after are same put is so =
+      ap (λ (m : IndexMap K W _). m.entries) same ∙ put ∙ ap (λ es. insert_entry alike es k after) are ∙ inserted_seen gs after is ∙ ap (map seen_as) so

@@ -1,7 +1,9 @@
 -- The files of what a draft keeps.
-use Rattle.std.proofs.Common.{◌≡◌, ◌∙◌, ℕ, Bool, true, false, cond, List, [], ◌∷◌, ◌++◌, length, length-map, append_assoc, append-nil, map, Option, Some, None, refl, ap, sym, subst}
+use Rattle.std.proofs.Common.{◌≡◌, ◌∙◌, ℕ, ◌+◌, ◌<◌, add-one, Bool, true, false, cond, List, [], ◌∷◌, ◌++◌, length, take, get_or, append_assoc, append-nil, map, Option, Some, None, refl, ap, sym, subst}
 use Rattle.std.specs.Prelude.{filter_map}
 use Rattle.std.specs.List.{cons_option}
+use Rattle.std.proofs.lemmas.List.{length-map, map-append}
+use Rattle.std.proofs.Math.Seq.{take-suc}
 use Rattle.script_tree.specs.Objects.{is_same}
 use Rattle.script_tree.specs.declared.operation.Object.{Object}
 use Rattle.script_tree.specs.declared.path.Path.{Path}
@@ -18,8 +20,8 @@ use Rattle.history.specs.Paths.{same_path}
 use Rattle.history.specs.ReportOf.{firsts, did_in, count_in, object_in, entry_in, log_in, path_in, member_in, report_in}
 use Rattle.trace_and_report.specs.Draft.{IsOfNames, HasSpelling, arrival_in, counted, count_at, entry_of}
 use Rattle.trace_and_report.specs.Grouped.{groups_in, grouped, HaveMembers}
-use Rattle.trace_and_report.specs.Widths.{Each}
-use Rattle.trace_and_report.specs.Written.{AreAdded, count_records, log_record, HasSpellings}
+use Rattle.trace_and_report.specs.Widths.{Each, IsWideCount}
+use Rattle.trace_and_report.specs.Written.{AreAdded, count_records, group_record, log_record, HasSpellings}
 use Rattle.trace_and_report.specs.declared.draft.Draft.{Draft}
 use Rattle.trace_and_report.proofs.Alike.{paths_laws}
 use Rattle.trace_and_report.proofs.Drafts.{file_append, records_append, taken_in, path_taken, member_taken}
@@ -42,6 +44,18 @@ one_added rs r old mid new added is allowed = record {
       ∙ ap (λ bs. old ++ bs) (sym (records_append report_format rs (r ∷ [])));
   allowed = AllAllowed-append rs (r ∷ []) added.allowed (allowed, tt);
 }
+
+pub counts_more : (operations : List (Option ℕ)) (arrived : List ℕ) (i n : ℕ) (old mid new : List ℕ) → AreAdded (count_records operations (take i arrived)) old mid
+    → i < length arrived → n ≡ counted operations (get_or arrived i 0) → IsWideCount (record { rid = get_or arrived i 0; operations = n })
+    → new ≡ mid ++ record_spelling report_format (it.Count (record { rid = get_or arrived i 0; operations = n })) → AreAdded (count_records operations (take (i + 1) arrived)) old new
+counts_more operations arrived i n old mid new added inside is wide more =
+    let rid : ℕ = get_or arrived i 0 in
+    let count : Count = record { rid = rid; operations = n } in
+    let next : take (i + 1) arrived ≡ take i arrived ++ rid ∷ [] = ap (λ k. take k arrived) (add-one i) ∙ take-suc arrived i 0 inside in
+    let so : it.Count count ≡ it.Count (count_at operations rid) = ap (λ k. it.Count (record { rid = rid; operations = k })) is in
+    let all : count_records operations (take i arrived) ++ it.Count count ∷ [] ≡ count_records operations (take (i + 1) arrived)
+    = ap (λ r. count_records operations (take i arrived) ++ r ∷ []) so ∙ sym (map-append _ (take i arrived) (rid ∷ [])) ∙ sym (ap (count_records operations) next) in
+    subst (λ rs. AreAdded rs old new) all (one_added (count_records operations (take i arrived)) (it.Count count) old mid new added more wide)
 
 -- ---- what is allowed of the records of a kind
 
@@ -85,10 +99,10 @@ logs_are names =
     mapped log_record (λ o. (o, filter_map (entry_in o) names)) objects ∙ sym (mapped it.Log (λ o. record { object = o; entries = log_in names o }) objects)
 
 groups_are : (names : List Named) (draft : Draft) → IsOfNames names draft
-    → map (λ g. it.Group g.1) (groups_in draft.groups) ≡ map it.Group (report_in names).groups
+    → map group_record (groups_in draft.groups) ≡ map it.Group (report_in names).groups
 groups_are names draft of =
     let paths : List Path = firsts same_path (filter_map path_in names) in
-    ap (map (λ g. it.Group g.1)) of.groups ∙ mapped (λ (g : Path × List ℕ). it.Group g.1) (λ p. (p, filter_map (member_in p) names)) paths
+    ap (map group_record) of.groups ∙ mapped group_record (λ p. (p, filter_map (member_in p) names)) paths
     ∙ sym (mapped it.Group (λ p. filter_map (member_in p) names) paths)
 
 pub have_members : (names : List Named) (draft : Draft) → IsOfNames names draft → HaveMembers (groups_in draft.groups)
@@ -98,18 +112,18 @@ have_members names draft of =
 pub as_many_groups : (names : List Named) (draft : Draft) → IsOfNames names draft → length (groups_in draft.groups) ≡ length (report_in names).groups
 as_many_groups names draft of =
     let paths : List Path = firsts same_path (filter_map path_in names) in
-    ap length of.groups ∙ length-map _ paths ∙ sym (length-map _ paths)
+    ap length of.groups ∙ length-map paths _ ∙ sym (length-map paths _)
 
 -- ---- the entries of each log may be spelled
 
 entries_spelled : (o : Object) (names : List Named) → Each HasSpelling names → AllAllowed entry_field (filter_map (entry_in o) names)
 entries_spelled o [] each = tt
 entries_spelled o (came r request ∷ names) each = entries_spelled o names each.1
-entries_spelled o (did r k op choice ∷ names) each = by (is_same o op.object)
+entries_spelled o (did r k op choice ∷ names) each = by (is_same o op.object) (filter_map (entry_in o) names) (entries_spelled o names each.1)
   where
-    by : (b : Bool) → AllAllowed entry_field (cons_option (cond b (Some (entry_of r k op choice)) None) (filter_map (entry_in o) names))
-    by true = (each.0, entries_spelled o names each.1)
-    by false = entries_spelled o names each.1
+    by : (b : Bool) (es : List LogEntry) → AllAllowed entry_field es → AllAllowed entry_field (cons_option (cond b (Some (entry_of r k op choice)) None) es)
+    by true es rest = (each.0, rest)
+    by false es rest = rest
 entries_spelled o (went r response path ∷ names) each = entries_spelled o names each.1
 
 all_spelled : (names : List Named) (objects : List Object) → Each HasSpelling names → Each HasSpellings (map (λ o. (o, filter_map (entry_in o) names)) objects)
@@ -128,7 +142,7 @@ pub record IsWhole (names : List Named) (bytes : List ℕ) : Type 0 where
 
 pub whole : (names : List Named) (draft : Draft) (first counts logs groups : List ℕ) → IsOfNames names draft → first ≡ file_spelling report_format []
     → AreAdded (count_records draft.operations.items draft.arrived.items) first counts → AreAdded (map log_record (logs_of names)) counts logs
-    → AreAdded (map (λ g. it.Group g.1) (groups_in draft.groups)) logs groups → IsWhole names groups
+    → AreAdded (map group_record (groups_in draft.groups)) logs groups → IsWhole names groups
 whole names draft first counts logs groups of is added_counts added_logs added_groups =
     let cs : List ReportRecord = map it.Count (report_in names).counts in
     let ls : List ReportRecord = map it.Log (report_in names).logs in

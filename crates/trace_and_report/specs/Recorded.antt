@@ -1,23 +1,17 @@
--- The files of a recording: what they tell is a history that follows the turns.
-use Rattle.std.specs.Prelude.{◌≡◌, ℕ, ◌≤◌, ◌<◌, List, length, Option, Result}
-use Rattle.std.specs.Option.{ForSome}
+-- The files of a recording: what they tell is a history of its jobs.
+use Rattle.std.specs.Prelude.{◌≡◌, ℕ, ◌≤◌, ◌<◌, List, length, Result}
 use Rattle.basis.specs.UnlessMemory.{UnlessMemory}
 use Rattle.basis.specs.declared.or_memory.OrMemory.{OrMemory}
 use Rattle.script_tree.specs.Objects.{Objects}
-use Rattle.script_tree.specs.Programs.{Program}
-use Rattle.script_tree.specs.Requests.{Request}
 use Rattle.script_tree.specs.declared.limits.TheConstants.{MOST_REQUESTS}
 use Rattle.wire.specs.Files.{Format, Spells, IsFileWithin, file_spelling}
 use Rattle.wire.specs.declared.limits.TheConstants.{MOST_FILE_BYTES}
 use Rattle.trace_format.specs.Events.{trace_format}
 use Rattle.report_format.specs.Reports.{report_format, records_of}
-use Rattle.dice.specs.Rolls.{dice_of}
-use Rattle.history.specs.Rooms.{IsLegal, IsClosed}
 use Rattle.history.specs.TraceOf.{trace_of}
 use Rattle.history.specs.ReportOf.{report_of}
 use Rattle.history.specs.declared.happening.Happening.{Happening}
-use Rattle.turns.specs.ByTurns.{FollowsTurns, arrivals}
-use Rattle.turns.specs.Offers.{AreRolled, rolls_at, ReadsClock}
+use Rattle.turns.specs.ByTurns.{arrivals}
 use Rattle.trace_and_report.specs.declared.recorded.Recorded.{Recorded}
 use Rattle.trace_and_report.specs.declared.recorded.TooLong.{TooLong}
 use Rattle.trace_and_report.specs.declared.recorded.TooLong.TheVariants as past

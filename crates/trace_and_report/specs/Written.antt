@@ -1,6 +1,7 @@
 -- The records of a report, written one behind the other.
 use Rattle.std.specs.Prelude.{◌≡◌, ℕ, ◌≤◌, ◌<◌, List, ◌++◌, map, filter_map, length, Option, Some, None}
 use Rattle.script_tree.specs.declared.operation.Object.{Object}
+use Rattle.script_tree.specs.declared.path.Path.{Path}
 use Rattle.wire.specs.Files.{file_spelling, records_spelling}
 use Rattle.wire.specs.declared.limits.TheConstants.{MOST_FILE_BYTES}
 use Rattle.trace_format.specs.Events.{trace_format}
@@ -30,6 +31,9 @@ count_records operations rids = map (λ r. it.Count (count_at operations r)) rid
 
 abbrev pub log_record : Object × List LogEntry → ReportRecord
 log_record g = it.Log (log_with g.0 g.1)
+
+abbrev pub group_record : Path × List ℕ → ReportRecord
+group_record g = it.Group g.1
 
 -- Each entry of the log may be spelled.
 abbrev pub HasSpellings : Object × List LogEntry → Type 0

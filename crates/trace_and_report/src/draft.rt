@@ -8,6 +8,7 @@ ghost use Rattle.history.specs.Journals.{CanHappen};
 ghost use Rattle.history.specs.Names.{Named, came, did, went, name, rid_in, number_in};
 ghost use Rattle.history.specs.Rooms.{Room};
 ghost use Rattle.trace_and_report.specs.Draft.{IsOfNames, TakesIn, counted, one_more_of};
+ghost use Rattle.trace_and_report.specs.Grouped.{groups_in, HaveMembers};
 ghost use Rattle.trace_and_report.specs.Written.{AreFiles};
 
 use crate::grouped::{Grouped, add_member, no_groups};
@@ -110,6 +111,7 @@ impl Draft {
 
     /// The files of all that was taken in.
     pub(crate) fn finish(self) -> Result<Recorded, AllocError>
+        requires { HaveMembers (groups_in self.groups) }
         ensures { (names : List Named) → IsOfNames names self → IfOk result (AreFiles names) }
     {
         let Draft {

@@ -32,6 +32,7 @@ impl FileJournal {
 
     /// The files of the history.
     pub(crate) fn finish(self) -> Result<Recorded, AllocError>
+        requires { (history : List Happened) × Keeps history self }
         ensures { (start : Objects) (history : List Happened) → Keeps history self
             → IfOk result (AreFiles (names_from (empty_room start) history)) }
     {

@@ -32,7 +32,7 @@ pub(crate) fn add_entry(
     requires { entry_field.allows entry.now }
     ensures { (gs : List (Used × List Entry)) → logs.old.entries ≡ map spelled_log gs
         → OnOk result
-        (logs.new.entries ≡ map spelled_log (and_member Object.eq object entry.now gs)) }
+        (logs.new.entries ≡ map spelled_log (and_member is_same object entry.now gs)) }
 {
     let entries = logs.entry(object)?.or_insert(SpelledEntries::new(alloc));
     entries.push(entry)

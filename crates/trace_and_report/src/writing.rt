@@ -2,11 +2,11 @@
 ghost use Rattle.std.specs.Prelude.{◌≡◌, List, map, OnOk};
 ghost use Rattle.script_tree.specs.declared.operation.Object.{Object as Used};
 ghost use Rattle.report.specs.declared.LogEntry.{LogEntry as Entry};
-ghost use Rattle.report_format.specs.declared.format.ReportRecord.TheVariants as it;
 ghost use Rattle.trace_and_report.specs.Draft.{spelled_log};
 ghost use Rattle.trace_and_report.specs.Grouped.{groups_in, HaveMembers};
 ghost use Rattle.trace_and_report.specs.Widths.{Each};
-ghost use Rattle.trace_and_report.specs.Written.{AreAdded, count_records, log_record, HasSpellings};
+ghost use Rattle.trace_and_report.specs.Written.{AreAdded, count_records, group_record, log_record};
+ghost use Rattle.trace_and_report.specs.Written.{HasSpellings};
 
 use crate::draft::counted;
 use crate::grouped::Grouped;
@@ -54,7 +54,7 @@ pub(crate) fn write_logs(out: &mut Vec<u8>, logs: Logs) -> Result<(), AllocError
 /// Writes the groups of requests that took one path.
 pub(crate) fn write_groups(out: &mut Vec<u8>, groups: Grouped<Path, u32>) -> Result<(), AllocError>
     requires { HaveMembers (groups_in groups) }
-    ensures { let records = map (λ g. it.Group g.1) (groups_in groups) in
+    ensures { let records = map group_record (groups_in groups) in
         OnOk result (AreAdded records out.old.items out.new.items) }
 {
     for (_path, rids) in groups {

@@ -1,5 +1,5 @@
 use Rattle.std.proofs.Common.{refl}
-use Rattle.trace_and_report.proofs.Drafts.{acts, entry_allowed, on_ok_all}
+use Rattle.trace_and_report.proofs.Drafts.{acts, entry_allowed, on_ok, on_ok_all}
 use Rattle.trace_and_report.proofs.draft.Draft.act.Goals as goal
 
 pub add_entry-requires : goal.add_entry-requires
@@ -10,4 +10,4 @@ returns c = λ names of.
     on_ok c.add_entry.result
     (λ added. acts names c.args.self.now _ c.args.rid c.args.number c.args.op c.args.choice of refl refl c.in_ok-count.ensures added refl
       (entry_allowed c.requires.0 c.args.op _ c.requires.1 refl c.in_ok-keep_widths.ensures))
-    ?
+    (on_ok_all _ _ c.add_entry.result c.add_entry.ensures)

@@ -7,9 +7,11 @@ pub mod generator;
 mod job;
 pub mod law;
 pub mod limits;
+mod one_by_one;
 pub mod requests;
 #[cfg(test)]
 mod tests;
+mod tree;
 pub mod turns;
 
 pub use fault::WorkFault;

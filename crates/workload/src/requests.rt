@@ -8,6 +8,7 @@ ghost use Rattle.workload.specs.Files.{AreRequests, HasRequestsFault};
 
 use crate::fault::WorkFault;
 use crate::job::{Job, JobShape};
+use crate::one_by_one::read_one_by_one;
 use basis::{Items, OrMemory};
 use json_texts::shape::array_of;
 use json_texts::{NotJson, read_json};
@@ -20,6 +21,16 @@ pub type Requests = Items<Request>;
 
 /// The requests from the bytes of a file.
 pub fn read_requests(alloc: Global, bytes: &[u8]) -> Result<Requests, OrMemory<WorkFault>>
+    ensures { UnlessMemory (AreRequests bytes.now) (HasRequestsFault bytes.now) result }
+{
+    match read_one_by_one(alloc, bytes)? {
+        Some(requests) => Ok(requests),
+        None => read_whole(alloc, bytes),
+    }
+}
+
+/// The same from the tree of the whole file, which takes much memory where there are many jobs.
+fn read_whole(alloc: Global, bytes: &[u8]) -> Result<Requests, OrMemory<WorkFault>>
     ensures { UnlessMemory (AreRequests bytes.now) (HasRequestsFault bytes.now) result }
 {
     let json = match read_json(alloc, bytes) {

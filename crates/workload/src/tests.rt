@@ -2,6 +2,7 @@
 
 use crate::fault::WorkFault;
 use crate::generator::generate;
+use crate::one_by_one::read_one_by_one;
 use crate::requests::read_requests;
 use crate::turns::{Turn, read_turns};
 use basis::OrMemory;
@@ -17,6 +18,26 @@ fn one_job(rt: HostRuntime) -> Result<(), Fail> {
     assert!(rt; request.path().as_bytes() == b"/hit".as_slice());
     assert!(rt; request.parameters().is_empty());
     assert!(rt; request.body().is_empty());
+    Ok(())
+}
+
+#[test]
+fn all_members_one_by_one(rt: HostRuntime) -> Result<(), Fail> {
+    let file = b"[{\"body\":\"b\",\"params\":[[\"k\",{\"hex\":\"00ff\"}]],\"method\":\"PUT\",\
+        \"path\":\"/a\"},{\"path\":\"/\\u0062\"}]";
+    let requests = read_one_by_one(rt.alloc(), file)?.ok_or("requests")?;
+    let (first, second) = match requests.as_slice() {
+        [first, second] => (first, second),
+        _ => return Err("two requests".into()),
+    };
+    let parameter = first.parameters().as_slice().first().ok_or("a parameter")?;
+    assert!(rt; first.method().as_bytes() == b"PUT".as_slice());
+    assert!(rt; first.path().as_bytes() == b"/a".as_slice());
+    assert_eq!(rt; first.parameters().len(), 1);
+    assert!(rt; parameter.name.as_bytes() == b"k".as_slice());
+    assert!(rt; parameter.value.as_bytes() == [0, 255].as_slice());
+    assert!(rt; first.body().as_bytes() == b"b".as_slice());
+    assert!(rt; second.path().as_bytes() == b"/b".as_slice());
     Ok(())
 }
 

@@ -27,7 +27,7 @@ use Rattle.history.specs.ReportOf.{did_in, object_in, entry_in, path_in, member_
 use Rattle.history.specs.Seats.{at_seat, seated}
 use Rattle.history.specs.TraceOf.{event_in, trace_in}
 use Rattle.trace_and_report.specs.Draft.{IsOfNames, HasSpelling, arrival_in, counted, entry_of, one_more_of, spelled_log}
-use Rattle.trace_and_report.specs.Grouped.{groups_in, and_member}
+use Rattle.trace_and_report.specs.Grouped.{entries_in, groups_in, and_member}
 use Rattle.trace_and_report.specs.Widths.{Each, IsWide, IsWideEntry}
 use Rattle.trace_and_report.specs.declared.draft.Draft.{Draft}
 use Rattle.trace_and_report.proofs.Alike.{objects_laws, paths_laws}
@@ -96,8 +96,8 @@ record Follows (named : Named) (old new : Draft) : Type 0 where
   arrived : new.arrived.items ≡ old.arrived.items ++ cons_option (arrival_in named) []
   operations : (r : ℕ) → counted new.operations.items r ≡ counted old.operations.items r + length (cons_option (did_in r named) [])
   logs :
-      (gs : List (Object × List LogEntry)) → old.logs.entries ≡ map spelled_log gs
-      → new.logs.entries ≡ map spelled_log (and_member_if is_same (used_in named) gs)
+      (gs : List (Object × List LogEntry)) → entries_in old.logs ≡ map spelled_log gs
+      → entries_in new.logs ≡ map spelled_log (and_member_if is_same (used_in named) gs)
   groups : groups_in new.groups ≡ and_member_if same_path (taken_in named) (groups_in old.groups)
   spelling : HasSpelling named
 
@@ -127,7 +127,7 @@ arrives names old new rid request is trace arrived operations logs groups wide s
       trace = one_record old.trace.items new.trace.items (Asked rid request) trace;
       arrived = arrived;
       operations = λ r. ap (λ ns. counted ns.items r) operations ∙ sym (add-zero (counted old.operations.items r));
-      logs = λ gs so. ap (λ ls. ls.entries) logs ∙ so;
+      logs = λ gs so. ap entries_in logs ∙ so;
       groups = ap groups_in groups;
       spelling = (wide, short);
     })
@@ -138,7 +138,7 @@ counted_more false n k = sym (add-zero n)
 
 pub acts : (names : List Named) (old new : Draft) (rid number : ℕ) (op : Op) (choice : Choice) → IsOfNames names old
     → new.trace ≡ old.trace → new.arrived ≡ old.arrived → ((r : ℕ) → counted new.operations.items r ≡ one_more_of rid (counted old.operations.items) r)
-    → ((gs : List (Object × List LogEntry)) → old.logs.entries ≡ map spelled_log gs → new.logs.entries ≡ map spelled_log (and_member is_same op.object (entry_of rid number op choice) gs))
+    → ((gs : List (Object × List LogEntry)) → entries_in old.logs ≡ map spelled_log gs → entries_in new.logs ≡ map spelled_log (and_member is_same op.object (entry_of rid number op choice) gs))
     → new.groups ≡ old.groups → entry_field.allows (entry_of rid number op choice)
     → IsOfNames (names ++ did rid number op choice ∷ []) new
 acts names old new rid number op choice is trace arrived operations logs groups allowed =
@@ -160,7 +160,7 @@ departs names old new rid response path is trace arrived operations logs groups 
       trace = one_record old.trace.items new.trace.items (Answered rid response) trace;
       arrived = ap (λ rs. rs.items) arrived ∙ sym (append-nil old.arrived.items);
       operations = λ r. ap (λ ns. counted ns.items r) operations ∙ sym (add-zero (counted old.operations.items r));
-      logs = λ gs so. ap (λ ls. ls.entries) logs ∙ so;
+      logs = λ gs so. ap entries_in logs ∙ so;
       groups = groups;
       spelling = (wide, spelled);
     })

@@ -4,7 +4,7 @@ use Rattle.std.specs.Prelude.{option_map}
 use Rattle.std.specs.Map.{lookup}
 use Rattle.std.proofs.lemmas.List.{length-map}
 use Rattle.indexmap.specs.IndexMap.{IndexMap, get, insert_entry}
-use Rattle.trace_and_report.specs.Grouped.{groups_in, and_member}
+use Rattle.trace_and_report.specs.Grouped.{entries_in, groups_in, and_member}
 
 abbrev pub lists : {K V : Type 0} → List (K × Vec V Global) → List (K × List V)
 lists es = map (λ g. (g.0, g.1.items)) es
@@ -53,6 +53,14 @@ pub as_many : {K V S : Type 0} (m : IndexMap K (Vec V Global) S) → length (gro
 unfolding groups_in
 as_many m = length-map m.entries _
 
+pub none_kept : {K V S : Type 0} (m : IndexMap K V S) → length m.entries ≡ 0 → entries_in m ≡ []
+unfolding entries_in
+none_kept m none = empty_list m.entries none
+
+pub kept_are : {K V S : Type 0} (m : IndexMap K V S) (es : List (K × V)) → es ≡ m.entries → es ≡ entries_in m
+unfolding entries_in
+kept_are m es is = is
+
 pub lists_in : {K V S : Type 0} (m : IndexMap K (Vec V Global) S) (es : List (K × Vec V Global)) → es ≡ m.entries → lists es ≡ groups_in m
 unfolding groups_in
 lists_in m es is = ap lists is
@@ -92,15 +100,17 @@ module _ {K V W : Type 0} (seen : List V → W) (alike : K → K → Bool) (k : 
   seen_or_none (Some vs) = refl
 
   -- what was written for the key before
-  pub before_seen : {S : Type 0} (old : IndexMap K W S) (gs : List (K × List V)) (was : Option W) (none before : W) → old.entries ≡ map seen_as gs
+  pub before_seen : {S : Type 0} (old : IndexMap K W S) (gs : List (K × List V)) (was : Option W) (none before : W) → entries_in old ≡ map seen_as gs
       → was ≡ get alike old k → none ≡ seen [] → before ≡ unwrap_or was none → before ≡ seen (list_at (lookup (alike k) gs))
+  unfolding entries_in
   before_seen old gs was none before are found empty is =
       is ∙ (λ i. unwrap_or (found i) (empty i)) ∙ ap (λ es. unwrap_or (lookup (alike k) es) (seen [])) are ∙ ap (λ o. unwrap_or o (seen [])) (found_seen gs)
       ∙ seen_or_none (lookup (alike k) gs)
 
   -- what a value that is written for the key makes of them
-  pub written_seen : {S : Type 0} (old made left : IndexMap K W S) (gs others : List (K × List V)) (after : W) → old.entries ≡ map seen_as gs
+  pub written_seen : {S : Type 0} (old made left : IndexMap K W S) (gs others : List (K × List V)) (after : W) → entries_in old ≡ map seen_as gs
       → left ≡ made → made.entries ≡ insert_entry alike old.entries k after → after ≡ seen (list_at (lookup (alike k) gs) ++ v ∷ [])
-      → and_member alike k v gs ≡ others → left.entries ≡ map seen_as others
+      → and_member alike k v gs ≡ others → entries_in left ≡ map seen_as others
+  unfolding entries_in
   written_seen old made left gs others after are same put is so =
       ap (λ (m : IndexMap K W _). m.entries) same ∙ put ∙ ap (λ es. insert_entry alike es k after) are ∙ inserted_seen gs after is ∙ ap (map seen_as) so

@@ -17,7 +17,7 @@ use Rattle.history.specs.Paths.{same_path}
 use Rattle.history.specs.ReportOf.{did_in, object_in, entry_in, path_in, member_in}
 use Rattle.history.specs.Seats.{at_seat}
 use Rattle.history.specs.TraceOf.{trace_in}
-use Rattle.trace_and_report.specs.Grouped.{groups_in, grouped}
+use Rattle.trace_and_report.specs.Grouped.{entries_in, groups_in, grouped}
 use Rattle.trace_and_report.specs.Widths.{Each, IsWide}
 use Rattle.trace_and_report.specs.declared.draft.Draft.{Draft}
 
@@ -56,7 +56,7 @@ pub record IsOfNames (names : List Named) (draft : Draft) : Type 0 where
   pub trace : draft.trace.items ≡ file_spelling trace_format (trace_in names)
   pub arrived : draft.arrived.items ≡ filter_map arrival_in names
   pub operations : (r : ℕ) → counted draft.operations.items r ≡ length (filter_map (did_in r) names)
-  pub logs : draft.logs.entries ≡ map spelled_log (grouped is_same object_in entry_in names)
+  pub logs : entries_in draft.logs ≡ map spelled_log (grouped is_same object_in entry_in names)
   pub groups : groups_in draft.groups ≡ grouped same_path path_in member_in names
   pub spellings : Each HasSpelling names
 

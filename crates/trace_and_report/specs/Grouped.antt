@@ -8,6 +8,10 @@ use Rattle.history.specs.ReportOf.{firsts}
 unfoldable pub groups_in : {K V S : Type 0} → IndexMap K (Vec V Global) S → List (K × List V)
 groups_in groups = map (λ g. (g.0, g.1.items)) groups.entries
 
+-- the same of one value a key
+unfoldable pub entries_in : {K V S : Type 0} → IndexMap K V S → List (K × V)
+entries_in values = values.entries
+
 -- the keys of a list by their first places, each with its members there
 abbrev pub grouped : {A K V : Type 0} → (K → K → Bool) → (A → Option K) → (K → A → Option V) → List A → List (K × List V)
 grouped alike key_in member_in xs = map (λ k. (k, filter_map (member_in k) xs)) (firsts alike (filter_map key_in xs))

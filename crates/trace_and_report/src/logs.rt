@@ -4,7 +4,7 @@ ghost use Rattle.script_tree.specs.declared.operation.Object.{Object as Used};
 ghost use Rattle.report.specs.declared.LogEntry.{LogEntry as Entry};
 ghost use Rattle.report_format.specs.Reports.{entry_field};
 ghost use Rattle.trace_and_report.specs.Draft.{spelled_log};
-ghost use Rattle.trace_and_report.specs.Grouped.{and_member};
+ghost use Rattle.trace_and_report.specs.Grouped.{and_member, entries_in};
 
 use indexmap::IndexMap;
 use report::LogEntry;
@@ -17,7 +17,7 @@ pub(crate) type Logs = IndexMap<Object, SpelledEntries>;
 
 /// No log.
 pub(crate) fn no_logs(alloc: Global) -> Logs
-    ensures { result.entries ≡ [] }
+    ensures { entries_in result ≡ [] }
 {
     IndexMap::new(alloc)
 }
@@ -30,10 +30,11 @@ pub(crate) fn add_entry(
     entry: &LogEntry,
 ) -> Result<(), AllocError>
     requires { entry_field.allows entry.now }
-    ensures { (gs : List (Used × List Entry)) → logs.old.entries ≡ map spelled_log gs
+    ensures { (gs : List (Used × List Entry)) → entries_in logs.old ≡ map spelled_log gs
         → OnOk result
-        (logs.new.entries ≡ map spelled_log (and_member is_same object entry.now gs)) }
+        (entries_in logs.new ≡ map spelled_log (and_member is_same object entry.now gs)) }
 {
     let entries = logs.entry(object)?.or_insert(SpelledEntries::new(alloc));
-    entries.push(entry)
+    entries.push(entry)?;
+    Ok(())
 }

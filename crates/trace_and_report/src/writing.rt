@@ -3,7 +3,7 @@ ghost use Rattle.std.specs.Prelude.{◌≡◌, List, map, OnOk};
 ghost use Rattle.script_tree.specs.declared.operation.Object.{Object as Used};
 ghost use Rattle.report.specs.declared.LogEntry.{LogEntry as Entry};
 ghost use Rattle.trace_and_report.specs.Draft.{spelled_log};
-ghost use Rattle.trace_and_report.specs.Grouped.{groups_in, HaveMembers};
+ghost use Rattle.trace_and_report.specs.Grouped.{entries_in, groups_in, HaveMembers};
 ghost use Rattle.trace_and_report.specs.Widths.{Each};
 ghost use Rattle.trace_and_report.specs.Written.{AreAdded, count_records, group_record, log_record};
 ghost use Rattle.trace_and_report.specs.Written.{HasSpellings};
@@ -39,7 +39,7 @@ pub(crate) fn write_counts(
 
 /// Writes the logs, and drops each of them then.
 pub(crate) fn write_logs(out: &mut Vec<u8>, logs: Logs) -> Result<(), AllocError>
-    ensures { (gs : List (Used × List Entry)) → logs.entries ≡ map spelled_log gs
+    ensures { (gs : List (Used × List Entry)) → entries_in logs ≡ map spelled_log gs
         → Each HasSpellings gs
         → OnOk result (AreAdded (map log_record gs) out.old.items out.new.items) }
 {

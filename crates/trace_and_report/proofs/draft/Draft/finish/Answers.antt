@@ -1,4 +1,4 @@
-use Rattle.std.proofs.Common.{◌∙◌, length, ap, subst, sym}
+use Rattle.std.proofs.Common.{◌∙◌, length, ap, arith, subst, sym}
 use Rattle.trace_and_report.specs.Written.{AreAdded, count_records}
 use Rattle.trace_and_report.proofs.Groups.{as_many}
 use Rattle.trace_and_report.proofs.Reports.{as_many_groups, logs_of, logs_spelled, whole}
@@ -15,6 +15,6 @@ returns c = λ names of.
       report = is.file;
       spellings = of.spellings;
       spellable = is.spellable;
-      requests = c.len-requests.ensures ∙ ap length of.arrived;
+      requests = omega (arith, c.len-requests.ensures, c.args.self.arrived.ok.0, ap length of.arrived);
       groups = c.len-paths.ensures.len ∙ sym (as_many c.args.self.groups) ∙ as_many_groups names c.args.self of;
     }

@@ -8,4 +8,5 @@ pub mod ReportLaws
 pub mod Reports
 pub mod RowLaws
 pub mod SimpleLaws
+pub mod Spelled
 pub mod TransactionLaws

@@ -21,7 +21,7 @@ module _ {A : Type 0} (field : Field A) (one : HasOneSpelling field) where
       let rest = row_one (length xs) xs ys r s (refl, p.1.1) (len, q.1.1) first.1 in
       (ap (λ (z : A). z ∷ xs) first.0 ∙ ap (λ (zs : List A). y ∷ zs) rest.0, rest.1)
 
-  all_spelled-append : (xs ys : List A) → all_spelled field (xs ++ ys) ≡ all_spelled field xs ++ all_spelled field ys
+  pub all_spelled-append : (xs ys : List A) → all_spelled field (xs ++ ys) ≡ all_spelled field xs ++ all_spelled field ys
   all_spelled-append [] ys = refl
   all_spelled-append (x ∷ xs) ys = ap (λ (s : List ℕ). field.spelling x ++ s) (all_spelled-append xs ys) ∙ sym (append_assoc (field.spelling x) (all_spelled field xs) (all_spelled field ys))
 

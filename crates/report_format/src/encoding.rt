@@ -5,7 +5,7 @@ ghost use Rattle.report_format.specs.Reports.{count_field, log_field, group_fiel
 ghost use Rattle.report_format.specs.declared.format.ReportRecord.TheVariants as it;
 
 use crate::fields::FieldKind;
-use crate::format::ReportRecords;
+use crate::format::{COUNT_TAG, GROUP_TAG, LOG_TAG, ReportRecords};
 use crate::records::{CountField, GroupField, LogField};
 use basis::{Items, OrMemory};
 use report::{Count, Group, Log, Report};
@@ -19,7 +19,7 @@ use wire::writing::write_u8;
 
 /// A record that is lent, and may be spelled. Contracts see the record.
 #[derive(Drop)]
-struct LentRecord<'a> {
+pub(crate) struct LentRecord<'a> {
     part: Part<'a>,
 }
 
@@ -45,7 +45,7 @@ impl<'a> Model for LentRecord<'a> {
 }
 
 impl<'a> LentRecord<'a> {
-    fn count(count: &'a Count) -> LentRecord<'a>
+    pub(crate) fn count(count: &'a Count) -> LentRecord<'a>
         requires { count_field.allows count.now }
         ensures { result ≡ it.Count count.now }
     {
@@ -63,7 +63,7 @@ impl<'a> LentRecord<'a> {
         }
     }
 
-    fn group(group: &'a Group) -> LentRecord<'a>
+    pub(crate) fn group(group: &'a Group) -> LentRecord<'a>
         requires { group_field.allows group.now }
         ensures { result ≡ it.Group group.now }
     {
@@ -74,7 +74,7 @@ impl<'a> LentRecord<'a> {
 }
 
 /// The format of reports whose records are lent.
-struct LentRecords<'a> {
+pub(crate) struct LentRecords<'a> {
     records: PhantomData<LentRecord<'a>>,
 }
 
@@ -108,15 +108,15 @@ impl<'a> RecordWriter for LentRecords<'a> {
     {
         match &lent.part {
             Part::Count(count) => {
-                write_u8(out, 1)?;
+                write_u8(out, COUNT_TAG)?;
                 CountField::write(out, count)
             }
             Part::Log(log) => {
-                write_u8(out, 2)?;
+                write_u8(out, LOG_TAG)?;
                 LogField::write(out, log)
             }
             Part::Group(group) => {
-                write_u8(out, 3)?;
+                write_u8(out, GROUP_TAG)?;
                 GroupField::write(out, group)
             }
         }

@@ -1,6 +1,15 @@
 use report::{Count, Group, Log};
 use wire::record::RecordFormat;
 
+/// The first byte of the record of a count.
+pub(crate) const COUNT_TAG: u8 = 1;
+
+/// The first byte of the record of a log.
+pub(crate) const LOG_TAG: u8 = 2;
+
+/// The first byte of the record of a group.
+pub(crate) const GROUP_TAG: u8 = 3;
+
 /// A record of a report's file.
 #[derive(Drop)]
 pub enum ReportRecord {

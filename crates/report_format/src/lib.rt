@@ -1,6 +1,7 @@
 //! Reports in their binary format.
 #![tactic(auto)]
 
+pub mod appending;
 pub mod decoding;
 pub mod encoding;
 mod fields;

@@ -5,7 +5,7 @@ ghost use Rattle.wire.specs.Spellings.{TakesPart};
 ghost use Rattle.report_format.specs.Reports.{any_record_field};
 
 use crate::fields::{ChoiceField, FieldKind, U32Field};
-use crate::format::ReportRecord;
+use crate::format::{COUNT_TAG, GROUP_TAG, LOG_TAG, ReportRecord};
 use crate::operations::{ActField, ObjectField};
 use crate::parts::{List, Pair, room_behind_list, write_list};
 use basis::OrMemory;
@@ -166,15 +166,15 @@ pub(crate) fn read_record(
 {
     let (tag, next) = read_u8(payload, 0)?;
     match tag {
-        1 => {
+        COUNT_TAG => {
             let (count, next) = CountField::read(alloc, payload, next)?;
             Ok((ReportRecord::Count(count), next))
         }
-        2 => {
+        LOG_TAG => {
             let (log, next) = LogField::read(alloc, payload, next)?;
             Ok((ReportRecord::Log(log), next))
         }
-        3 => {
+        GROUP_TAG => {
             let (group, next) = GroupField::read(alloc, payload, next)?;
             Ok((ReportRecord::Group(group), next))
         }

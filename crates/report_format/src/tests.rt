@@ -1,10 +1,12 @@
+use crate::appending::{SpelledEntries, add_count, add_group, add_log, begin};
 use crate::decoding::decode;
 use crate::encoding::encode;
 use basis::OrMemory;
-use report::{Log, Report};
+use report::{Log, LogEntry, Report};
 use script_tree::operation::{Act, Choice, Object};
+use script_tree::text::Text;
 use script_tree::value::{Node, Value};
-use std::alloc::Global;
+use std::alloc::{AllocError, Global};
 use std::test::Fail;
 use wire::fault::Unreadable;
 
@@ -56,6 +58,48 @@ fn files_of_the_examples(rt: HostRuntime) -> Result<(), Fail> {
     assert!(rt; report.logs.as_slice().iter().all(is_the_log) && report.logs.len() == 1);
     assert!(rt; encoded_again(rt.alloc(), FILE)?.as_slice() == FILE.as_slice());
     assert!(rt; encoded_again(rt.alloc(), LOG)?.as_slice() == LOG.as_slice());
+    Ok(())
+}
+
+#[test]
+fn a_file_that_grows(rt: HostRuntime) -> Result<(), Fail> {
+    let report = decode(rt.alloc(), FILE)?;
+    let mut bytes = begin(rt.alloc())?;
+    for count in report.counts.as_slice() {
+        add_count(&mut bytes, *count)?;
+    }
+    for group in report.groups.as_slice() {
+        add_group(&mut bytes, group)?;
+    }
+    assert!(rt; bytes.as_slice() == FILE.as_slice());
+    Ok(())
+}
+
+/// The entries of the log, spelled.
+fn hits(alloc: Global) -> Result<SpelledEntries, AllocError> {
+    let mut entries = SpelledEntries::new(alloc);
+    entries.push(&LogEntry {
+        rid: 0,
+        number: 1,
+        act: Act::Read,
+        choice: Choice::Nothing,
+    })?;
+    entries.push(&LogEntry {
+        rid: 0,
+        number: 2,
+        act: Act::Write(Value::number(1)),
+        choice: Choice::Nothing,
+    })?;
+    Ok(entries)
+}
+
+#[test]
+fn a_log_that_grows(rt: HostRuntime) -> Result<(), Fail> {
+    let name = Text::from_vec(Vec::from_slice(rt.alloc(), b"hits")?);
+    let entries = hits(rt.alloc())?;
+    let mut bytes = begin(rt.alloc())?;
+    add_log(&mut bytes, &Object::Register(name), &entries)?;
+    assert!(rt; bytes.as_slice() == LOG.as_slice());
     Ok(())
 }
 

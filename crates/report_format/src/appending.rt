@@ -52,6 +52,13 @@ impl SpelledEntries {
         }
     }
 
+    /// How many there are.
+    pub fn len(&self) -> u32
+        ensures { result ≡ self.now.count }
+    {
+        self.count
+    }
+
     /// Puts an entry behind the others. One more than 32 bits count is answered as want of memory.
     pub fn push(&mut self, entry: &LogEntry) -> Result<(), AllocError>
         requires { entry_field.allows entry.now }

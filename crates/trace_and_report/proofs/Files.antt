@@ -24,7 +24,7 @@ use Rattle.trace_and_report.proofs.TraceFollows.{trace_read_again}
 use Rattle.trace_and_report.proofs.TraceLimits.{arrivals_counted, requests_counted}
 
 module _ (start : Objects) (history : List Happening) (recorded : Recorded) (files : AreFiles (names_from (empty_room start) history) recorded) where
-  names : List Named
+  abbrev names : List Named
   names = names_from (empty_room start) history
 
   trace_file : length recorded.trace.items ≤ MOST_FILE_BYTES → IsTraceFile start history recorded.trace.items

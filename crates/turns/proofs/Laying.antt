@@ -11,9 +11,9 @@ use Rattle.script_tree.specs.Requests.{Request}
 use Rattle.script_check.specs.Validity.{IsValid}
 use Rattle.script_code.specs.Translated.{IsCodeOf}
 use Rattle.machine.specs.declared.machine.Machine.{Machine}
-use Rattle.workload.specs.declared.limits.TheConstants.{SEATS}
 use Rattle.history.specs.Seats.{at_seat}
 use Rattle.history.specs.Visits.{Visit}
+use Rattle.history.specs.declared.happening.Happening.{Happening}
 use Rattle.turns.specs.Seated.{IsSeated, IsLaid}
 use Rattle.turns.specs.Turned.{Moves, Acts, dice_at, jobs_left}
 use Rattle.turns.specs.declared.table.Table.{Table}
@@ -77,14 +77,14 @@ other_seats : (program : Program) (x : ℕ) (visits more : List (Option Visit)) 
 other_seats program x visits more runs left is run seated =
     subst (λ o. IsSeated program o (at_seat left x)) (sym is) (subst (λ r. IsSeated program (at_seat visits x) r) (sym run) seated)
 
-pub laid_on : (reading : Option ℕ) (seat : ℕ) (came : List Request) (old new : Table) (before after : ChaCha) (left : Option Machine)
-    → IsLaid old → Moves reading seat came old.held new.held before after left → Replaces seat left old.runs.items new.runs.items
+pub laid_on : (reading : Option ℕ) (seat : ℕ) (came : List Request) (h : Happening) (old new : Table) (before after : ChaCha) (left : Option Machine)
+    → IsLaid old → Moves reading seat came h old.recording new.recording before after left → Replaces seat left old.runs.items new.runs.items
     → new.code ≡ old.code → length new.dice.items ≡ length old.dice.items → into_iter_len new.jobs ≡ length (into_iter_items new.jobs)
     → IsLaid new
-laid_on reading seat came old new before after left laid moves replaces code dice jobs =
+laid_on reading seat came h old new before after left laid moves replaces code dice jobs =
     let program = moves.happens.program in
     record {
-      code = subst (λ p. IsCodeOf p new.code.now) (sym program) (subst (λ k. IsCodeOf old.held.state.program k.now) (sym code) laid.code);
+      code = subst (λ p. IsCodeOf p new.code.now) (sym program) (subst (λ k. IsCodeOf old.recording.program k.now) (sym code) laid.code);
       valid = subst (λ p. IsValid p.declarations) (sym program) laid.valid;
       seated = λ x. by x (eqb_tells x seat);
       runs = replaces.same ∙ laid.runs;
@@ -93,25 +93,25 @@ laid_on reading seat came old new before after left laid moves replaces code dic
     }
   where
     by : (x : ℕ) → ((nat_eq x seat ≡ true) × (x ≡ seat)) ⊎ ((nat_eq x seat ≡ false) × (x ≢ seat))
-        → IsSeated new.held.state.program (at_seat new.held.state.visits x) (at_seat new.runs.items x)
+        → IsSeated new.recording.program (at_seat new.recording.visits x) (at_seat new.runs.items x)
     by x (inl (is, same)) =
-        subst (λ y. IsSeated new.held.state.program (at_seat new.held.state.visits y) (at_seat new.runs.items y)) (sym same)
-        (subst (λ r. IsSeated new.held.state.program (at_seat new.held.state.visits seat) r) (sym replaces.here) moves.seated)
+        subst (λ y. IsSeated new.recording.program (at_seat new.recording.visits y) (at_seat new.runs.items y)) (sym same)
+        (subst (λ r. IsSeated new.recording.program (at_seat new.recording.visits seat) r) (sym replaces.here) moves.seated)
     by x (inr (is, other)) =
-        other_seats new.held.state.program x old.held.state.visits new.held.state.visits old.runs.items new.runs.items
+        other_seats new.recording.program x old.recording.visits new.recording.visits old.runs.items new.runs.items
         (stays moves.happens x other) (replaces.others x other)
-        (subst (λ p. IsSeated p (at_seat old.held.state.visits x) (at_seat old.runs.items x)) (sym moves.happens.program) (laid.seated x))
+        (subst (λ p. IsSeated p (at_seat old.recording.visits x) (at_seat old.runs.items x)) (sym moves.happens.program) (laid.seated x))
 
 -- with other dice, and what is at the seat
-pub acts_on : (reading : Option ℕ) (seat : ℕ) (came : List Request) (old new : Table) (before after : ChaCha) (left : Option Machine)
-    → Moves reading seat came old.held new.held before after left → jobs_left old ≡ came ++ jobs_left new
+pub acts_on : (reading : Option ℕ) (seat : ℕ) (came : List Request) (h : Happening) (old new : Table) (before after : ChaCha) (left : Option Machine)
+    → Moves reading seat came h old.recording new.recording before after left → jobs_left old ≡ came ++ jobs_left new
     → before ≡ dice_at old seat → after ≡ dice_at new seat → ((x : ℕ) → x ≢ seat → dice_at new x ≡ dice_at old x) → at_seat new.runs.items seat ≡ left
-    → Acts reading seat old new
-acts_on reading seat came old new before after left moves jobs was is others run = record {
+    → Acts reading seat h old new
+acts_on reading seat came h old new before after left moves jobs was is others run = record {
   came = came;
   jobs = jobs;
   moves =
-      subst (λ l. Moves reading seat came old.held new.held (dice_at old seat) (dice_at new seat) l) (sym run)
-      (subst (λ d. Moves reading seat came old.held new.held (dice_at old seat) d left) is (subst (λ d. Moves reading seat came old.held new.held d after left) was moves));
+      subst (λ l. Moves reading seat came h old.recording new.recording (dice_at old seat) (dice_at new seat) l) (sym run)
+      (subst (λ d. Moves reading seat came h old.recording new.recording (dice_at old seat) d left) is (subst (λ d. Moves reading seat came h old.recording new.recording d after left) was moves));
   others = others;
 }

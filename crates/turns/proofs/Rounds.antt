@@ -1,20 +1,17 @@
 -- Whose turn it is, and that the turns come to an end.
-use Rattle.std.proofs.Common.{◌≡◌, ◌≢◌, ◌∙◌, ℕ, zero, suc, ◌+◌, ◌*◌, ◌%◌, ◌<◌, ◌≤◌, List, [], ◌∷◌, ◌++◌, length, length-append, get_or, Option, Some, None, ◌⊎◌, inl, inr, refl, ap, sym, subst, cond, arith}
+use Rattle.std.proofs.Common.{◌≡◌, ◌≢◌, ◌∙◌, ℕ, zero, suc, ◌+◌, ◌*◌, ◌%◌, ◌<◌, ◌≤◌, List, [], ◌∷◌, length, length-append, get_or, Option, Some, None, ◌⊎◌, inl, inr, refl, ap, sym, arith}
 use Rattle.std.specs.Prelude.{nat_eq, true, false}
-use Rattle.std.proofs.lemmas.Bool.{ne_eqb}
 use Rattle.std.proofs.lemmas.Bool.Decides.{eqb_tells}
 use Rattle.script_tree.specs.Programs.{Program}
 use Rattle.machine.specs.declared.machine.Machine.{Machine}
 use Rattle.workload.specs.declared.limits.TheConstants.{SEATS}
-use Rattle.history.specs.Recordings.{room_of}
-use Rattle.history.specs.Rooms.{Room, onward, and_answer}
+use Rattle.history.specs.Recordings.{Recorded}
 use Rattle.history.specs.Seats.{at_seat, seated}
 use Rattle.history.specs.Visits.{Visit}
 use Rattle.history.specs.declared.happening.Happening.{Happening}
-use Rattle.history.specs.declared.happening.Happening.TheVariants.{Arrive, Act, Depart}
-use Rattle.turns.specs.ByTurns.{seat_of_turn, seat_in}
+use Rattle.turns.specs.ByTurns.{seat_of_turn}
 use Rattle.turns.specs.Seated.{IsSeated, IsLaid}
-use Rattle.turns.specs.Turned.{turns_left, turns_of_jobs, jobs_left, Moves, Passes, Acts, IsTurn, IsDone}
+use Rattle.turns.specs.Turned.{turns_left, turns_of_jobs, jobs_left, Acts, IsTurn, IsDone}
 use Rattle.turns.specs.declared.table.Table.{Table}
 use Rattle.turns.proofs.Events.{stays}
 
@@ -75,13 +72,13 @@ one_changes f g seat (suc n) others within = by (λ below. one_changes f g seat 
 
 -- how many turns are left at which something happens, at most
 pub work : Table → ℕ
-work t = open_turns (at_seat t.held.state.visits) SEATS + turns_of_jobs (length (jobs_left t))
+work t = open_turns (at_seat t.recording.visits) SEATS + turns_of_jobs (length (jobs_left t))
 
-less_left : (reading : Option ℕ) (seat : ℕ) (old new : Table) → seat < SEATS → Acts reading seat old new → work new < work old
+less_left : (reading : Option ℕ) (seat : ℕ) (h : Happening) (old new : Table) → seat < SEATS → Acts reading seat h old new → work new < work old
 unfolding work
-less_left reading seat old new within did =
-    let f = at_seat old.held.state.visits in
-    let g = at_seat new.held.state.visits in
+less_left reading seat h old new within did =
+    let f = at_seat old.recording.visits in
+    let g = at_seat new.recording.visits in
     let changed : open_turns g SEATS + turns_left (f seat) ≡ open_turns f SEATS + turns_left (g seat) = one_changes f g seat SEATS (λ x. stays did.moves.happens x) within in
     let jobs : length (jobs_left old) ≡ length did.came + length (jobs_left new) = ap length did.jobs ∙ length-append did.came (jobs_left new) in
     omega (arith, changed, jobs, did.moves.falls)
@@ -90,8 +87,8 @@ less_left reading seat old new within did =
 
 -- In the turns of the first seats nothing happened: they are empty, and no job is left.
 pub record Quiet (seats : ℕ) (old new : Table) : Type 0 where
-  pub held : new.held ≡ old.held
-  pub empty : (x : ℕ) → x < seats → at_seat new.held.state.visits x ≡ None
+  pub recording : new.recording ≡ old.recording
+  pub empty : (x : ℕ) → x < seats → at_seat new.recording.visits x ≡ None
   pub jobs : jobs_left new ≡ jobs_left old
   pub none : 0 < seats → jobs_left new ≡ []
 
@@ -99,32 +96,32 @@ pub record Quiet (seats : ℕ) (old new : Table) : Type 0 where
 abbrev pub IsUnderWay : ℕ → Table → Table → Type 0
 IsUnderWay seats old new = (work new < work old) ⊎ Quiet seats old new
 
-work_same : (a b : Table) → a.held ≡ b.held → jobs_left a ≡ jobs_left b → work a ≡ work b
+work_same : (a b : Table) → a.recording ≡ b.recording → jobs_left a ≡ jobs_left b → work a ≡ work b
 unfolding work
-work_same a b held jobs =
-    let opened : open_turns (at_seat a.held.state.visits) SEATS ≡ open_turns (at_seat b.held.state.visits) SEATS
-    = ap (λ l. open_turns (at_seat l.state.visits) SEATS) held in
+work_same a b same jobs =
+    let opened : open_turns (at_seat a.recording.visits) SEATS ≡ open_turns (at_seat b.recording.visits) SEATS
+    = ap (λ (r : Recorded). open_turns (at_seat r.visits) SEATS) same in
     let left : turns_of_jobs (length (jobs_left a)) ≡ turns_of_jobs (length (jobs_left b)) = ap (λ js. turns_of_jobs (length js)) jobs in
     omega (arith, opened, left)
 
 pub begins : (t : Table) → IsUnderWay 0 t t
-begins t = inr (record { held = refl; empty = λ x below. absurd (omega arith); jobs = refl; none = λ some. absurd (omega arith) })
+begins t = inr (record { recording = refl; empty = λ x below. absurd (omega arith); jobs = refl; none = λ some. absurd (omega arith) })
 
-pub goes_on : (reading : Option ℕ) (seat : ℕ) (start old new : Table) → seat < SEATS → IsUnderWay seat start old → IsTurn reading seat old new → IsUnderWay (suc seat) start new
-goes_on reading seat start old new within (inl less) (inl passed) = inl (omega (arith, less, work_same new old passed.held passed.jobs))
-goes_on reading seat start old new within (inl less) (inr did) = inl (omega (arith, less, less_left reading seat old new within did))
-goes_on reading seat start old new within (inr quiet) (inl passed) = inr (record {
-  held = passed.held ∙ quiet.held;
-  empty = λ x below. ap (λ l. at_seat l.state.visits x) passed.held ∙ none_at x below (eqb_tells x seat);
+pub goes_on : (reading : Option ℕ) (seat : ℕ) (happened : Option Happening) (start old new : Table) → seat < SEATS → IsUnderWay seat start old → IsTurn reading seat happened old new → IsUnderWay (suc seat) start new
+goes_on reading seat None start old new within (inl less) passed = inl (omega (arith, less, work_same new old passed.recording passed.jobs))
+goes_on reading seat (Some h) start old new within (inl less) did = inl (omega (arith, less, less_left reading seat h old new within did))
+goes_on reading seat None start old new within (inr quiet) passed = inr (record {
+  recording = passed.recording ∙ quiet.recording;
+  empty = λ x below. ap (λ (r : Recorded). at_seat r.visits x) passed.recording ∙ none_at x below (eqb_tells x seat);
   jobs = passed.jobs ∙ quiet.jobs;
   none = λ some. passed.jobs ∙ passed.none;
 })
   where
-    none_at : (x : ℕ) → x < suc seat → ((nat_eq x seat ≡ true) × (x ≡ seat)) ⊎ ((nat_eq x seat ≡ false) × (x ≢ seat)) → at_seat old.held.state.visits x ≡ None
-    none_at x below (inl (is, same)) = ap (at_seat old.held.state.visits) same ∙ passed.empty
+    none_at : (x : ℕ) → x < suc seat → ((nat_eq x seat ≡ true) × (x ≡ seat)) ⊎ ((nat_eq x seat ≡ false) × (x ≢ seat)) → at_seat old.recording.visits x ≡ None
+    none_at x below (inl (is, same)) = ap (at_seat old.recording.visits) same ∙ passed.empty
     none_at x below (inr (is, other)) = quiet.empty x (omega (arith, below, other))
-goes_on reading seat start old new within (inr quiet) (inr did) =
-    inl (omega (arith, less_left reading seat old new within did, work_same old start quiet.held quiet.jobs))
+goes_on reading seat (Some h) start old new within (inr quiet) did =
+    inl (omega (arith, less_left reading seat h old new within did, work_same old start quiet.recording quiet.jobs))
 
 no_run : (program : Program) (here : Option Visit) (run : Option Machine) → IsSeated program here run → here ≡ None → run ≡ None
 no_run program None None seated is = refl
@@ -147,8 +144,8 @@ quiet_is_done start new laid quiet = record {
 
     by : (x : ℕ) → (x < SEATS) ⊎ (SEATS ≤ x) → at_seat start.runs.items x ≡ None
     by x (inl below) =
-        no_run start.held.state.program (at_seat start.held.state.visits x) (at_seat start.runs.items x) (laid.seated x)
-        (ap (λ l. at_seat l.state.visits x) (sym quiet.held) ∙ quiet.empty x below)
+        no_run start.recording.program (at_seat start.recording.visits x) (at_seat start.runs.items x) (laid.seated x)
+        (ap (λ (r : Recorded). at_seat r.visits x) (sym quiet.recording) ∙ quiet.empty x below)
     by x (inr past) = beyond start.runs.items x (omega (arith, laid.runs, past))
 
 -- Where not all is done, something happens in a round.

@@ -1,8 +1,7 @@
 -- The history so far, with an end that is open: what holds of any end holds of the whole.
 use Rattle.std.proofs.Common.{◌≡◌, ◌≢◌, ◌∙◌, ℕ, suc, ◌+◌, List, [], ◌∷◌, ◌++◌, length, length-append, append_assoc, append-nil, Option, Some, None, ◌⊎◌, inl, inr, refl, ap, sym, subst, cond, arith}
-use Rattle.std.specs.Prelude.{ℤ, nat_eq, true, false, filter_map}
+use Rattle.std.specs.Prelude.{ℤ, nat_eq, true, false}
 use Rattle.std.specs.List.{cons_option}
-use Rattle.std.specs.Option.{ForSome}
 use Rattle.std.proofs.lemmas.Bool.{ne_eqb}
 use Rattle.std.proofs.lemmas.Bool.Decides.{eqb_tells}
 use Rattle.std.proofs.lemmas.List.Elements.{filter_map-append}
@@ -11,20 +10,19 @@ use Rattle.dice.specs.Rolls.{dice_of}
 use Rattle.script_tree.specs.Objects.{Objects}
 use Rattle.script_tree.specs.Programs.{Program}
 use Rattle.script_tree.specs.Requests.{Request}
-use Rattle.history.specs.Histories.{history_of}
 use Rattle.history.specs.Recordings.{Recorded, room_of}
-use Rattle.history.specs.Rooms.{Room, AreSteps, IsStep, IsLegal, IsClosed, empty_room, onward, room_after}
+use Rattle.history.specs.Rooms.{Room, AreSteps, IsStep, empty_room, onward, room_after}
 use Rattle.history.specs.Seats.{at_seat}
 use Rattle.history.specs.Visits.{Visit}
 use Rattle.machine.specs.declared.machine.Machine.{Machine}
 use Rattle.history.specs.declared.happening.Happening.{Happening}
 use Rattle.history.specs.declared.happening.Happening.TheVariants.{Arrive, Act, Depart}
-use Rattle.turns.specs.ByTurns.{seat_of_turn, seat_in, arrivals, IsOver, GoesByTurns, over, idle, acts, FollowsTurns}
-use Rattle.turns.specs.Offers.{rolled, roll_at, rolls_at, AreRolled, AreReadings, IsReading, ReadsClock}
+use Rattle.turns.specs.ByTurns.{seat_of_turn, seat_in, arrivals, GoesByTurns, over, idle, acts}
+use Rattle.turns.specs.Offers.{rolled, roll_at, rolls_at, AreRolled, AreReadings}
 use Rattle.turns.specs.Seated.{IsSeated, IsLaid}
 use Rattle.turns.specs.Drawn.{IsThrown}
-use Rattle.turns.specs.Called.{Happens}
-use Rattle.turns.specs.Turned.{Moves, dice_at, jobs_left, IsOpened, Passes, Acts, IsTurn, IsDone}
+use Rattle.turns.specs.Run.{IsRunOf}
+use Rattle.turns.specs.Turned.{Happens, dice_at, jobs_left, IsOpened, Passes, Acts, IsTurn, IsDone, and_next}
 use Rattle.turns.specs.declared.table.Table.{Table}
 
 -- what a run of the jobs is given
@@ -36,11 +34,8 @@ pub record Setting : Type 0 where
   pub seed : ℕ
   pub reading : Option ℕ
 
-abbrev pub history : Table → List Happening
-history t = history_of t.held.calls.items
-
 abbrev pub room : Table → Room
-room t = room_of t.held.state
+room t = room_of t.recording
 
 -- What holds of any end from here on holds of the whole from the first.
 abbrev pub Leads : {X : Type 0} → (X → List Happening → Type 0) → X → List Happening → X → Type 0
@@ -49,16 +44,16 @@ Leads P first hs now = (rest : List Happening) → P now rest → P first (hs ++
 abbrev pub by_turns : Setting → ℕ × Room → List Happening → Type 0
 by_turns s x hs = GoesByTurns s.listed (length s.jobs) x.0 x.1 hs
 
--- The table stands before the turn of this number.
-pub record Stands (s : Setting) (turn : ℕ) (t : Table) : Type 0 where
-  pub program : t.held.state.program ≡ s.program
-  pub legal : Leads (AreSteps s.program) (empty_room s.start) (history t) (room t)
-  pub left : room t ≡ room_after (empty_room s.start) (history t)
-  pub jobs : arrivals (history t) ++ jobs_left t ≡ s.jobs
+-- The table stands before the turn of this number, after this history.
+pub record Stands (s : Setting) (turn : ℕ) (hs : List Happening) (t : Table) : Type 0 where
+  pub program : t.recording.program ≡ s.program
+  pub legal : Leads (AreSteps s.program) (empty_room s.start) hs (room t)
+  pub left : room t ≡ room_after (empty_room s.start) hs
+  pub jobs : arrivals hs ++ jobs_left t ≡ s.jobs
   pub arrived : (room t).arrived + length (jobs_left t) ≡ length s.jobs
-  pub turns : Leads (by_turns s) (0, empty_room s.start) (history t) (turn, room t)
-  pub rolls : (seat : ℕ) (rest : List (ℤ × ℤ)) → AreRolled (dice_at t seat) rest → AreRolled (dice_of s.seed seat) (rolls_at seat (history t) ++ rest)
-  pub reads : (n : ℕ) → s.reading ≡ Some n → Leads (AreReadings n) (empty_room s.start) (history t) (room t)
+  pub turns : Leads (by_turns s) (0, empty_room s.start) hs (turn, room t)
+  pub rolls : (seat : ℕ) (rest : List (ℤ × ℤ)) → AreRolled (dice_at t seat) rest → AreRolled (dice_of s.seed seat) (rolls_at seat hs ++ rest)
+  pub reads : (n : ℕ) → s.reading ≡ Some n → Leads (AreReadings n) (empty_room s.start) hs (room t)
 
 -- ---- one more
 
@@ -101,110 +96,93 @@ rolls_on x first old new hs h so is rest are =
 
 -- ---- turns
 
-pub opens : (s : Setting) (t : Table) (recording : Recorded) → IsOpened recording s.jobs s.seed t → recording.program ≡ s.program → room_of recording ≡ empty_room s.start → Stands s 0 t
+pub opens : (s : Setting) (t : Table) (recording : Recorded) → IsOpened recording s.jobs s.seed t → recording.program ≡ s.program → room_of recording ≡ empty_room s.start → Stands s 0 [] t
 opens s t recording opened program fresh =
-    let none : history t ≡ [] = ap history_of opened.calls in
-    let now : room t ≡ empty_room s.start = ap room_of opened.state ∙ fresh in
+    let now : room t ≡ empty_room s.start = ap room_of opened.recording' ∙ fresh in
     record {
-      program = ap (λ (r : Recorded). r.program) opened.state ∙ program;
-      legal = λ rest p. subst (λ hs. AreSteps s.program (empty_room s.start) (hs ++ rest)) (sym none) (subst (λ r. AreSteps s.program r rest) now p);
-      left = now ∙ ap (room_after (empty_room s.start)) (sym none);
-      jobs = ap (λ hs. arrivals hs ++ jobs_left t) none ∙ opened.jobs';
+      program = ap (λ (r : Recorded). r.program) opened.recording' ∙ program;
+      legal = λ rest p. subst (λ r. AreSteps s.program r rest) now p;
+      left = now;
+      jobs = opened.jobs';
       arrived = omega (arith, ap (λ (r : Room). r.arrived) now, ap length opened.jobs');
-      turns = λ rest p. subst (λ hs. by_turns s (0, empty_room s.start) (hs ++ rest)) (sym none) (subst (λ r. by_turns s (0, r) rest) now p);
-      rolls = λ seat rest p.
-          subst (λ hs. AreRolled (dice_of s.seed seat) (rolls_at seat hs ++ rest)) (sym none) (subst (λ d. AreRolled d rest) (opened.dice seat) p);
-      reads = λ n is rest p. subst (λ hs. AreReadings n (empty_room s.start) (hs ++ rest)) (sym none) (subst (λ r. AreReadings n r rest) now p);
+      turns = λ rest p. subst (λ r. by_turns s (0, r) rest) now p;
+      rolls = λ seat rest p. subst (λ d. AreRolled d rest) (opened.dice seat) p;
+      reads = λ n is rest p. subst (λ r. AreReadings n r rest) now p;
     }
 
-passes : (s : Setting) (turn seat : ℕ) (old new : Table) → Stands s turn old → seat_of_turn s.listed turn ≡ seat → Passes seat old new → Stands s (suc turn) new
-passes s turn seat old new stands here passed =
-    let calls : history new ≡ history old = ap (λ l. history_of l.calls.items) passed.held in
-    let now : room new ≡ room old = ap (λ l. room_of l.state) passed.held in
+passes : (s : Setting) (turn seat : ℕ) (hs : List Happening) (old new : Table) → Stands s turn hs old → seat_of_turn s.listed turn ≡ seat → Passes seat old new → Stands s (suc turn) hs new
+passes s turn seat hs old new stands here passed =
+    let now : room new ≡ room old = ap room_of passed.recording in
     let all_in : (room old).arrived ≡ length s.jobs = omega (arith, stands.arrived, ap length passed.none) in
     record {
-      program = ap (λ l. l.state.program) passed.held ∙ stands.program;
-      legal = λ rest p. subst (λ hs. AreSteps s.program (empty_room s.start) (hs ++ rest)) (sym calls) (stands.legal rest (subst (λ r. AreSteps s.program r rest) now p));
-      left = now ∙ stands.left ∙ ap (room_after (empty_room s.start)) (sym calls);
-      jobs = ap (λ hs. arrivals hs ++ jobs_left new) calls ∙ ap (λ js. arrivals (history old) ++ js) passed.jobs ∙ stands.jobs;
+      program = ap (λ (r : Recorded). r.program) passed.recording ∙ stands.program;
+      legal = λ rest p. stands.legal rest (subst (λ r. AreSteps s.program r rest) now p);
+      left = now ∙ stands.left;
+      jobs = ap (λ js. arrivals hs ++ js) passed.jobs ∙ stands.jobs;
       arrived = ap (λ (r : Room). r.arrived + length (jobs_left new)) now ∙ ap (λ js. (room old).arrived + length js) passed.jobs ∙ stands.arrived;
       turns = λ rest p.
-          subst (λ hs. by_turns s (0, empty_room s.start) (hs ++ rest)) (sym calls)
-          (stands.turns rest (idle turn (room old) rest (ap (room old).open_at here ∙ passed.empty, all_in) (subst (λ r. by_turns s (suc turn, r) rest) now p)));
-      rolls = λ x rest p.
-          subst (λ hs. AreRolled (dice_of s.seed x) (rolls_at x hs ++ rest)) (sym calls) (stands.rolls x rest (subst (λ d. AreRolled d rest) (passed.dice x) p));
-      reads = λ n is rest p.
-          subst (λ hs. AreReadings n (empty_room s.start) (hs ++ rest)) (sym calls) (stands.reads n is rest (subst (λ r. AreReadings n r rest) now p));
+          stands.turns rest (idle turn (room old) rest (ap (room old).open_at here ∙ passed.empty, all_in) (subst (λ r. by_turns s (suc turn, r) rest) now p));
+      rolls = λ x rest p. stands.rolls x rest (subst (λ d. AreRolled d rest) (passed.dice x) p);
+      reads = λ n is rest p. stands.reads n is rest (subst (λ r. AreReadings n r rest) now p);
     }
 
-acted : (s : Setting) (turn seat : ℕ) (old new : Table) → Stands s turn old → seat_of_turn s.listed turn ≡ seat → Acts s.reading seat old new → Stands s (suc turn) new
-acted s turn seat old new stands here did =
-    let h : Happening = did.moves.happening in
-    let happens : Happens seat h old.held new.held = did.moves.happens in
+acted : (s : Setting) (turn seat : ℕ) (h : Happening) (hs : List Happening) (old new : Table) → Stands s turn hs old → seat_of_turn s.listed turn ≡ seat → Acts s.reading seat h old new
+    → Stands s (suc turn) (hs ++ h ∷ []) new
+acted s turn seat h hs old new stands here did =
+    let happens : Happens seat h old.recording new.recording = did.moves.happens in
     let first : Room = empty_room s.start in
-    let calls : history new ≡ history old ++ h ∷ [] = happens.history in
     let now : room new ≡ onward (room old) h = happens.left in
     let came : arrivals (h ∷ []) ≡ did.came = did.moves.came' in
     record {
       program = happens.program ∙ stands.program;
       legal =
-          subst (λ hs. Leads (AreSteps s.program) first hs (room new)) (sym calls) (on (AreSteps s.program) first (room old) (room new) (history old) h stands.legal
-          (λ rest p. (subst (λ q. IsStep q (room old) h) stands.program happens.allowed, subst (λ r. AreSteps s.program r rest) now p)));
-      left = now ∙ ap (λ r. onward r h) stands.left ∙ sym (room_on first (history old) h) ∙ ap (room_after first) (sym calls);
+          on (AreSteps s.program) first (room old) (room new) hs h stands.legal
+          (λ rest p. (subst (λ q. IsStep q (room old) h) stands.program happens.allowed, subst (λ r. AreSteps s.program r rest) now p));
+      left = now ∙ ap (λ r. onward r h) stands.left ∙ sym (room_on first hs h);
       jobs =
-          ap (λ hs. arrivals hs ++ jobs_left new) calls
-          ∙ ap (λ qs. qs ++ jobs_left new) (filter_map-append _ (history old) (h ∷ []))
-          ∙ append_assoc (arrivals (history old)) (arrivals (h ∷ [])) (jobs_left new)
-          ∙ ap (λ qs. arrivals (history old) ++ (qs ++ jobs_left new)) came
-          ∙ ap (λ qs. arrivals (history old) ++ qs) (sym did.jobs) ∙ stands.jobs;
+          ap (λ qs. qs ++ jobs_left new) (filter_map-append _ hs (h ∷ []))
+          ∙ append_assoc (arrivals hs) (arrivals (h ∷ [])) (jobs_left new)
+          ∙ ap (λ qs. arrivals hs ++ (qs ++ jobs_left new)) came
+          ∙ ap (λ qs. arrivals hs ++ qs) (sym did.jobs) ∙ stands.jobs;
       arrived =
           let so : (room new).arrived ≡ (room old).arrived + length did.came
           = ap (λ (r : Room). r.arrived) now ∙ arrived_on (room old) h ∙ ap (λ qs. (room old).arrived + length qs) came in
           let fewer : length (jobs_left old) ≡ length did.came + length (jobs_left new) = ap length did.jobs ∙ length-append did.came (jobs_left new) in
           omega (arith, so, fewer, stands.arrived);
       turns =
-          subst (λ hs. Leads (by_turns s) (0, first) hs (suc turn, room new)) (sym calls) (on (by_turns s) (0, first) (turn, room old) (suc turn, room new) (history old) h stands.turns
-          (λ rest p. acts turn (room old) h rest (happens.here ∙ sym here) (subst (λ r. by_turns s (suc turn, r) rest) now p)));
+          on (by_turns s) (0, first) (turn, room old) (suc turn, room new) hs h stands.turns
+          (λ rest p. acts turn (room old) h rest (happens.here ∙ sym here) (subst (λ r. by_turns s (suc turn, r) rest) now p));
       rolls = λ x.
-          subst (λ hs. (rest : List (ℤ × ℤ)) → AreRolled (dice_at new x) rest → AreRolled (dice_of s.seed x) (rolls_at x hs ++ rest)) (sym calls)
-          (rolls_on x (dice_of s.seed x) (dice_at old x) (dice_at new x) (history old) h (stands.rolls x)
-          (thrown_at x seat h (dice_at old) (dice_at new) happens.here did.moves.rolls did.others));
+          rolls_on x (dice_of s.seed x) (dice_at old x) (dice_at new x) hs h (stands.rolls x)
+          (thrown_at x seat h (dice_at old) (dice_at new) happens.here did.moves.rolls did.others);
       reads = λ n is.
-          subst (λ hs. Leads (AreReadings n) first hs (room new)) (sym calls) (on (AreReadings n) first (room old) (room new) (history old) h (stands.reads n is)
-          (λ rest p. (did.moves.reads n is, subst (λ r. AreReadings n r rest) now p)));
+          on (AreReadings n) first (room old) (room new) hs h (stands.reads n is)
+          (λ rest p. (did.moves.reads n is, subst (λ r. AreReadings n r rest) now p));
     }
 
-pub turned : (s : Setting) (turn seat : ℕ) (old new : Table) → Stands s turn old → seat_of_turn s.listed turn ≡ seat → IsTurn s.reading seat old new → Stands s (suc turn) new
-turned s turn seat old new stands here (inl passed) = passes s turn seat old new stands here passed
-turned s turn seat old new stands here (inr did) = acted s turn seat old new stands here did
+pub turned : (s : Setting) (turn seat : ℕ) (happened : Option Happening) (hs : List Happening) (old new : Table) → Stands s turn hs old → seat_of_turn s.listed turn ≡ seat
+    → IsTurn s.reading seat happened old new → Stands s (suc turn) (and_next hs happened) new
+turned s turn seat None hs old new stands here passed = passes s turn seat hs old new stands here passed
+turned s turn seat (Some h) hs old new stands here did = acted s turn seat h hs old new stands here did
 
 -- ---- the end
-
--- What is said of a history holds of the one that was recorded.
-pub record IsAllOf (s : Setting) (hs : List Happening) : Type 0 where
-  pub legal : IsLegal s.program s.start hs
-  pub closed : IsClosed s.start hs
-  pub jobs : arrivals hs ≡ s.jobs
-  pub turns : FollowsTurns s.listed (length s.jobs) s.start hs
-  pub rolls : (seat : ℕ) → AreRolled (dice_of s.seed seat) (rolls_at seat hs)
-  pub reads : ForSome s.reading (λ n. ReadsClock n s.start hs)
 
 none_open : (program : Program) (here : Option Visit) (run : Option Machine) → IsSeated program here run → run ≡ None → here ≡ None
 none_open program None run seated is = refl
 none_open program (Some v) None seated is = absurd seated
 none_open program (Some v) (Some m) seated is = absurd cc
 
-pub closes : (s : Setting) (turn : ℕ) (t : Table) → Stands s turn t → IsLaid t → IsDone t → IsAllOf s (history t)
-closes s turn t stands laid done =
+pub closes : (s : Setting) (turn : ℕ) (hs : List Happening) (t : Table) → Stands s turn hs t → IsLaid t → IsDone t → IsRunOf s.program s.start s.jobs s.listed s.seed s.reading hs
+closes s turn hs t stands laid done =
     let first : Room = empty_room s.start in
     let none : (seat : ℕ) → (room t).open_at seat ≡ None
-    = λ seat. none_open t.held.state.program (at_seat t.held.state.visits seat) (at_seat t.runs.items seat) (laid.seated seat) (done.runs seat) in
+    = λ seat. none_open t.recording.program (at_seat t.recording.visits seat) (at_seat t.runs.items seat) (laid.seated seat) (done.runs seat) in
     let all_in : (room t).arrived ≡ length s.jobs = omega (arith, stands.arrived, ap length done.jobs) in
     record {
-      legal = subst (AreSteps s.program first) (append-nil (history t)) (stands.legal [] tt);
+      legal = subst (AreSteps s.program first) (append-nil hs) (stands.legal [] tt);
       closed = λ seat. ap (λ (r : Room). r.open_at seat) (sym stands.left) ∙ none seat;
-      jobs = sym (append-nil (arrivals (history t))) ∙ ap (λ js. arrivals (history t) ++ js) (sym done.jobs) ∙ stands.jobs;
-      turns = subst (by_turns s (0, first)) (append-nil (history t)) (stands.turns [] (over turn (room t) (λ seat. (none seat, all_in))));
-      rolls = λ seat. subst (AreRolled (dice_of s.seed seat)) (append-nil (rolls_at seat (history t))) (stands.rolls seat [] tt);
-      reads = λ n is. subst (AreReadings n first) (append-nil (history t)) (stands.reads n is [] tt);
+      arrive = sym (append-nil (arrivals hs)) ∙ ap (λ js. arrivals hs ++ js) (sym done.jobs) ∙ stands.jobs;
+      in_turn = subst (by_turns s (0, first)) (append-nil hs) (stands.turns [] (over turn (room t) (λ seat. (none seat, all_in))));
+      rolls = λ seat. subst (AreRolled (dice_of s.seed seat)) (append-nil (rolls_at seat hs)) (stands.rolls seat [] tt);
+      readings = λ n is. subst (AreReadings n first) (append-nil hs) (stands.reads n is [] tt);
     }

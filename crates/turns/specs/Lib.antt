@@ -1,6 +1,6 @@
 pub mod ByTurns
 pub mod Drawn
-pub mod Called
 pub mod Offers
+pub mod Run
 pub mod Seated
 pub mod Turned

@@ -1,5 +1,5 @@
 -- What stands at the seats: the machine of each open request.
-use Rattle.std.specs.Prelude.{◌≡◌, ℕ, ◌≤◌, List, length, Option, Some, None}
+use Rattle.std.specs.Prelude.{◌≡◌, ℕ, ◌≤◌, length, Option, Some, None}
 use Rattle.std.specs.Vec.Iter.{into_iter_items, into_iter_len}
 use Rattle.script_tree.specs.Programs.{Program}
 use Rattle.script_tree.specs.Requests.{IsRequestWithinLimits}
@@ -41,9 +41,9 @@ pub record WaitsFor (program : Program) (here : Option Visit) (op : Op) (m : Mac
 
 -- Each seat has its dice, and the machine of the request that is open there.
 pub record IsLaid (t : Table) : Type 0 where
-  pub code : IsCodeOf t.held.state.program t.code.now
-  pub valid : IsValid t.held.state.program.declarations
-  pub seated : (seat : ℕ) → IsSeated t.held.state.program (at_seat t.held.state.visits seat) (at_seat t.runs.items seat)
+  pub code : IsCodeOf t.recording.program t.code.now
+  pub valid : IsValid t.recording.program.declarations
+  pub seated : (seat : ℕ) → IsSeated t.recording.program (at_seat t.recording.visits seat) (at_seat t.runs.items seat)
   pub runs : length t.runs.items ≡ SEATS
   pub dice : length t.dice.items ≡ SEATS
   pub jobs : into_iter_len t.jobs ≡ length (into_iter_items t.jobs)

@@ -1,4 +1,4 @@
-//! Jobs that run by turns on one thread, and the history of it.
+//! Jobs that run by turns on one thread. What happens goes to a journal.
 #![tactic(auto)]
 
 pub mod offer;

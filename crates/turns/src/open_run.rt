@@ -7,11 +7,10 @@ ghost use Rattle.turns.specs.Seated.{IsSeated, WaitsFor};
 ghost use Rattle.turns.specs.Turned.{Moves};
 
 use crate::offer::offer_for;
-use desk::HeldOf;
-use desk::held::make_call;
+use desk::Bench;
 use dice::Dice;
-use history::trace::copied;
-use history::{Event, Recorder, Reply};
+use history::copying::copied;
+use history::{Event, Happening, Recorder, Recording, Reply, happening_by};
 use machine::{Machine, MachineStep};
 use outside::Clock;
 use script_code::translate::Code;
@@ -20,71 +19,77 @@ use script_tree::request::Request;
 use std::alloc::{AllocError, Global};
 use std::sync::Arc;
 
-/// A job arrives at a seat, and has a machine.
+/// A job arrives at a seat, and has a machine. Tells what happened.
 pub(crate) fn arrive<'c>(
     alloc: Global,
     code: &'c Code,
-    held: &mut HeldOf<Recorder>,
+    recording: &mut Recording,
     seat: u32,
     job: Request,
-) -> Result<Machine<'c>, AllocError>
-    requires code { IsCodeOf held.old.state.program code.now }
-    requires empty { at_seat held.old.state.visits seat ≡ None }
-    ensures { (reading : Option ℕ) (dice : ChaCha) → IfOk result (λ machine.
-        Moves reading seat (job ∷ []) held.old held.new dice dice (Some machine)) }
+) -> Result<(Happening, Machine<'c>), AllocError>
+    requires code { IsCodeOf recording.old.program code.now }
+    requires empty { at_seat recording.old.visits seat ≡ None }
+    ensures { (reading : Option ℕ) (dice : ChaCha) → IfOk result (λ r.
+        Moves reading seat (job ∷ []) r.0 recording.old recording.new dice dice (Some r.1)) }
 {
     job.keeps_limits();
     let request = Arc::new(alloc, copied(alloc, &job)?)?;
-    make_call::<Recorder>(held, seat, Event::Arrive(request))?;
-    Ok(Machine::start(alloc, code, job))
+    let event = Event::Arrive(request);
+    let (reply, _) = Recorder::step(recording, seat, &event)?;
+    let machine = Machine::start(alloc, code, job);
+    Ok((happening_by(seat, event, &reply), machine))
 }
 
-/// The open request of a machine does the operation that it wants, or departs. The machine is given
-/// back where it goes on.
+/// The open request of a machine does the operation that it wants, or departs. Tells what happened,
+/// and gives the machine back where it goes on.
 pub(crate) fn go_on<'c, C: Clock>(
-    held: &mut HeldOf<Recorder>,
+    recording: &mut Recording,
     seat: u32,
     mut machine: Machine<'c>,
     dice: &mut Dice,
     clock: &C,
-) -> Result<Option<Machine<'c>>, AllocError>
-    requires valid { IsValid held.old.state.program.declarations }
-    requires seated { let program = held.old.state.program in
-        IsSeated program (at_seat held.old.state.visits seat) (Some machine) }
-    ensures { IfOk result (λ left.
-        Moves (C.reading clock.now) seat [] held.old held.new dice.old dice.new left) }
+) -> Result<(Happening, Option<Machine<'c>>), AllocError>
+    requires valid { IsValid recording.old.program.declarations }
+    requires seated { let program = recording.old.program in
+        IsSeated program (at_seat recording.old.visits seat) (Some machine) }
+    ensures { let reading = C.reading clock.now in IfOk result (λ r.
+        Moves reading seat [] r.0 recording.old recording.new dice.old dice.new r.1) }
 {
     match machine.run()? {
         MachineStep::Wants(op) => {
-            let machine = act(held, seat, op, machine, dice, clock)?;
-            Ok(Some(machine))
+            let (happening, machine) = act(recording, seat, op, machine, dice, clock)?;
+            Ok((happening, Some(machine)))
         }
         MachineStep::Ends(response, path) => {
-            make_call::<Recorder>(held, seat, Event::Depart(response, path))?;
-            Ok(None)
+            let event = Event::Depart(response, path);
+            let (reply, _) = Recorder::step(recording, seat, &event)?;
+            Ok((happening_by(seat, event, &reply), None))
         }
     }
 }
 
-/// The open request of a machine does this operation, and the machine takes the answer.
+/// The open request of a machine does this operation, and the machine takes the answer. Tells what
+/// happened.
 fn act<'c, C: Clock>(
-    held: &mut HeldOf<Recorder>,
+    recording: &mut Recording,
     seat: u32,
     op: Op,
     mut machine: Machine<'c>,
     dice: &mut Dice,
     clock: &C,
-) -> Result<Machine<'c>, AllocError>
-    requires valid { IsValid held.old.state.program.declarations }
-    requires waits { let program = held.old.state.program in
-        WaitsFor program (at_seat held.old.state.visits seat) op machine }
-    ensures { IfOk result (λ left.
-        Moves (C.reading clock.now) seat [] held.old held.new dice.old dice.new (Some left)) }
+) -> Result<(Happening, Machine<'c>), AllocError>
+    requires valid { IsValid recording.old.program.declarations }
+    requires waits { let program = recording.old.program in
+        WaitsFor program (at_seat recording.old.visits seat) op machine }
+    ensures { let reading = C.reading clock.now in IfOk result (λ r.
+        Moves reading seat [] r.0 recording.old recording.new dice.old dice.new (Some r.1)) }
 {
     let offer = offer_for(&op.act, clock, dice);
-    match make_call::<Recorder>(held, seat, Event::Act(op, offer))? {
+    let event = Event::Act(op, offer);
+    let (kept, told) = Recorder::step(recording, seat, &event)?;
+    match told {
         Reply::Acted(_choice, answer) => machine.answer(answer)?,
         Reply::Arrived(_) | Reply::Departed => unreachable!(),
     }
-    Ok(machine)
+    Ok((happening_by(seat, event, &kept), machine))
 }

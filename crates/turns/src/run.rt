@@ -1,14 +1,13 @@
-ghost use Rattle.std.specs.Prelude.{◌≡◌, ℕ, length, IfOk};
-ghost use Rattle.std.specs.Option.{ForSome};
-ghost use Rattle.dice.specs.Rolls.{dice_of};
+ghost use Rattle.std.specs.Prelude.{ℕ, ◌<◌, [], IfOk, OnOk};
 ghost use Rattle.script_code.specs.Translated.{IsCodeOf};
 ghost use Rattle.object_set.specs.ObjectSets.{IsSetOf, objects_of};
-ghost use Rattle.history.specs.Rooms.{IsLegal, IsClosed};
-ghost use Rattle.turns.specs.ByTurns.{FollowsTurns, arrivals};
-ghost use Rattle.turns.specs.Offers.{AreRolled, rolls_at, ReadsClock};
+ghost use Rattle.workload.specs.declared.limits.TheConstants.{SEATS};
+ghost use Rattle.turns.specs.Run.{IsRunOf, KeepsRun};
+ghost use Rattle.turns.specs.Seated.{IsLaid};
+ghost use Rattle.turns.specs.Turned.{KeepsTurn};
 
 use crate::table::Table;
-use history::{History, Recording, history_of};
+use history::{Journal, Recording};
 use object_set::ObjectSet;
 use outside::Clock;
 use script_check::program::Program;
@@ -18,12 +17,12 @@ use std::sync::Arc;
 use workload::limits::SEATS;
 use workload::{Requests, Turn};
 
-/// Runs the jobs by turns, on one thread, and records what happens. First come the turns that are
-/// listed, then those of all seats in order, again and again, until every job has departed. At the
-/// turn of a seat where no request is open the next job arrives; an open request does the operation
-/// that it wants, or departs. Each seat has its dice, by the seed. The clock and the dice are asked
-/// only where an operation wants it.
-pub fn run_turns<C: Clock>(
+/// Runs the jobs by turns, on one thread, and gives each thing that happens to the journal. First
+/// come the turns that are listed, then those of all seats in order, again and again, until every
+/// job has departed. At the turn of a seat where no request is open the next job arrives; an open
+/// request does the operation that it wants, or departs. Each seat has its dice, by the seed. The
+/// clock and the dice are asked only where an operation wants it.
+pub fn run_turns<C: Clock, J: Journal>(
     alloc: Global,
     program: &Arc<Program>,
     code: &Code,
@@ -32,29 +31,45 @@ pub fn run_turns<C: Clock>(
     turns: &[Turn],
     seed: u64,
     clock: &C,
-) -> Result<History, AllocError>
+    mut journal: J,
+) -> Result<J, AllocError>
     requires code { IsCodeOf program.now.value code.now }
     requires start { IsSetOf program.now.value start }
-    ensures legal { IfOk result (IsLegal program.now.value (objects_of start)) }
-    ensures closed { IfOk result (IsClosed (objects_of start)) }
-    ensures jobs { IfOk result (λ history. arrivals history ≡ jobs) }
-    ensures turns { IfOk result (FollowsTurns turns.now (length jobs) (objects_of start)) }
-    ensures rolls { (seat : ℕ) → IfOk result (λ history.
-        AreRolled (dice_of seed seat) (rolls_at seat history)) }
-    ensures readings { ForSome (C.reading clock.now) (λ reading.
-        IfOk result (ReadsClock reading (objects_of start))) }
+    requires nothing_kept { J.keeps [] journal }
+    ensures { let objects = objects_of start in
+        let IsRun = IsRunOf program.now.value objects jobs turns.now seed (C.reading clock.now) in
+        IfOk result (KeepsRun J.keeps IsRun) }
 {
     // It tells that the program is valid.
     program.declarations();
     let recording = Recording::new(alloc, program.clone()?, start);
     let mut table = Table::new(alloc, code, recording, jobs.into_vec(), seed)?;
     for turn in turns {
-        table.turn(turn.seat(), clock)?;
+        take_turn(&mut table, turn.seat(), clock, &mut journal)?;
     }
     'rounds: while !table.is_done() {
         for seat in 0..SEATS {
-            table.turn(seat, clock)?;
+            take_turn(&mut table, seat, clock, &mut journal)?;
         }
     }
-    history_of(alloc, table.into_calls())
+    Ok(journal)
+}
+
+/// The turn of a seat. The journal takes in what happens.
+fn take_turn<C: Clock, J: Journal>(
+    table: &mut Table,
+    seat: u8,
+    clock: &C,
+    journal: &mut J,
+) -> Result<(), AllocError>
+    requires laid { IsLaid table.old }
+    requires within { seat < SEATS }
+    ensures laid { OnOk result (IsLaid table.new) }
+    ensures turn { let reading = C.reading clock.now in OnOk result
+        (KeepsTurn J.keeps reading seat table.old table.new journal.old journal.new) }
+{
+    match table.turn(seat, clock)? {
+        Some(happening) => journal.take(happening),
+        None => Ok(()),
+    }
 }

@@ -7,10 +7,8 @@ ghost use Rattle.turns.specs.Seated.{IsLaid};
 ghost use Rattle.turns.specs.Turned.{IsOpened, IsTurn, IsDone};
 
 use crate::open_run::{arrive, go_on};
-use desk::held::opened;
-use desk::{Call, HeldOf};
 use dice::Dice;
-use history::{Event, Recorder, Recording, Reply};
+use history::{Happening, Recording};
 use machine::Machine;
 use outside::Clock;
 use script_code::translate::Code;
@@ -19,13 +17,13 @@ use std::alloc::{AllocError, Global};
 use std::vec;
 use workload::limits::SEATS;
 
-/// The seats, the jobs that have not arrived, and what was recorded.
+/// The seats, the jobs that have not arrived, and the recording.
 #[derive(Drop)]
 pub(crate) struct Table<'c> {
     alloc: Global,
     code: &'c Code,
     seed: u64,
-    held: HeldOf<Recorder>,
+    recording: Recording,
     jobs: vec::IntoIter<Request>,
     /// The machine of the open request of each seat.
     runs: Vec<Option<Machine<'c>>>,
@@ -58,36 +56,45 @@ impl<'c> Table<'c> {
             alloc,
             code,
             seed,
-            held: opened::<Recorder>(alloc, recording),
+            recording,
             jobs: jobs.into_iter(),
             runs,
             dice,
         })
     }
 
-    /// The turn of a seat: the next job arrives there, or what is open there goes on.
-    pub(crate) fn turn<C: Clock>(&mut self, seat: u8, clock: &C) -> Result<(), AllocError>
+    /// The turn of a seat: the next job arrives there, or what is open there goes on. Tells what
+    /// happened.
+    pub(crate) fn turn<C: Clock>(
+        &mut self,
+        seat: u8,
+        clock: &C,
+    ) -> Result<Option<Happening>, AllocError>
         requires laid { IsLaid self.old }
         requires within { seat < SEATS }
         ensures laid { OnOk result (IsLaid self.new) }
-        ensures turn { OnOk result (IsTurn (C.reading clock.now) seat self.old self.new) }
+        ensures turn { IfOk result (λ happened.
+            IsTurn (C.reading clock.now) seat happened self.old self.new) }
     {
         let place = usize::from(seat);
         let seat = u32::from(seat);
         match self.runs[place].take() {
             Some(machine) => {
                 let dice = &mut self.dice[place];
-                let left = go_on(&mut self.held, seat, machine, dice, clock)?;
+                let (happening, left) = go_on(&mut self.recording, seat, machine, dice, clock)?;
                 self.runs[place] = left;
+                Ok(Some(happening))
             }
-            None => {
-                if let Some(job) = self.jobs.next() {
-                    let machine = arrive(self.alloc, self.code, &mut self.held, seat, job)?;
+            None => match self.jobs.next() {
+                Some(job) => {
+                    let recording = &mut self.recording;
+                    let (happening, machine) = arrive(self.alloc, self.code, recording, seat, job)?;
                     self.runs[place] = Some(machine);
+                    Ok(Some(happening))
                 }
-            }
+                None => Ok(None),
+            },
         }
-        Ok(())
     }
 
     /// Whether every job has departed.
@@ -96,12 +103,5 @@ impl<'c> Table<'c> {
         ensures { IsTrue result ↔ IsDone self.now }
     {
         self.jobs.len() == 0 && self.runs.iter().all(|run| run.is_none())
-    }
-
-    /// What was recorded, call by call.
-    pub(crate) fn into_calls(self) -> Vec<Call<Event, Reply>>
-        ensures { result ≡ self.entry.held.calls }
-    {
-        self.held.calls
     }
 }

@@ -78,7 +78,18 @@ fn history(alloc: Global) -> Result<History, Fail> {
     jobs.push(job(alloc)?)?;
     jobs.push(job(alloc)?)?;
     let clock = FixedClock(5);
-    Ok(run_turns(alloc, &program, &code, objects, jobs, &[], 0, &clock)?)
+    let journal = History::new(alloc);
+    Ok(run_turns(
+        alloc,
+        &program,
+        &code,
+        objects,
+        jobs,
+        &[],
+        0,
+        &clock,
+        journal,
+    )?)
 }
 
 #[test]

@@ -5,18 +5,18 @@ use Rattle.trace_and_report.proofs.Files.{are_files, too_long}
 use Rattle.trace_and_report.proofs.record.record_jobs.Goals as goal
 
 pub finish-requires : goal.finish-requires
-finish-requires g c = (c.in_ok-journal-2.ensures.0, c.in_ok-journal-2.ensures.1.1)
+finish-requires g c = (c.in_ok-journal-2.ensures.0, c.in_ok-journal-2.ensures.2)
 
 pub returns-in-Some : goal.returns-in-Some
 returns-in-Some g c =
     let objects = objects_of c.args.start in
     let run = c.in_ok-journal-2.ensures in
-    let files = c.in_ok-recorded.ensures objects run.0 run.1.1 in
-    (run.0, run.1.0, too_long objects run.0 c.in_ok-recorded.recorded files c.in-Some.which (subst (TellsTooLong c.in_ok-recorded.recorded) c.in-Some.is c.too_long.ensures))
+    let files = c.in_ok-recorded.ensures objects run.0 run.2 in
+    (run.0, run.1, too_long objects run.0 c.in_ok-recorded.recorded files c.in-Some.which (subst (TellsTooLong c.in_ok-recorded.recorded) c.in-Some.is c.too_long.ensures))
 
-pub returns-in-None : goal.returns-in-None
-returns-in-None g c =
+pub returns : goal.returns
+returns g c =
     let objects = objects_of c.args.start in
     let run = c.in_ok-journal-2.ensures in
-    let files = c.in_ok-recorded.ensures objects run.0 run.1.1 in
-    (run.0, run.1.0, are_files objects run.0 c.in_ok-recorded.recorded files (subst (TellsTooLong c.in_ok-recorded.recorded) c.in-None.is c.too_long.ensures))
+    let files = c.in_ok-recorded.ensures objects run.0 run.2 in
+    (run.0, run.1, are_files objects run.0 c.in_ok-recorded.recorded files (subst (TellsTooLong c.in_ok-recorded.recorded) c.in-None.is c.too_long.ensures))

@@ -4,6 +4,6 @@ use Rattle.turns.proofs.open_run.arrive.Goals as goal
 
 pub returns : goal.returns
 returns c = λ reading dice.
-    arrives reading c.args.seat c.args.job c.in_ok-request.request c.in_ok-make_call.field-0 c.args.held.now c.make_call.new.held dice c.start.result
-    (c.in_ok-request.ensures.ok ∙ c.in_ok-copied.ensures) (record { calls = c.in_ok-make_call.ensures.calls; takes = c.in_ok-make_call.ensures.steps }) c.requires.empty
-    (c.start.ensures.follows c.args.held.now.state.program c.requires.code) c.start.ensures.ready c.keeps_limits.ensures
+    arrives reading c.args.seat c.args.job c.in_ok-request.request c.in_ok-reply.reply c.happening_by.result c.args.recording.now c.step.new.state dice c.start-machine.result
+    (c.in_ok-request.ensures.ok ∙ c.in_ok-copied.ensures) c.in_ok-reply.ensures.steps c.happening_by.ensures c.requires.empty
+    (c.start-machine.ensures.follows c.args.recording.now.program c.requires.code) c.start-machine.ensures.ready c.keeps_limits.ensures

@@ -4,11 +4,7 @@ ghost use Rattle.history.specs.Seats.{at_seat, seated};
 use std::alloc::AllocError;
 
 /// Puts something at a seat, in a list by seat.
-pub fn put_at<T: Drop>(
-    seats: &mut Vec<Option<T>>,
-    seat: u32,
-    value: T,
-) -> Result<(), AllocError>
+pub fn put_at<T: Drop>(seats: &mut Vec<Option<T>>, seat: u32, value: T) -> Result<(), AllocError>
     ensures put { OnOk result
         (at_seat seats.new.items ≡ seated seat (Some value) (at_seat seats.old.items)) }
     ensures err { OnErr result (seats.new.items ≡ seats.old.items) }

@@ -9,5 +9,5 @@ pub returns : goal.returns
 returns c = λ names of.
     on_ok c.add_entry.result
     (λ added. acts names c.args.self.now _ c.args.rid c.args.number c.args.op c.args.choice of refl refl c.in_ok-count.ensures added refl
-      (entry_allowed c.requires.0 c.args.op _ c.requires.1 refl c.in_ok-keep_widths.ensures))
+    (entry_allowed c.requires.0 c.args.op _ c.requires.1 refl c.in_ok-keep_widths.ensures))
     (on_ok_all _ _ c.add_entry.result c.add_entry.ensures)

@@ -1,0 +1,39 @@
+//! Decodes traces and reports, or encodes what they hold, many times, for the bench. Its words are
+//! what to do, how many times, and the files, as `encode 3 trace report`. Before that, each file is
+//! decoded and encoded once and has to come out the same. It prints a line of each file.
+#![tactic(auto)]
+
+mod contents;
+mod job;
+
+use crate::job::Job;
+use anyhow::Context;
+use std::{env, fs};
+
+fn main(rt: HostRuntime) -> anyhow::Result<()> {
+    let mut words = Vec::new(rt.alloc());
+    for word in env::args(&rt)?.skip(1) {
+        words.push(word)?;
+    }
+    let (job, files) = Job::from_words(words.as_slice())?;
+    for file in files {
+        run(&rt, job, file.as_str())?;
+    }
+    Ok(())
+}
+
+/// Does the job with a file.
+fn run(rt: &HostRuntime, job: Job, file: &str) -> anyhow::Result<()> {
+    let bytes = fs::read(rt, file).context(format_args!("reading {file}"))?;
+    let contents = job
+        .run(rt.alloc(), &bytes)
+        .context(format_args!("running {file}"))?;
+    println!(rt;
+        "{}: records {}, bytes {}, times {}, same",
+        contents.kind(),
+        contents.record_count(),
+        bytes.len(),
+        job.times()
+    )?;
+    Ok(())
+}

@@ -5,13 +5,14 @@ use crate::event::{Event, Reply};
 use basis::Items;
 use script_tree::operation::{Choice, Op};
 use script_tree::path::Path;
-use script_tree::request::{Request, Response};
+use script_tree::request::Response;
 use std::sync::Arc;
+use trace_format::packed::PackedRequest;
 
 /// What happened at a seat.
 #[derive(Drop)]
 pub enum Happening {
-    Arrive(u32, Arc<Request>),
+    Arrive(u32, Arc<PackedRequest>),
     Act(u32, Op, Choice),
     Depart(u32, Response, Path),
 }

@@ -1,7 +1,6 @@
 //! What happens while requests are answered, and what its trace and its report are.
 #![tactic(auto)]
 
-pub mod copying;
 pub mod event;
 pub mod happening;
 pub mod journal;

@@ -14,11 +14,12 @@ use object_set::{ObjectSet, Refused};
 use script_check::program::Program;
 use script_tree::operation::{Act, Choice, Op};
 use script_tree::path::Path;
-use script_tree::request::{Request, Response};
+use script_tree::request::Response;
 use script_tree::value::Value;
 use std::alloc::{AllocError, Global};
 use std::marker::Model;
 use std::sync::Arc;
+use trace_format::packed::PackedRequest;
 
 /// What a recorder keeps between events: the objects, and of each seat the request that is open
 /// there. Its program is not run here; it is what says which events may come.
@@ -77,7 +78,11 @@ impl Recording {
     }
 
     /// A request arrives at a seat.
-    fn arrive(&mut self, seat: u32, request: &Arc<Request>) -> Result<(Reply, Reply), AllocError>
+    fn arrive(
+        &mut self,
+        seat: u32,
+        request: &Arc<PackedRequest>,
+    ) -> Result<(Reply, Reply), AllocError>
         requires { MayCome self.old seat (asks.Arrive request.now) }
         ensures { IsTaken seat (asks.Arrive request.now) self.old self.new result }
     {

@@ -14,12 +14,13 @@ use script_tree::text::Text;
 use std::alloc::Global;
 use std::sync::Arc;
 use std::test::Fail;
+use trace_format::packed::PackedRequest;
 
-fn request(alloc: Global) -> Result<Arc<Request>, Fail> {
+fn request(alloc: Global) -> Result<Arc<PackedRequest>, Fail> {
     let text = Text::from_vec(b"/hit".to_vec(alloc)?);
     let none = || Text::from_vec(Vec::new(alloc));
     let request = Request::new(none(), text, Parameters::new(alloc), none()).ok_or("a request")?;
-    Ok(Arc::new(alloc, request)?)
+    Ok(Arc::new(alloc, PackedRequest::pack(alloc, &request)?)?)
 }
 
 #[test]

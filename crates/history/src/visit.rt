@@ -1,17 +1,17 @@
 ghost use Rattle.std.specs.Prelude.{◌≡◌, []};
 ghost use Rattle.history.specs.Visits.{visit_of};
 
-use script_tree::request::Request;
 use script_tree::value::Value;
 use std::alloc::Global;
 use std::marker::Model;
 use std::sync::Arc;
+use trace_format::packed::PackedRequest;
 
 /// A request that is open at a seat, with the answers to its operations.
 #[derive(Drop)]
 pub(crate) struct Visit {
     pub(crate) rid: u64,
-    pub(crate) request: Arc<Request>,
+    pub(crate) request: Arc<PackedRequest>,
     pub(crate) answers: Vec<Value>,
 }
 
@@ -31,7 +31,7 @@ impl Model for Visit {
 
 impl Visit {
     /// Without answers.
-    pub(crate) fn new(alloc: Global, rid: u64, request: Arc<Request>) -> Visit
+    pub(crate) fn new(alloc: Global, rid: u64, request: Arc<PackedRequest>) -> Visit
         ensures { result ≡ visit_of rid request.value [] }
     {
         // It tells that the request is within the limits.

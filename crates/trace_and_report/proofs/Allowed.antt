@@ -1,8 +1,7 @@
 -- What fits a program and has its widths may be spelled.
-use Rattle.std.proofs.Common.{◌≡◌, ℕ, zero, suc, ◌+◌, ◌<◌, ◌^◌, Bool, true, List, [], ◌∷◌, length, Some, refl}
+use Rattle.std.proofs.Common.{◌≡◌, ℕ, suc, Bool, List, [], ◌∷◌, Some, refl}
 use Rattle.basis.specs.Lists.{nth}
 use Rattle.script_tree.specs.Datum.{Datum, data_of, IsWithinLimits}
-use Rattle.script_tree.specs.Programs.{Program}
 use Rattle.script_tree.specs.declared.operation.Act.{Act}
 use Rattle.script_tree.specs.declared.operation.Act.TheVariants.{Read, Write, Get, Put, Remove, Transact, Now, Roll}
 use Rattle.script_tree.specs.declared.operation.Object.{Object}
@@ -12,7 +11,7 @@ use Rattle.script_tree.specs.declared.transaction.Change.{Change}
 use Rattle.script_tree.specs.declared.transaction.Statement.{Statement}
 use Rattle.script_tree.specs.declared.transaction.Statement.TheVariants.{Insert, Select, Update, Delete, Expect}
 use Rattle.script_fit.specs.FitsOperation.{FitsAct}
-use Rattle.script_fit.specs.FitsTransaction.{FitsStatement, FitsWidth, FitStatements, FitTests, FitChanges}
+use Rattle.script_fit.specs.FitsTransaction.{FitsWidth, FitStatements, FitTests, FitChanges}
 use Rattle.wire.specs.Spellings.{HaveWideNumbers, value_field}
 use Rattle.report_format.specs.Operations.{u32_field, test_field, change_field, statement_field, IsStatement, IsAct}
 use Rattle.report_format.specs.Parts.{AllAllowed}

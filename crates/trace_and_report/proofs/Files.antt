@@ -1,21 +1,13 @@
 -- The files of a history, from what its journal gives.
-use Rattle.std.proofs.Common.{◌≡◌, ◌∙◌, ℕ, ◌≤◌, ◌<◌, List, length, Option, Some, None, Err, Result, Ok, ap, refl, sym, subst, arith}
-use Rattle.basis.specs.declared.or_memory.OrMemory.TheVariants.{Other}
+use Rattle.std.proofs.Common.{◌∙◌, ◌≤◌, ◌<◌, List, length, Some, None, ap, subst, arith}
 use Rattle.script_tree.specs.Objects.{Objects}
-use Rattle.wire.specs.Files.{IsFileWithin}
 use Rattle.wire.specs.declared.limits.TheConstants.{MOST_FILE_BYTES}
-use Rattle.trace_format.specs.Events.{trace_format}
-use Rattle.report_format.specs.Reports.{report_format, records_of}
 use Rattle.report_format.proofs.ReadAgain.{read_again}
 use Rattle.history.specs.Names.{Named, names_from}
 use Rattle.history.specs.ReportOf.{report_in, report_of}
 use Rattle.history.specs.Rooms.{empty_room}
-use Rattle.history.specs.TraceOf.{trace_of}
 use Rattle.history.specs.declared.happening.Happening.{Happening}
-use Rattle.turns.specs.ByTurns.{arrivals}
-use Rattle.trace_and_report.specs.Draft.{HasSpelling}
-use Rattle.trace_and_report.specs.Recorded.{AreFilesOf, HasTooLong, IsTraceFile, IsReportFile, IsRecorded, TraceIsTooLong, ReportIsTooLong}
-use Rattle.trace_and_report.specs.Widths.{Each}
+use Rattle.trace_and_report.specs.Recorded.{AreFilesOf, HasTooLong, IsTraceFile, IsReportFile}
 use Rattle.trace_and_report.specs.Written.{AreFiles, TellsTooLong}
 use Rattle.trace_and_report.specs.declared.recorded.Recorded.{Recorded}
 use Rattle.trace_and_report.specs.declared.recorded.TooLong.{TooLong}

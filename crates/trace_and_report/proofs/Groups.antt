@@ -1,5 +1,5 @@
 -- Groups, and one member more.
-use Rattle.std.proofs.Common.{◌≡◌, ◌∙◌, arith, length, Bool, true, false, cond, List, [], ◌∷◌, ◌++◌, Option, Some, None, Vec, Global, map, refl, ap, sym, unwrap_or}
+use Rattle.std.proofs.Common.{◌≡◌, ◌∙◌, arith, length, Bool, true, false, cond, List, [], ◌∷◌, ◌++◌, Option, Some, None, Vec, Global, map, refl, ap, unwrap_or}
 use Rattle.std.specs.Prelude.{option_map}
 use Rattle.std.specs.Map.{lookup}
 use Rattle.std.proofs.lemmas.List.{length-map}

@@ -1,7 +1,7 @@
 -- A journal, with one happening more.
-use Rattle.std.proofs.Common.{◌≡◌, ◌∙◌, List, [], ◌∷◌, ◌++◌, refl, ap, sym, subst}
+use Rattle.std.proofs.Common.{◌≡◌, List, [], ◌∷◌, ◌++◌, refl, ap, sym, subst}
 use Rattle.script_tree.specs.Objects.{Objects}
-use Rattle.history.specs.Names.{Named, name, names_from}
+use Rattle.history.specs.Names.{name, names_from}
 use Rattle.history.specs.Rooms.{Room, empty_room, onward, room_after}
 use Rattle.history.specs.declared.happening.Happening.{Happening}
 use Rattle.trace_and_report.specs.Draft.{IsOfNames}

@@ -1,5 +1,5 @@
 -- What the code keeps of a room to name what happens.
-use Rattle.std.specs.Prelude.{◌≡◌, ℕ, List, length, Option, Some, None, Result, IfOk, option_map}
+use Rattle.std.specs.Prelude.{◌≡◌, ℕ, length, Option, Some, None, Result, IfOk, option_map}
 use Rattle.std.specs.declared.alloc.AllocError.{AllocError}
 use Rattle.history.specs.Names.{rid_in, number_in}
 use Rattle.history.specs.Rooms.{Room, onward}

@@ -23,9 +23,10 @@ use report::LogEntry;
 use report_format::appending::begin as begin_report;
 use script_tree::operation::{Choice, Op};
 use script_tree::path::Path;
-use script_tree::request::{Request, Response};
+use script_tree::request::Response;
 use std::alloc::{AllocError, Global};
 use trace_format::appending::{add_request, add_response, begin as begin_trace};
+use trace_format::packed::PackedRequest;
 
 /// What is kept of a history to write its files, while one goes through it: the trace as its file
 /// has it, and the parts of the report.
@@ -74,7 +75,7 @@ impl Draft {
         }
     }
 
-    fn arrive(&mut self, rid: u32, request: &Request) -> Result<(), AllocError>
+    fn arrive(&mut self, rid: u32, request: &PackedRequest) -> Result<(), AllocError>
         requires { IsRequestWithinLimits request.now }
         ensures { TakesIn (came rid request.now) self.old self.new result }
     {

@@ -11,9 +11,9 @@ ghost use Rattle.history.specs.declared.happening.Happening.TheVariants as did;
 
 use history::Happening;
 use history::seats::{clear_at, put_at};
-use script_tree::request::Request;
 use std::alloc::{AllocError, Global};
 use std::sync::Arc;
+use trace_format::packed::PackedRequest;
 
 /// A request that is open at a seat: its id, and how many operations it has done.
 #[derive(Clone, Copy)]
@@ -59,7 +59,7 @@ impl Naming {
         }
     }
 
-    fn arrive(&mut self, seat: u32, _request: &Arc<Request>) -> Result<Name, AllocError>
+    fn arrive(&mut self, seat: u32, _request: &Arc<PackedRequest>) -> Result<Name, AllocError>
         ensures { IsPassed (did.Arrive seat _request.now) self.old self.new result }
     {
         let rid = self.arrived;

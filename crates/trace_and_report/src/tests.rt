@@ -14,6 +14,7 @@ use script_tree::text::Text;
 use std::alloc::{AllocError, Global};
 use std::sync::Arc;
 use std::test::Fail;
+use trace_format::packed::PackedRequest;
 
 const TRACE: &[u8; 54] = b"SSCOTRC1\x00\x00\x00\x1a\x01\x00\x00\x00\x00\x00\x00\x00\x03GET\
     \x00\x00\x00\x02/e\x00\x00\x00\x00\x00\x00\x00\x00\
@@ -52,11 +53,12 @@ fn program(alloc: Global) -> Result<Program, Fail> {
     }
 }
 
-fn job(alloc: Global) -> Result<Request, Fail> {
+fn job(alloc: Global) -> Result<PackedRequest, Fail> {
     let method = text(alloc, b"GET")?;
     let path = text(alloc, b"/e")?;
     let body = Text::from_vec(Vec::new(alloc));
-    Ok(Request::new(method, path, Parameters::new(alloc), body).ok_or("a request")?)
+    let request = Request::new(method, path, Parameters::new(alloc), body).ok_or("a request")?;
+    Ok(PackedRequest::pack(alloc, &request)?)
 }
 
 fn recorded(alloc: Global) -> Result<Recorded, Fail> {

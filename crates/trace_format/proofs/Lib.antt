@@ -1,5 +1,6 @@
 pub mod EventFields
 pub mod FileEvents
+pub mod PackedRequests
 pub mod Heads
 pub mod Lengths
 pub mod OneFault

@@ -1,14 +1,13 @@
 //! The file of a trace that is made a record at a time.
 ghost use Rattle.std.specs.Prelude.{[], ◌≡◌, ◌+◌, ◌++◌, length, IfOk, OnOk};
 ghost use Rattle.wire.specs.Files.{file_spelling, record_spelling};
-ghost use Rattle.trace_format.specs.Events.{trace_format, request_spelling, response_spelling};
+ghost use Rattle.trace_format.specs.Events.{trace_format, response_spelling};
 ghost use Rattle.script_tree.specs.declared.trace.TraceEvent.TheVariants as it;
 
-use crate::encoding::{
-    HEAD_BYTES, room_behind_request, room_behind_response, write_answered, write_asked,
-};
+use crate::encoding::{HEAD_BYTES, room_behind_response, write_answered, write_asked_head};
 use crate::format::Events;
-use script_tree::request::{Request, Response};
+use crate::packed::PackedRequest;
+use script_tree::request::Response;
 use std::alloc::{AllocError, Global};
 use wire::record::RecordFormat;
 use wire::writing::write_u32;
@@ -23,16 +22,6 @@ pub fn begin(alloc: Global) -> Result<Vec<u8>, AllocError>
     Vec::from_slice(alloc, Events::magic())
 }
 
-/// How many bytes the payload of a request's record has.
-fn asked_len(request: &Request) -> Result<u32, AllocError>
-    ensures { IfOk result (λ len. len ≡ 5 + length (request_spelling request.now)) }
-{
-    match room_behind_request(MOST_BYTES, request) {
-        Some(left) => Ok((HEAD_BYTES + MOST_BYTES - left) as u32),
-        None => Err(AllocError),
-    }
-}
-
 /// How many bytes the payload of a response's record has.
 fn answered_len(response: &Response) -> Result<u32, AllocError>
     ensures { IfOk result (λ len. len ≡ 5 + length (response_spelling response.now)) }
@@ -45,14 +34,18 @@ fn answered_len(response: &Response) -> Result<u32, AllocError>
 
 /// Puts the record of a request behind the bytes. One that 32 bits don't count is answered as want
 /// of memory.
-pub fn add_request(out: &mut Vec<u8>, rid: u32, request: &Request) -> Result<(), AllocError>
+pub fn add_request(out: &mut Vec<u8>, rid: u32, request: &PackedRequest) -> Result<(), AllocError>
     ensures { OnOk result
         (out.new.items
         ≡ out.old.items ++ record_spelling trace_format (it.Asked rid request.now)) }
 {
-    let len = asked_len(request)?;
-    write_u32(out, len)?;
-    write_asked(out, rid, request)
+    let spelled = request.as_bytes();
+    if spelled.len() > MOST_BYTES {
+        return Err(AllocError);
+    }
+    write_u32(out, (HEAD_BYTES + spelled.len()) as u32)?;
+    write_asked_head(out, rid)?;
+    out.extend_from_slice(spelled)
 }
 
 /// Puts the record of a response behind the bytes, in the same way.

@@ -1,4 +1,5 @@
-ghost use Rattle.std.specs.Prelude.{◌≡◌, ◌++◌, ◌<◌, ◌^◌, length, OnOk};
+ghost use Rattle.std.specs.Prelude.{◌≡◌, ◌++◌, ◌∷◌, ◌<◌, ◌^◌, length, OnOk};
+ghost use Rattle.std.specs.Int.{w32, to_be_bytes};
 ghost use Rattle.wire.specs.Spellings.{bytes_spelling};
 ghost use Rattle.wire.specs.Files.{Encodes, LeavesRoom};
 ghost use Rattle.trace_format.specs.Events.{trace_format, parameter_spelling, parameters_spelling};
@@ -89,7 +90,7 @@ fn write_parameters(out: &mut Vec<u8>, parameters: &[Parameter]) -> Result<(), A
     Ok(())
 }
 
-fn write_request(out: &mut Vec<u8>, request: &Request) -> Result<(), AllocError>
+pub(crate) fn write_request(out: &mut Vec<u8>, request: &Request) -> Result<(), AllocError>
     requires { length (request_spelling request.now) < 2 ^ 32 }
     ensures { OnOk result (out.new.items ≡ out.old.items ++ request_spelling request.now) }
 {
@@ -109,14 +110,21 @@ fn write_response(out: &mut Vec<u8>, response: &Response) -> Result<(), AllocErr
     write_bytes(out, response.body.as_bytes())
 }
 
+/// Writes what stands before a request in the event that it came.
+pub(crate) fn write_asked_head(out: &mut Vec<u8>, rid: u32) -> Result<(), AllocError>
+    ensures { OnOk result (out.new.items ≡ out.old.items ++ 1 ∷ to_be_bytes w32 rid) }
+{
+    write_u8(out, 1)?;
+    write_u32(out, rid)
+}
+
 /// Writes the event that a request came.
-pub(crate) fn write_asked(out: &mut Vec<u8>, rid: u32, request: &Request) -> Result<(), AllocError>
+fn write_asked(out: &mut Vec<u8>, rid: u32, request: &Request) -> Result<(), AllocError>
     requires { length (event_spelling (Asked rid request.now)) < 2 ^ 32 }
     ensures { OnOk result
         (out.new.items ≡ out.old.items ++ event_spelling (Asked rid request.now)) }
 {
-    write_u8(out, 1)?;
-    write_u32(out, rid)?;
+    write_asked_head(out, rid)?;
     write_request(out, request)
 }
 

@@ -6,6 +6,7 @@ pub mod balance;
 pub mod decoding;
 pub mod encoding;
 mod format;
+pub mod packed;
 mod request;
 #[cfg(test)]
 mod tests;

@@ -2,6 +2,7 @@ use crate::appending::{add_request, add_response, begin};
 use crate::balance::first_unbalanced;
 use crate::decoding::decode;
 use crate::encoding::encode;
+use crate::packed::PackedRequest;
 use crate::trace_file::TraceFile;
 use basis::OrMemory;
 use script_tree::request::{Parameters, Request, Response};
@@ -66,11 +67,30 @@ fn files_of_the_examples(rt: HostRuntime) -> Result<(), Fail> {
 }
 
 #[test]
+fn a_packed_request(rt: HostRuntime) -> Result<(), Fail> {
+    let alloc = rt.alloc();
+    match decode(alloc, PARAMETER)?.as_slice() {
+        [TraceEvent::Asked(rid, request)] => {
+            let request = PackedRequest::pack(alloc, request)?.unpack(alloc)?;
+            let event = TraceEvent::Asked(*rid, request);
+            let mut events = Vec::new(alloc);
+            events.push(event)?;
+            assert!(rt; has_the_parameter(&Trace::from_vec(events)));
+        }
+        _ => return Err("a request".into()),
+    }
+    Ok(())
+}
+
+#[test]
 fn a_file_that_grows(rt: HostRuntime) -> Result<(), Fail> {
     let mut bytes = begin(rt.alloc())?;
     for event in decode(rt.alloc(), FILE)?.as_slice() {
         match event {
-            TraceEvent::Asked(rid, request) => add_request(&mut bytes, *rid, request)?,
+            TraceEvent::Asked(rid, request) => {
+                let packed = PackedRequest::pack(rt.alloc(), request)?;
+                add_request(&mut bytes, *rid, &packed)?;
+            }
             TraceEvent::Answered(rid, response) => add_response(&mut bytes, *rid, response)?,
         }
     }

@@ -28,7 +28,7 @@ use Rattle.machine.specs.declared.ending.MachineStep.{MachineStep}
 use Rattle.machine.specs.declared.machine.Machine.{Machine}
 use Rattle.history.specs.Histories.{happening_by}
 use Rattle.history.specs.Recordings.{Recorded, room_of, happening_at, choice_of, Takes}
-use Rattle.history.specs.Rooms.{Room, and_answer, WantsNext}
+use Rattle.history.specs.Rooms.{Room, and_answer}
 use Rattle.history.specs.Seats.{at_seat, seated}
 use Rattle.history.specs.Visits.{Visit, visit_of}
 use Rattle.history.specs.declared.event.Event.{Event}
@@ -79,9 +79,6 @@ fits_program program here op m valid waits = fits program waits.visit.request wa
 
 pub has_bound : (program : Program) (here : Option Visit) (op : Op) (m : Machine) → IsValid program.declarations → WaitsFor program here op m → HasBound op.act
 has_bound program here op m valid waits = bound_of _ _ op.object op.act (fits_program program here op m valid waits)
-
-pub wants_next : (program : Program) (here : Option Visit) (op : Op) (m : Machine) → WaitsFor program here op m → WantsNext program here op
-wants_next program here op m waits = (waits.visit, waits.here', waits.wants)
 
 asked_few : (program : Program) (here : Option Visit) (op : Op) (m : Machine) → (waits : WaitsFor program here op m) → length waits.visit.answers < MOST_OPERATIONS
 unfolding ending_of

@@ -35,8 +35,10 @@ pub record Happens (seat : ℕ) (h : Happening) (old new : Recorded) : Type 0 wh
   pub left : room_of new ≡ onward (room_of old) h
   pub program : new.program ≡ old.program
 
--- This happens at the seat, where the clock shows this reading. These jobs come, the dice go on so, and this machine is left.
-pub record Moves (reading : Option ℕ) (seat : ℕ) (came : List Request) (h : Happening) (old new : Recorded) (before after : ChaCha) (left : Option Machine) : Type 0 where
+-- This happens at the seat, where the clock shows this reading. These jobs come, the dice go on so,
+-- and this machine is left.
+pub record Moves (reading : Option ℕ) (seat : ℕ) (came : List Request) (h : Happening)
+    (old new : Recorded) (before after : ChaCha) (left : Option Machine) : Type 0 where
   pub happens : Happens seat h old new
   pub can : CanHappen h
   pub came' : arrivals (h ∷ []) ≡ came
@@ -89,7 +91,8 @@ and_next history None = history
 and_next history (Some h) = history ++ h ∷ []
 
 -- The seat has its turn, and what happens is kept.
-pub record KeepsTurn {J : Type 0} (keeps : List Happening → J → Type 0) (reading : Option ℕ) (seat : ℕ) (old new : Table) (before after : J) : Type 0 where
+pub record KeepsTurn {J : Type 0} (keeps : List Happening → J → Type 0) (reading : Option ℕ)
+    (seat : ℕ) (old new : Table) (before after : J) : Type 0 where
   pub happened : Option Happening
   pub turn : IsTurn reading seat happened old new
   pub kept : (history : List Happening) → keeps history before → keeps (and_next history happened) after

@@ -9,15 +9,14 @@ ghost use Rattle.turns.specs.Turned.{Moves};
 use crate::offer::offer_for;
 use desk::Bench;
 use dice::Dice;
-use history::copying::copied;
 use history::{Event, Happening, Recorder, Recording, Reply, happening_by};
 use machine::{Machine, MachineStep};
 use outside::Clock;
 use script_code::translate::Code;
 use script_tree::operation::Op;
-use script_tree::request::Request;
 use std::alloc::{AllocError, Global};
 use std::sync::Arc;
+use trace_format::packed::PackedRequest;
 
 /// A job arrives at a seat, and has a machine. Tells what happened.
 pub(crate) fn arrive<'c>(
@@ -25,7 +24,7 @@ pub(crate) fn arrive<'c>(
     code: &'c Code,
     recording: &mut Recording,
     seat: u32,
-    job: Request,
+    job: PackedRequest,
 ) -> Result<(Happening, Machine<'c>), AllocError>
     requires code { IsCodeOf recording.old.program code.now }
     requires empty { at_seat recording.old.visits seat ≡ None }
@@ -33,10 +32,10 @@ pub(crate) fn arrive<'c>(
         Moves reading seat (job ∷ []) r.0 recording.old recording.new dice dice (Some r.1)) }
 {
     job.keeps_limits();
-    let request = Arc::new(alloc, copied(alloc, &job)?)?;
-    let event = Event::Arrive(request);
+    let request = job.unpack(alloc)?;
+    let event = Event::Arrive(Arc::new(alloc, job)?);
     let (reply, _) = Recorder::step(recording, seat, &event)?;
-    let machine = Machine::start(alloc, code, job);
+    let machine = Machine::start(alloc, code, request);
     Ok((happening_by(seat, event, &reply), machine))
 }
 

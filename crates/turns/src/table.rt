@@ -12,9 +12,9 @@ use history::{Happening, Recording};
 use machine::Machine;
 use outside::Clock;
 use script_code::translate::Code;
-use script_tree::request::Request;
 use std::alloc::{AllocError, Global};
 use std::vec;
+use trace_format::packed::PackedRequest;
 use workload::limits::SEATS;
 
 /// The seats, the jobs that have not arrived, and the recording.
@@ -24,7 +24,7 @@ pub(crate) struct Table<'c> {
     code: &'c Code,
     seed: u64,
     recording: Recording,
-    jobs: vec::IntoIter<Request>,
+    jobs: vec::IntoIter<PackedRequest>,
     /// The machine of the open request of each seat.
     runs: Vec<Option<Machine<'c>>>,
     /// The dice of each seat.
@@ -37,7 +37,7 @@ impl<'c> Table<'c> {
         alloc: Global,
         code: &'c Code,
         recording: Recording,
-        jobs: Vec<Request>,
+        jobs: Vec<PackedRequest>,
         seed: u64,
     ) -> Result<Table<'c>, AllocError>
         requires valid { IsValid recording.program.declarations }

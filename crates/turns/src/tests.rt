@@ -16,6 +16,7 @@ use script_tree::text::Text;
 use std::alloc::{AllocError, Global};
 use std::sync::Arc;
 use std::test::Fail;
+use trace_format::packed::PackedRequest;
 
 fn text(alloc: Global, bytes: &[u8]) -> Result<Text, AllocError> {
     Ok(Text::from_vec(Vec::from_slice(alloc, bytes)?))
@@ -55,10 +56,11 @@ fn program(alloc: Global) -> Result<Program, Fail> {
     }
 }
 
-fn job(alloc: Global) -> Result<Request, Fail> {
+fn job(alloc: Global) -> Result<PackedRequest, Fail> {
     let none = || Text::from_vec(Vec::new(alloc));
     let path = text(alloc, b"/e")?;
-    Ok(Request::new(none(), path, Parameters::new(alloc), none()).ok_or("a request")?)
+    let request = Request::new(none(), path, Parameters::new(alloc), none()).ok_or("a request")?;
+    Ok(PackedRequest::pack(alloc, &request)?)
 }
 
 /// Whether an arrival (A), an operation (X) or a departure (D) happened, and at which seat.

@@ -1,3 +1,4 @@
 pub mod Draws
+pub mod JobParts
 pub mod OneByOne
 pub mod OneWay

@@ -8,6 +8,7 @@ use basis::Items;
 use script_tree::request::{Parameter, Parameters, Request};
 use script_tree::text::Text;
 use std::alloc::{AllocError, Global};
+use trace_format::packed::PackedRequest;
 
 /// By how much a draw multiplies.
 pub const MULTIPLIER: u64 = 6_364_136_223_846_793_005;
@@ -22,7 +23,8 @@ pub fn generate(alloc: Global, n: u64) -> Result<Requests, AllocError>
     let mut draws = Draws { x: n };
     let mut requests = Vec::new(alloc);
     for _ in 0..n {
-        requests.push(request_drawn(alloc, draws.draw())?)?;
+        let request = request_drawn(alloc, draws.draw())?;
+        requests.push(PackedRequest::pack(alloc, &request)?)?;
     }
     Ok(Items::from_vec(requests))
 }

@@ -8,6 +8,7 @@ mod job;
 pub mod law;
 pub mod limits;
 mod one_by_one;
+mod parts;
 pub mod requests;
 #[cfg(test)]
 mod tests;

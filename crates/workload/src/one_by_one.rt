@@ -6,16 +6,15 @@ ghost use Rattle.workload.specs.Jobs.{are_within_limits};
 ghost use Rattle.workload.specs.Files.{AreRequests};
 ghost use Rattle.workload.specs.OneByOne.{BeginWithJob, BeginWithJobs};
 
-use crate::job::JobShape;
+use crate::parts::job_of;
 use crate::requests::Requests;
-use crate::tree::tree_of;
 use basis::Items;
 use json::{Error, Reader, Scratch, Token, Value as Borrowed};
-use json_texts::Shape;
 use script_tree::limits::MOST_REQUESTS;
 use script_tree::request::Request;
 use std::alloc::{AllocError, Global};
 use std::str::from_utf8;
+use trace_format::packed::PackedRequest;
 
 /// How deep a job may nest: `serde_json` takes 127 levels, of which the array of jobs is one.
 const JOB_DEPTH: usize = 126;
@@ -55,7 +54,7 @@ fn jobs_left(alloc: Global, reader: &mut Reader<'_>) -> Result<Option<Requests>,
             return Ok(None);
         }
         match next_job(alloc, reader)? {
-            Some(request) => requests.push(request)?,
+            Some(request) => requests.push(PackedRequest::pack(alloc, &request)?)?,
             None => return Ok(None),
         }
     }
@@ -74,10 +73,7 @@ fn next_job(alloc: Global, reader: &mut Reader<'_>) -> Result<Option<Request>, A
         Err(Error::OutOfMemory) => return Err(AllocError),
         Err(Error::Invalid | Error::TooLong | Error::DuplicateKey) => return Ok(None),
     };
-    let Some(tree) = tree_of(alloc, &value)? else {
-        return Ok(None);
-    };
-    match JobShape::read(alloc, tree)? {
+    match job_of(alloc, &value)? {
         Some(job) => Ok(job.into_request()),
         None => Ok(None),
     }

@@ -13,11 +13,11 @@ use basis::{Items, OrMemory};
 use json_texts::shape::array_of;
 use json_texts::{NotJson, read_json};
 use script_tree::limits::MOST_REQUESTS;
-use script_tree::request::Request;
 use std::alloc::{AllocError, Global};
+use trace_format::packed::PackedRequest;
 
 /// The requests of the jobs of a server, in order.
-pub type Requests = Items<Request>;
+pub type Requests = Items<PackedRequest>;
 
 /// The requests from the bytes of a file.
 pub fn read_requests(alloc: Global, bytes: &[u8]) -> Result<Requests, OrMemory<WorkFault>>
@@ -64,7 +64,7 @@ fn all_requests(alloc: Global, jobs: Vec<Job>) -> Result<Option<Requests>, Alloc
     let mut requests = Vec::with_capacity(alloc, jobs.len())?;
     for job in jobs {
         match job.into_request() {
-            Some(request) => requests.push(request)?,
+            Some(request) => requests.push(PackedRequest::pack(alloc, &request)?)?,
             None => return Ok(None),
         }
     }

@@ -13,6 +13,7 @@ fn one_job(rt: HostRuntime) -> Result<(), Fail> {
     let requests = read_requests(rt.alloc(), b"[{\"path\":\"/hit\"}]").ok();
     let requests = requests.ok_or("requests")?;
     let request = requests.as_slice().first().ok_or("a request")?;
+    let request = request.unpack(rt.alloc())?;
     assert_eq!(rt; requests.len(), 1);
     assert!(rt; request.method().as_bytes() == b"GET".as_slice());
     assert!(rt; request.path().as_bytes() == b"/hit".as_slice());
@@ -27,7 +28,7 @@ fn all_members_one_by_one(rt: HostRuntime) -> Result<(), Fail> {
         \"path\":\"/a\"},{\"path\":\"/\\u0062\"}]";
     let requests = read_one_by_one(rt.alloc(), file)?.ok_or("requests")?;
     let (first, second) = match requests.as_slice() {
-        [first, second] => (first, second),
+        [first, second] => (first.unpack(rt.alloc())?, second.unpack(rt.alloc())?),
         _ => return Err("two requests".into()),
     };
     let parameter = first.parameters().as_slice().first().ok_or("a parameter")?;
@@ -65,6 +66,7 @@ fn first_and_last_seat(rt: HostRuntime) -> Result<(), Fail> {
 fn first_draw(rt: HostRuntime) -> Result<(), Fail> {
     let requests = generate(rt.alloc(), 1)?;
     let request = requests.as_slice().first().ok_or("a request")?;
+    let request = request.unpack(rt.alloc())?;
     assert_eq!(rt; requests.len(), 1);
     assert!(rt; request.method().as_bytes() == b"GET".as_slice());
     assert!(rt; request.path().as_bytes() == b"/hit".as_slice());

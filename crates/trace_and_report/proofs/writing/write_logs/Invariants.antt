@@ -1,4 +1,4 @@
-use Rattle.std.proofs.Common.{◌≡◌, ◌++◌, List, map}
+use Rattle.std.proofs.Common.{◌≡◌, List, map}
 use Rattle.script_tree.specs.declared.operation.Object.{Object}
 use Rattle.report.specs.declared.LogEntry.{LogEntry}
 use Rattle.trace_and_report.specs.Draft.{spelled_log}

@@ -1,4 +1,4 @@
-use Rattle.std.proofs.Common.{◌≡◌, ◌-◌, ◌<◌, length, None, arith}
+use Rattle.std.proofs.Common.{◌≡◌, ◌∙◌, ◌-◌, ◌<◌, [], ◌∷◌, ◌++◌, ap, length, None, arith}
 use Rattle.std.proofs.lemmas.Grind.{common_steps}
 use Rattle.json.specs.Json.{after_end_array}
 use Rattle.workload.specs.OneByOne.{BeginWithJob}
@@ -12,10 +12,11 @@ jobs-preserved c =
     let q = c.in-Some.request in
     let going : (after_end_array l.reader ≡ None) × (c.take_end_array.new.self ≡ l.reader) = grind arith in
     let shorter : length us < length l.reader = rw (← going.1) (rw c.in-Some.is at c.in_ok-request.ensures.shorter) in
+    let pushed = c.in_ok-push-in-Some.ensures.items ∙ ap (λ packed. l.requests.items ++ packed ∷ []) c.in_ok-pack-in-Some.ensures in
     let first : BeginWithJob l.reader q us = rw (← going.1) (rw c.in-Some.is at c.in_ok-request.ensures.read) in record {
       turns = l.invariant.turns - 1;
       enough = omega (arith, l.invariant.enough);
-      all = next_turn c.args.reader.now l.reader us l.invariant.turns l.requests.items c.push.new.self.items q (omega (arith, l.invariant.enough)) going.0 first c.in_ok-push-in-Some.ensures.items l.invariant.all;
+      all = next_turn c.args.reader.now l.reader us l.invariant.turns l.requests.items c.push.new.self.items q (omega (arith, l.invariant.enough)) going.0 first pushed l.invariant.all;
       few = grind (arith, common_steps);
       within = grind (arith, common_steps);
     }

@@ -13,6 +13,10 @@ use wire::fault::Unreadable;
 use wire::field::read_u32;
 use wire::writing::write_u32;
 
+/// For how many fields of a row there is room before one is read: a file at fault may count more
+/// than it has.
+const FIRST_ROOM: usize = 1024;
+
 /// A field, and another one behind it.
 pub(crate) struct Pair<F, G> {
     first: PhantomData<F>,
@@ -117,7 +121,7 @@ fn read_row<F: FieldKind>(
 ) -> Result<(Items<F::Item>, usize), OrMemory<Unreadable>>
     ensures { TakesPart (λ x. x) (row_field F.field count) bytes.now at result }
 {
-    let mut items = Vec::new(alloc);
+    let mut items = Vec::with_capacity(alloc, FIRST_ROOM.min(count as usize))?;
     let mut place = at;
     for _ in 0..count {
         let (item, next) = F::read(alloc, bytes, place)?;

@@ -4,7 +4,7 @@ ghost use Rattle.file_runs.specs.Spelled.{spelling, MayBeEncoded};
 
 use crate::contents::Contents;
 use anyhow::{Context, bail};
-use std::alloc::Global;
+use std::time::{Duration, Instant};
 
 /// What is timed.
 #[derive(Clone, Copy)]
@@ -50,33 +50,41 @@ impl Job {
     }
 
     /// Does the work with the file of these bytes, and tells what it holds, which has to be encoded
-    /// to the same bytes.
-    pub fn run(self, alloc: Global, bytes: &[u8]) -> anyhow::Result<Contents>
-        ensures { IfOk result (λ contents. bytes.now ≡ spelling contents) }
+    /// to the same bytes, and how long the work took.
+    pub fn run(self, rt: &HostRuntime, bytes: &[u8]) -> anyhow::Result<(Contents, Duration)>
+        ensures { IfOk result (λ done. bytes.now ≡ spelling done.0) }
     {
+        let alloc = rt.alloc();
         let contents = Contents::decode(alloc, bytes)?;
         let encoded = contents.encode(alloc)?;
         if encoded.as_slice() != bytes {
             bail!("it is encoded to other bytes");
         }
+        let mut took = Duration::ZERO;
         for _ in 0..self.times {
-            self.once(alloc, bytes, &contents)?;
+            took = took.saturating_add(self.once(rt, bytes, &contents)?);
         }
-        Ok(contents)
+        Ok((contents, took))
     }
 
-    /// Does the work once.
-    fn once(self, alloc: Global, bytes: &[u8], contents: &Contents) -> anyhow::Result<()>
+    /// Does the work once, and tells how long it took, without letting go of what was made.
+    fn once(self, rt: &HostRuntime, bytes: &[u8], contents: &Contents) -> anyhow::Result<Duration>
         requires { MayBeEncoded contents.now }
     {
+        let start = Instant::now(rt)?;
         match self.work {
             Work::Decode => {
-                Contents::decode(alloc, bytes)?;
+                let made = Contents::decode(rt.alloc(), bytes)?;
+                let took = start.elapsed(rt)?;
+                drop(made);
+                Ok(took)
             }
             Work::Encode => {
-                contents.encode(alloc)?;
+                let made = contents.encode(rt.alloc())?;
+                let took = start.elapsed(rt)?;
+                drop(made);
+                Ok(took)
             }
         }
-        Ok(())
     }
 }

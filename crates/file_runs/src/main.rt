@@ -1,6 +1,7 @@
 //! Decodes traces and reports, or encodes what they hold, many times, for the bench. Its words are
 //! what to do, how many times, and the files, as `encode 3 trace report`. Before that, each file is
-//! decoded and encoded once and has to come out the same. It prints a line of each file.
+//! decoded and encoded once and has to come out the same. It prints a line of each file, and tells
+//! on standard error how long the work took, without letting go of what was made.
 #![tactic(auto)]
 
 mod contents;
@@ -25,9 +26,7 @@ fn main(rt: HostRuntime) -> anyhow::Result<()> {
 /// Does the job with a file.
 fn run(rt: &HostRuntime, job: Job, file: &str) -> anyhow::Result<()> {
     let bytes = fs::read(rt, file).context(format_args!("reading {file}"))?;
-    let contents = job
-        .run(rt.alloc(), &bytes)
-        .context(format_args!("running {file}"))?;
+    let (contents, took) = job.run(rt, &bytes).context(format_args!("running {file}"))?;
     println!(rt;
         "{}: records {}, bytes {}, times {}, same",
         contents.kind(),
@@ -35,5 +34,6 @@ fn run(rt: &HostRuntime, job: Job, file: &str) -> anyhow::Result<()> {
         bytes.len(),
         job.times()
     )?;
+    eprintln!(rt; "{}: nanoseconds {}", contents.kind(), took.as_nanos())?;
     Ok(())
 }

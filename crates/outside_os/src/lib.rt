@@ -4,6 +4,7 @@
 
 pub mod clock;
 mod fault;
+mod putting;
 pub mod shelf;
 pub mod sink;
 #[cfg(test)]

@@ -2,9 +2,10 @@ ghost use Rattle.std.specs.Prelude.{◌≡◌, ◌≤◌, ℕ, List, IfOk, lengt
 ghost use Rattle.outside.specs.Shelves.{counts_alone, IsReadRefused};
 
 use crate::fault::{fault_of, read_fault_of};
+use crate::putting::put;
 use outside::{Fault, Shelf, ShelfFault};
 use std::fs::File;
-use std::io::{Read, Seek, SeekFrom, Write};
+use std::io::{Read, Seek, SeekFrom};
 use std::{fs, io};
 
 /// Files of the file system, by their paths. The file that was read last stays open, so that reads
@@ -101,7 +102,10 @@ impl FileShelf {
 }
 
 impl Shelf for FileShelf {
+    ghost use Rattle.std.specs.Prelude.{None};
+
     ghost told = { λ shelf. counts_alone shelf.faults shelf.absences };
+    ghost reads = { λ _. None };
 
     fn read_at(&mut self, name: &str, offset: u64, into: &mut [u8]) -> Result<usize, ShelfFault> {
         match self.read_kept(name, offset, into) {
@@ -114,9 +118,10 @@ impl Shelf for FileShelf {
         }
     }
 
+    /// As `putting::put` puts them.
     fn write(&mut self, name: &str, bytes: &[u8]) -> Result<(), Fault> {
         self.kept = None;
-        match write_whole(&self.rt, name, bytes) {
+        match put(&self.rt, name, bytes) {
             Ok(()) => Ok(()),
             Err(error) => {
                 let fault = fault_of(error.kind());
@@ -127,9 +132,4 @@ impl Shelf for FileShelf {
             }
         }
     }
-}
-
-fn write_whole(rt: &HostRuntime, name: &str, bytes: &[u8]) -> io::Result<()> {
-    let mut file = fs::create(rt, name)?;
-    file.write_all(bytes)
 }

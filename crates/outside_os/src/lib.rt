@@ -7,8 +7,6 @@ mod fault;
 mod putting;
 pub mod shelf;
 pub mod sink;
-#[cfg(test)]
-mod tests;
 
 pub use clock::SystemClock;
 pub use shelf::FileShelf;

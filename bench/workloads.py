@@ -16,8 +16,6 @@ import os
 import subprocess
 import time
 
-TOP = os.path.dirname(os.path.dirname(os.path.realpath(__file__)))
-BUILT = os.path.join(TOP, "crates", "orochi", "out", "orochi")
 COUNTS = [4096, 16384, 65536]
 FEWER = [64, 256, 1024]
 MIB = 1 << 20

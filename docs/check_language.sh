@@ -1,7 +1,9 @@
 #!/bin/sh
-# Checks each program of the table "Examples" in language.md, and compares the line with the page's. The
-# program is $orochi, or else the launcher of this clone. Ends with 0 where they all agree.
-here=$(CDPATH= cd -- "$(dirname -- "$0")" && pwd -P) || exit 125
+# Usage: sh docs/check_language.sh. Checks each program of the table "Examples" in language.md, and compares the line, and
+# the status, with the page's. The program is $orochi, or else the launcher of this clone. What differs is printed. Ends
+# with 0 where they all agree, else with 1.
+[ "${1:-}" != --help ] || { sed -n '2,4s/^# //p' "$0"; exit; }
+here=$(CDPATH='' cd -- "$(dirname -- "$0")" && pwd -P) || exit 125
 orochi=${orochi:-${here%/docs}/orochi}
 room=$(mktemp -d) || exit 125
 trap 'rm -rf "$room"' EXIT
@@ -13,12 +15,17 @@ differ=0
 examples=0
 while IFS= read -r program && IFS= read -r wanted; do
     printf %s "$program" >"$room/program"
+    case $wanted in
+        'ok: '*) wanted="0 $wanted" ;;
+        *) wanted="3 $wanted" ;;
+    esac
     printed=$("$orochi" check "$room/program")
+    printed="$? $printed"
     examples=$((examples + 1))
     [ "$printed" = "$wanted" ] && continue
     differ=$((differ + 1))
     printf '%s\n  wanted %s\n  printed %s\n' "$program" "$wanted" "$printed"
 done <"$room/examples"
 
-echo "examples $examples, differ $differ"
+echo "language.md: examples $examples, differ $differ"
 [ "$examples" -gt 0 ] && [ "$differ" -eq 0 ]

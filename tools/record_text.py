@@ -1,4 +1,4 @@
-"""Records as lines of text, for `pack` and `show`. A line is a record, but for a log, whose entries stand after it.
+"""Records as lines of text, for `pack` and `show`, in Python 3. A line is a record, but for a log, whose entries stand after it.
 
     trace       request ID METHOD PATH NAME=VALUE .. body BODY
                 response ID STATUS BODY

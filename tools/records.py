@@ -1,4 +1,4 @@
-"""The three binary files of docs/formats.md: which records their bytes spell, and which bytes spell records.
+"""The three binary files of docs/formats.md, in Python 3: which records their bytes spell, and which bytes spell records.
 
 A trace is a list of ("request", id, method, path, parameters, body) and ("response", id, status, body); a schedule one of
 ("arrive", id), ("act", id, choice) and ("depart", id); a report one of ("count", id, count), ("log", object, entries) and

@@ -1,6 +1,11 @@
 #!/usr/bin/env python3
-"""Writes crates/script_tree/specs/SyntaxCodes.antt, how a proof stores a syntax tree, from the
-constructors of Syntax.antt. Run it at the top of the repository after a change of the tree."""
+"""Writes crates/script_tree/specs/SyntaxCodes.antt, how a proof stores a syntax tree, from the constructors of Syntax.antt.
+
+Usage: tools/syntax_codes.py. It wants Python 3. Run it at the top of the repository, after a change of the tree and of the
+lists below. `--help` prints this.
+"""
+
+import sys
 
 EXPRESSIONS = [
     ("Expression", "expression", [
@@ -130,4 +135,8 @@ def main():
                     name, kind, name, name, name))
 
 
-main()
+if __name__ == "__main__":
+    if "--help" in sys.argv[1:]:
+        print(__doc__.strip())
+    else:
+        main()

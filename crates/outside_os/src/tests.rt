@@ -1,8 +1,11 @@
 //! The real files and the real streams, each call through its trait's bound.
+use crate::putting::{MOST_TRIES, replace};
 use crate::*;
 use outside::{Clock, Fault, Shelf, ShelfFault, Sink};
 use std::io::{Read, Write};
 use std::os::fd::AsRawFd;
+use std::os::unix::fs::{PermissionsExt, symlink};
+use std::path::Path;
 use std::process::Abort;
 use std::test::Fail;
 use std::{fs, io, process};
@@ -82,6 +85,74 @@ fn pipe_as_a_file(rt: HostRuntime) -> Result<(), Fail> {
         name.as_str(),
         &[b'a'; 5_000],
     );
+    Ok(())
+}
+
+/// How many files are in the folder.
+fn count(rt: &HostRuntime, folder: &str) -> io::Result<usize> {
+    let mut found = 0usize;
+    for entry in fs::read_dir(rt, folder)? {
+        let _entry = entry?;
+        found = found.saturating_add(1);
+    }
+    Ok(found)
+}
+
+/// A file is replaced through a link, keeps its permissions, and leaves nothing beside.
+fn replaces(rt: &HostRuntime, folder: &str) -> io::Result<bool> {
+    let alloc = rt.alloc();
+    let (notes, link) = (
+        format!(in alloc; "{folder}/notes")?,
+        format!(in alloc; "{folder}/link")?,
+    );
+    let mut shelf = FileShelf::new(rt.clone()?);
+    let mut well = shelf.write(notes.as_str(), b"old and long") == Ok(());
+    fs::set_permissions(rt, notes.as_str(), fs::Permissions::from_mode(0o640))?;
+    symlink(rt, "notes", link.as_str())?;
+    well &= shelf.write(link.as_str(), b"new") == Ok(());
+    let found = fs::metadata(rt, notes.as_str())?;
+    well &= found.permissions().mode() & 0o777 == 0o640;
+    well &= fs::read(rt, notes.as_str())?.as_slice() == b"new".as_slice();
+    well &= fs::symlink_metadata(rt, link.as_str())?.is_symlink();
+    Ok(well && count(rt, folder)? == 2)
+}
+
+/// Where the file beside can't be made, or not renamed, the old bytes stay.
+fn keeps_old_bytes(rt: &HostRuntime, folder: &str) -> io::Result<bool> {
+    let alloc = rt.alloc();
+    let notes = format!(in alloc; "{folder}/notes")?;
+    let mut well = replace(rt, Path::new(folder), None, b"lost").is_err();
+    let id = process::id(rt.process());
+    for tried in 0..MOST_TRIES {
+        let beside = format!(in alloc; "{folder}/.unfinished_{id}_{tried}")?;
+        fs::write(rt, beside.as_str(), b"left")?;
+    }
+    let mut shelf = FileShelf::new(rt.clone()?);
+    well &= shelf.write(notes.as_str(), b"lost") == Err(Fault::Failed);
+    Ok(well && fs::read(rt, notes.as_str())?.as_slice() == b"new".as_slice())
+}
+
+/// A pipe and a device are written as they stand.
+fn writes_in_place(rt: &HostRuntime) -> io::Result<bool> {
+    let (mut reader, writer) = io::pipe(rt)?;
+    let name = format!(in rt.alloc(); "/dev/fd/{}", writer.as_raw_fd())?;
+    let mut shelf = FileShelf::new(rt.clone()?);
+    let mut well = shelf.write(name.as_str(), b"sent") == Ok(());
+    let mut piece = [0u8; 4];
+    reader.read_exact(&mut piece)?;
+    well &= piece.as_slice() == b"sent".as_slice() && shelf.write("/dev/null", b"gone") == Ok(());
+    Ok(well && !fs::metadata(rt, "/dev/null")?.is_file())
+}
+
+#[test]
+fn outputs(rt: HostRuntime) -> Result<(), Fail> {
+    let id = process::id(rt.process());
+    let folder = format!(in rt.alloc(); "/tmp/outside_os_outputs_{id}")?;
+    fs::create_dir(&rt, folder.as_str())?;
+    assert!(rt; replaces(&rt, folder.as_str())?);
+    assert!(rt; keeps_old_bytes(&rt, folder.as_str())?);
+    fs::remove_dir_all(&rt, folder.as_str())?;
+    assert!(rt; writes_in_place(&rt)?);
     Ok(())
 }
 

@@ -8,3 +8,4 @@ pub mod Recordings
 pub mod Steps
 pub mod Verdicts
 pub mod WordsRead
+mod Numbers

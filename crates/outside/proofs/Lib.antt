@@ -1,2 +1,3 @@
 pub mod ShelfFiles
 pub mod Uses
+mod Numbers

@@ -13,3 +13,4 @@ pub mod ValueSizes
 pub mod ValueSpellings
 pub mod ValueSteps
 pub mod ValueTags
+mod Numbers

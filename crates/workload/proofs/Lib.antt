@@ -2,3 +2,4 @@ pub mod Draws
 pub mod JobParts
 pub mod OneByOne
 pub mod OneWay
+mod Numbers

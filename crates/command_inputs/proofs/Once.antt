@@ -63,7 +63,7 @@ pub read_once-last : {old mid new : Option (List ReadMade)} {name : List ℕ} {p
     → IsReadTo old mid name place → at ≡ place → new ≡ then_reads mid (read_made name at result ∷ []) → IsReadOnce old new name
 read_once-last {old} {name = name} at (Ok count) to place made = read_once-to (read_to-more at count _ to place made refl)
 read_once-last {old} {name = name} at (Err fault) to place made = (
-    to.reads ++ read_made name at (Err fault) ∷ [],
-    made ∙ ap (λ told. then_reads told (read_made name at (Err fault) ∷ [])) to.made ∙ then_reads-both old to.reads _,
-    go_on-more name 0 to.reads (read_made name at (Err fault)) to.on refl (place ∙ sym to.end)
-  )
+  to.reads ++ read_made name at (Err fault) ∷ [],
+  made ∙ ap (λ told. then_reads told (read_made name at (Err fault) ∷ [])) to.made ∙ then_reads-both old to.reads _,
+  go_on-more name 0 to.reads (read_made name at (Err fault)) to.on refl (place ∙ sym to.end),
+)

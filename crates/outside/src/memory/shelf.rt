@@ -93,6 +93,7 @@ impl Shelf for MemShelf {
     ghost use Rattle.std.specs.Prelude.{None};
 
     ghost told = { shelf_told };
+
     ghost reads = { λ _. None };
 
     fn read_at(&mut self, name: &str, offset: u64, into: &mut [u8]) -> Result<usize, ShelfFault>

@@ -29,15 +29,9 @@ fn exit_status(outcome: io::Result<u8>) -> u8
 
 /// The words after the program's name. There are none where one isn't UTF-8, which asks for the usage.
 fn words_of(rt: &HostRuntime) -> io::Result<Words> {
-    let mut words = Words::new(rt.alloc());
     match env::args(rt) {
-        Ok(args) => {
-            for word in args.skip(1) {
-                words.push(word.as_str())?;
-            }
-            Ok(words)
-        }
-        Err(error) if error.kind() == ErrorKind::InvalidData => Ok(words),
+        Ok(args) => Ok(Words::behind_name(rt.alloc(), args)?),
+        Err(error) if error.kind() == ErrorKind::InvalidData => Ok(Words::new(rt.alloc())),
         Err(error) => Err(error),
     }
 }

@@ -11,7 +11,11 @@ mod json;
 #[cfg(test)]
 mod memory;
 #[cfg(test)]
+mod reports;
+#[cfg(test)]
 mod rolls;
+#[cfg(test)]
+mod schedules;
 #[cfg(test)]
 mod traces;
 #[cfg(test)]

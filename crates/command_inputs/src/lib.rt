@@ -10,8 +10,6 @@ pub mod requests;
 pub mod role;
 pub mod schedule;
 pub mod state;
-#[cfg(test)]
-mod tests;
 pub mod trace;
 pub mod turns;
 

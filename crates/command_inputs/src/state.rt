@@ -1,5 +1,6 @@
 ghost use Rattle.std.specs.Prelude.{◌<◌, ◌^◌, IfOk};
 ghost use Rattle.object_set.specs.ObjectSets.{IsSetOf, objects_of};
+ghost use Rattle.outside.specs.Shelves.{IsReadOnce};
 ghost use Rattle.command_inputs.specs.Faults.{UsesToRead};
 ghost use Rattle.command_inputs.specs.Inputs.{IsReadUnder};
 ghost use Rattle.command_inputs.specs.State.{state_input};
@@ -27,6 +28,7 @@ pub fn read_state<F: Shelf>(
         IsReadUnder objects_of input (F.told shelf.old) name.now result }
     ensures set { IfOk result (IsSetOf program.now) }
     ensures used { UsesToRead (F.told shelf.old) (F.told shelf.new) result }
+    ensures once { IsReadOnce (F.reads shelf.old) (F.reads shelf.new) name.now }
 {
     let bytes = read_whole(alloc, shelf, Role::State, name, most)?;
     match state_file::read_state(alloc, program, &bytes) {

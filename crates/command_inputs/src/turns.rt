@@ -1,4 +1,5 @@
 ghost use Rattle.std.specs.Prelude.{◌<◌, ◌^◌};
+ghost use Rattle.outside.specs.Shelves.{IsReadOnce};
 ghost use Rattle.command_inputs.specs.Faults.{UsesToRead};
 ghost use Rattle.command_inputs.specs.Inputs.{IsReadUnder};
 ghost use Rattle.command_inputs.specs.Turns.{turns_input};
@@ -23,6 +24,7 @@ pub fn read_turns<F: Shelf>(
     ensures read { let input = turns_input most in
         IsReadUnder (λ turns. turns) input (F.told shelf.old) name.now result }
     ensures used { UsesToRead (F.told shelf.old) (F.told shelf.new) result }
+    ensures once { IsReadOnce (F.reads shelf.old) (F.reads shelf.new) name.now }
 {
     let bytes = read_whole(alloc, shelf, Role::Turns, name, most)?;
     match workload::read_turns(alloc, &bytes) {

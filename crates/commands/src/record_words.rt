@@ -11,6 +11,11 @@ use std::alloc::{AllocError, Global};
 /// How many workers there may be.
 pub const MOST_WORKERS: u64 = 16;
 
+/// That number in digits, as docs/formats.md has it.
+pub fn workers_in_digits()
+    ensures { MOST_WORKERS ≡ 16 }
+{}
+
 /// What `record` is asked: the names of its files, with that of the turns where there is one, how
 /// many workers run the jobs, and the seed of the dice.
 #[derive(Clone, Copy)]

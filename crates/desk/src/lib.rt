@@ -3,8 +3,6 @@
 
 pub mod bench;
 pub mod held;
-#[cfg(test)]
-mod tests;
 
 pub use bench::{Bench, Call};
 pub use held::{Held, HeldOf};

@@ -2,7 +2,5 @@
 #![tactic(auto)]
 
 mod dice;
-#[cfg(test)]
-mod tests;
 
 pub use dice::Dice;

@@ -8,8 +8,6 @@ pub mod law;
 pub mod recorder;
 pub mod recording;
 pub mod seats;
-#[cfg(test)]
-mod tests;
 mod visit;
 
 pub use event::{Event, Reply};

@@ -3,8 +3,6 @@
 
 pub mod reading;
 pub mod shape;
-#[cfg(test)]
-mod tests;
 pub mod text;
 
 pub use reading::{NotJson, read_json};

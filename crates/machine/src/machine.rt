@@ -76,7 +76,8 @@ impl<'c> Machine<'c> {
             → Follows program q answers self.old
             → IfOk result (λ step. ending_of step ≡ (conduct program q answers).ending) }
         ensures follows { (program : Meant) (q : Asked) (answers : List Datum)
-            → Follows program q answers self.old → OnOk result (Follows program q answers self.new) }
+            → Follows program q answers self.old
+            → OnOk result (Follows program q answers self.new) }
         ensures waits { IfOk result (λ step. WaitsAfter step self.new) }
     {
         let alloc = self.run.state.alloc;
@@ -109,7 +110,8 @@ impl<'c> Machine<'c> {
             → Follows program q answers self.old
             → IfOk result (λ step. ending_of step ≡ (conduct program q answers).ending) }
         ensures follows { (program : Meant) (q : Asked) (answers : List Datum)
-            → Follows program q answers self.old → OnOk result (Follows program q answers self.new) }
+            → Follows program q answers self.old
+            → OnOk result (Follows program q answers self.new) }
         ensures waits { IfOk result (λ step. WaitsAfter step self.new) }
     {
         let alloc = self.run.state.alloc;

@@ -3,8 +3,6 @@
 
 pub mod cells;
 pub mod stores;
-#[cfg(test)]
-mod tests;
 
 pub use cells::{Cells, Registers, Store};
 pub use stores::Stores;

@@ -2,7 +2,5 @@
 #![tactic(auto)]
 
 pub mod set;
-#[cfg(test)]
-mod tests;
 
 pub use set::{ObjectSet, Refused};

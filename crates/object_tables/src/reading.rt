@@ -31,7 +31,8 @@ fn compare_by(comparison: Comparison, a: &Value, b: &Value) -> bool
 
 /// Whether a row passes a test. A column that it doesn't have is null.
 fn is_met(test: &Test, row: &[Value]) -> bool
-    ensures { result ≡ compares test.now.comparison (column test.now.column row.now) test.now.value }
+    ensures { result
+        ≡ compares test.now.comparison (column test.now.column row.now) test.now.value }
 {
     let i = test.column as usize;
     if i < row.len() {
@@ -100,7 +101,8 @@ pub fn select(
     tests: &[Test],
 ) -> Result<Vec<Value>, AllocError>
     requires { IsFiled slots.now.entries }
-    ensures { IfOk result (λ rows. rows.items ≡ selected columns.now tests.now (rows_of slots.now.entries)) }
+    ensures { IfOk result
+        (λ rows. rows.items ≡ selected columns.now tests.now (rows_of slots.now.entries)) }
 {
     let mut rows = Vec::new(alloc);
     for (_, slot) in candidates(slots, tests) {
@@ -135,7 +137,8 @@ pub fn changed_rows(
     tests: &[Test],
 ) -> Result<Vec<(Text, Slot)>, AllocError>
     requires { IsFiled slots.now.entries }
-    ensures { IfOk result (λ puts. puts.items ≡ update_puts changes.now tests.now slots.now.entries) }
+    ensures { IfOk result
+        (λ puts. puts.items ≡ update_puts changes.now tests.now slots.now.entries) }
 {
     let mut puts = Vec::new(alloc);
     for (key, slot) in candidates(slots, tests) {

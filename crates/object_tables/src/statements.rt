@@ -62,7 +62,8 @@ pub fn insert_in(tables: &mut Vec<Slots>, table: usize, row: Values) -> Result<b
     requires within { table < vec_len tables.old }
     requires filed { AllFiled tables.old.items }
     requires keyed { IsText (key row) }
-    ensures done { IfOk result (IsInserted table row (map rows_of tables.old.items) (map rows_of tables.new.items)) }
+    ensures done { IfOk result
+        (IsInserted table row (map rows_of tables.old.items) (map rows_of tables.new.items)) }
     ensures filed { AllFiled tables.new.items }
     ensures whole { AreWhole tables.old.items → AreWhole tables.new.items }
     ensures err { OnErr result (tables.new.items ≡ tables.old.items) }
@@ -111,7 +112,8 @@ pub fn update(
     requires within { table < vec_len storage.old.tables }
     requires filed { AllFiled (slots_in storage.old) }
     requires keys { KeepKeys changes.now }
-    ensures done { IfOk result (Counts (Update table changes.now tests.now) storage.old storage.new) }
+    ensures done { IfOk result
+        (Counts (Update table changes.now tests.now) storage.old storage.new) }
     ensures filed { OnOk result (AllFiled (slots_in storage.new)) }
     ensures before { before storage.new ≡ before storage.old }
     ensures len { vec_len storage.new.tables ≡ vec_len storage.old.tables }

@@ -1,5 +1,5 @@
 -- What is told of a shelf, and what calls do to it.
-use Rattle.std.specs.Prelude.{◌≡◌, ℕ, ◌≤◌, Bool, true, false, List, length, Option, Some, None, Result, Ok, Err}
+use Rattle.std.specs.Prelude.{◌≡◌, ℕ, ◌+◌, ◌≤◌, Bool, true, false, List, [], ◌∷◌, ◌++◌, length, Option, Some, None, Result, Ok, Err, ⊤}
 use Rattle.std.specs.Option.{option_map, ForSome}
 use Rattle.std.specs.FinMap.{empty, get, insert}
 use Rattle.outside.specs.Counts.{next_count, RisesWhere}
@@ -89,3 +89,30 @@ pub record UsesShelf (old new : ShelfTold) (failed absent : Type 0) : Type 0 whe
   pub absences : RisesWhere old.absences new.absences absent
   pub as_told : new.never_fails ≡ old.never_fails
   pub never_failed : old.never_fails ≡ true → ¬ failed
+
+-- ---- which reads were made
+
+-- a read of a name: where it began, and how many bytes came, of which a refused one has none
+pub record ReadMade : Type 0 where
+  pub name : List ℕ
+  pub from : ℕ
+  pub count : ℕ
+
+abbrev pub read_made : List ℕ → ℕ → Result ℕ ShelfFault → ReadMade
+read_made name from (Ok count) = record { name = name; from = from; count = count }
+read_made name from (Err fault) = record { name = name; from = from; count = 0 }
+
+-- the reads made, and these after them, where they are told
+abbrev pub then_reads : Option (List ReadMade) → List ReadMade → Option (List ReadMade)
+then_reads told more = option_map (λ reads. reads ++ more) told
+
+-- The reads are all of this name. The first begins at this place, and each other where the one
+-- before it ended.
+abbrev pub GoOn : List ℕ → ℕ → List ReadMade → Type 0
+GoOn name place [] = ⊤
+GoOn name place (read ∷ reads) =
+    (read.name ≡ name) × (read.from ≡ place) × GoOn name (place + read.count) reads
+
+-- The file of the name was read once, from its front on.
+abbrev pub IsReadOnce : Option (List ReadMade) → Option (List ReadMade) → List ℕ → Type 0
+IsReadOnce old new name = (reads : List ReadMade) × (new ≡ then_reads old reads) × GoOn name 0 reads

@@ -16,8 +16,6 @@ pub mod link;
 pub mod memory;
 pub mod shelf;
 pub mod sink;
-#[cfg(test)]
-mod tests;
 
 /// Where a count stays.
 pub const LAST_COUNT: u64 = u64::MAX;

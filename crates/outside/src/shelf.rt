@@ -1,4 +1,5 @@
-ghost use Rattle.outside.specs.Shelves.{ShelfTold, IsReadAt, IsPut};
+ghost use Rattle.std.specs.Prelude.{◌≡◌, ◌∷◌, [], List, Option};
+ghost use Rattle.outside.specs.Shelves.{ShelfTold, ReadMade, IsReadAt, IsPut, read_made, then_reads};
 
 use crate::fault::{Fault, ShelfFault};
 
@@ -7,14 +8,21 @@ pub trait Shelf {
     /// What is told of the shelf.
     ghost told: { Self → ShelfTold };
 
+    /// The reads that were made, in their order, where they are told. No shelf of this project tells
+    /// them, and what is said of the reads of one who is given any shelf holds of one that does.
+    ghost reads: { Self → Option (List ReadMade) };
+
     /// Reads from `offset` bytes into the file on, at most as much as `into` takes, and answers how
     /// many bytes were read: 0 into a piece that isn't empty is the end of the file. Where the read
     /// is refused, nothing is said of what is in `into`.
     fn read_at(&mut self, name: &str, offset: u64, into: &mut [u8]) -> Result<usize, ShelfFault>
         ensures used { IsReadAt (told self.old) (told self.new) name.now offset into.old
-            into.new result };
+            into.new result }
+        ensures made { reads self.new
+            ≡ then_reads (reads self.old) (read_made name.now offset result ∷ []) };
 
     /// Puts these bytes under the name, in place of what was there.
     fn write(&mut self, name: &str, bytes: &[u8]) -> Result<(), Fault>
-        ensures used { IsPut (told self.old) (told self.new) name.now bytes.now result };
+        ensures used { IsPut (told self.old) (told self.new) name.now bytes.now result }
+        ensures none_made { reads self.new ≡ reads self.old };
 }

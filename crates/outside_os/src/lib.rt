@@ -4,10 +4,9 @@
 
 pub mod clock;
 mod fault;
+mod putting;
 pub mod shelf;
 pub mod sink;
-#[cfg(test)]
-mod tests;
 
 pub use clock::SystemClock;
 pub use shelf::FileShelf;

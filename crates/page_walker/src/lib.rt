@@ -9,8 +9,6 @@ mod frame;
 mod queries;
 mod run;
 mod statements;
-#[cfg(test)]
-mod tests;
 mod variables;
 mod walker;
 

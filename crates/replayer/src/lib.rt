@@ -10,7 +10,5 @@ pub mod replay;
 pub mod runner;
 pub mod stage;
 pub mod standing;
-#[cfg(test)]
-mod tests;
 
 pub use reason::{Reason, ReplayReason, Replayed};

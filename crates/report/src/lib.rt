@@ -4,8 +4,6 @@
 #![tactic(auto)]
 
 mod group;
-#[cfg(test)]
-mod tests;
 
 use basis::Items;
 pub use group::{Group, Groups};

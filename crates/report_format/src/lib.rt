@@ -9,6 +9,4 @@ pub mod format;
 mod operations;
 mod parts;
 mod records;
-#[cfg(test)]
-mod tests;
 mod value_room;

@@ -5,5 +5,3 @@ pub mod decoding;
 pub mod encoding;
 mod format;
 pub mod schedule_file;
-#[cfg(test)]
-mod tests;

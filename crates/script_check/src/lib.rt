@@ -12,5 +12,3 @@ pub mod program;
 mod query;
 mod scope;
 mod statement;
-#[cfg(test)]
-mod tests;

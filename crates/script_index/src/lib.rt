@@ -2,7 +2,5 @@
 #![tactic(auto)]
 
 pub mod index;
-#[cfg(test)]
-mod tests;
 
 pub use index::{FoundFunction, FoundPage, FoundTable, Index};

@@ -6,5 +6,3 @@ pub mod filling;
 pub mod law;
 pub mod primitive;
 pub mod steps;
-#[cfg(test)]
-mod tests;

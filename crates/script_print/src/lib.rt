@@ -8,6 +8,4 @@ mod name;
 pub mod printer;
 mod query;
 mod statement;
-#[cfg(test)]
-mod tests;
 pub mod text;

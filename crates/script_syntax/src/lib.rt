@@ -7,5 +7,3 @@ mod feed;
 pub mod parse;
 mod query;
 mod statement;
-#[cfg(test)]
-mod tests;

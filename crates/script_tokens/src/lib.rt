@@ -6,7 +6,5 @@ pub mod laws;
 mod lexeme;
 pub mod scan;
 pub mod shape;
-#[cfg(test)]
-mod tests;
 mod text;
 pub mod word;

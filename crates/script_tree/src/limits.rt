@@ -1,5 +1,7 @@
 //! The limits of the language: docs/language.md. Code, contracts and definitions cite them by name.
 
+ghost use Rattle.std.specs.Prelude.{◌≡◌};
+
 /// How large a value may be.
 pub const MOST_VALUE_SIZE: u64 = 65_536;
 
@@ -53,3 +55,25 @@ pub const MOST_REPEATS: usize = 64;
 
 /// How many declarations a program has fewer than, so that 32 bits number them.
 pub const TOO_MANY_DECLARATIONS: usize = 4_294_967_296;
+
+/// The limits in digits, as docs/language.md has them.
+pub fn limits_in_digits()
+    ensures value_size { MOST_VALUE_SIZE ≡ 65536 }
+    ensures value_nesting { MOST_VALUE_NESTING ≡ 16 }
+    ensures request_text { MOST_REQUEST_TEXT_BYTES ≡ 65535 }
+    ensures parameters { MOST_PARAMETERS ≡ 1024 }
+    ensures requests { MOST_REQUESTS ≡ 65536 }
+    ensures key { MOST_KEY_BYTES ≡ 1024 }
+    ensures steps { MOST_STEPS ≡ 100000 }
+    ensures operations { MOST_OPERATIONS ≡ 1000 }
+    ensures call_depth { MOST_CALL_DEPTH ≡ 64 }
+    ensures body { MOST_BODY_BYTES ≡ 262144 }
+    ensures least_status { LEAST_STATUS ≡ 200 }
+    ensures most_status { MOST_STATUS ≡ 599 }
+    ensures identifier { MOST_IDENTIFIER_BYTES ≡ 64 }
+    ensures number { MOST_NUMBER ≡ 9223372036854775807 }
+    ensures literal { MOST_LITERAL_BYTES ≡ 65535 }
+    ensures open_brackets { MOST_OPEN_BRACKETS ≡ 64 }
+    ensures repeats { MOST_REPEATS ≡ 64 }
+    ensures declarations { TOO_MANY_DECLARATIONS ≡ 4294967296 }
+{}

@@ -41,7 +41,8 @@ fn from_zero(alloc: Global, digits: &[u8]) -> Result<Value, AllocError>
 
 /// The number below zero of these digits, where it prints as these bytes.
 fn below_zero(alloc: Global, digits: &[u8], bytes: &[u8]) -> Result<Value, AllocError>
-    ensures { IfOk result (λ v. v ≡ if_printed (neg_ℤ (pos (digits_value 0 digits.now))) bytes.now) }
+    ensures { IfOk result
+        (λ v. v ≡ if_printed (neg_ℤ (pos (digits_value 0 digits.now))) bytes.now) }
 {
     match digits_value(digits) {
         Some(0) => if_printed(alloc, 0, bytes),

@@ -7,8 +7,6 @@ pub mod law;
 mod limits;
 pub mod state;
 mod stored;
-#[cfg(test)]
-mod tests;
 mod value;
 
 pub use fault::StateFault;

@@ -8,8 +8,6 @@ mod logs;
 mod naming;
 pub mod record;
 pub mod recorded;
-#[cfg(test)]
-mod tests;
 mod widths;
 mod writing;
 

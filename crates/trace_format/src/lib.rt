@@ -8,6 +8,4 @@ pub mod encoding;
 mod format;
 pub mod packed;
 mod request;
-#[cfg(test)]
-mod tests;
 pub mod trace_file;

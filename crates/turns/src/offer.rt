@@ -45,3 +45,8 @@ fn throw(dice: &mut Dice, bound: i64) -> i64
 
 /// The greatest number that is offered to the clock.
 pub const MOST_READING: u64 = 9_223_372_036_854_775_807;
+
+/// That number in digits, as docs/formats.md has it.
+pub fn reading_in_digits()
+    ensures { MOST_READING ≡ 9223372036854775807 }
+{}

@@ -9,8 +9,6 @@ pub mod laws;
 pub mod limits;
 pub mod record;
 pub mod records;
-#[cfg(test)]
-mod tests;
 pub mod value_reading;
 pub mod value_writing;
 pub mod writing;

@@ -16,6 +16,12 @@ pub const MULTIPLIER: u64 = 6_364_136_223_846_793_005;
 /// How much a draw adds.
 pub const INCREMENT: u64 = 1_442_695_040_888_963_407;
 
+/// The numbers of a draw in digits, as docs/formats.md has them.
+pub fn draws_in_digits()
+    ensures multiplier { MULTIPLIER ≡ 6364136223846793005 }
+    ensures increment { INCREMENT ≡ 1442695040888963407 }
+{}
+
 /// The requests of the jobs of a self test with so many jobs.
 pub fn generate(alloc: Global, n: u64) -> Result<Requests, AllocError>
     ensures { IfOk result (λ requests. requests ≡ generated n) }

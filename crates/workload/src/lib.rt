@@ -10,8 +10,6 @@ pub mod limits;
 mod one_by_one;
 mod parts;
 pub mod requests;
-#[cfg(test)]
-mod tests;
 mod tree;
 pub mod turns;
 

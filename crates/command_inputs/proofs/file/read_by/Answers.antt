@@ -1,9 +1,10 @@
-use Rattle.std.proofs.Common.{◌≡◌, ◌≤◌, ◌<◌, ◌+◌, ◌++◌, ◌∙◌, ℕ, List, Some, true, length, take, vec_len, is_ok, refl, sym, ap, arith, length-append}
+use Rattle.std.proofs.Common.{◌≡◌, ◌≤◌, ◌<◌, ◌+◌, ◌++◌, ◌∙◌, ℕ, List, Some, Ok, Err, true, length, take, vec_len, is_ok, refl, sym, ap, arith, length-append}
 use Rattle.std.proofs.lemmas.List.{length-take}
 use Rattle.std.specs.FinMap.{get}
 use Rattle.outside.specs.Shelves.{ShelfTold}
 use Rattle.command_inputs.specs.Inputs.{bytes_input}
 use Rattle.command_inputs.proofs.Pieces.{chosen, whole, more, longer, is_spelled, is_too_long}
+use Rattle.command_inputs.proofs.Once.{read_to-more, read_once-last}
 use Rattle.command_inputs.proofs.file.read_by.Goals as goal
 
 pub returns-in-Ok-eq0-clause-read : goal.returns-in-Ok-eq0-clause-read
@@ -30,6 +31,22 @@ returns-then-count-most-clause-read g c = λ files told.
     (omega (arith, ok.0, c.len-in-pieces.ensures, c.if-count-most.true))
     (c.in-Ok.ensures.used.2 files same) in
     is_too_long (bytes_input c.args.role c.args.most) _ over.0 over.1 over.2
+
+pub returns-in-Ok-eq0-clause-once : goal.returns-in-Ok-eq0-clause-once
+returns-in-Ok-eq0-clause-once g c =
+    read_once-last _ (Ok c.in-Ok-eq0.field-0) c.pieces.invariant.once c.len.ensures c.in-Ok-eq0.ensures.made
+
+pub returns-in-Err-clause-once : goal.returns-in-Err-clause-once
+returns-in-Err-clause-once g c =
+    read_once-last _ (Err c.in-Err.fault) c.pieces.invariant.once c.len.ensures c.in-Err.ensures.made
+
+pub returns-then-count-most-clause-once : goal.returns-then-count-most-clause-once
+returns-then-count-most-clause-once g c =
+    read_once-last _ (Ok c.in-Ok.count) c.pieces.invariant.once c.len.ensures c.in-Ok.ensures.made
+
+pub returns-in_err-extend_from_slice-clause-once : goal.returns-in_err-extend_from_slice-clause-once
+returns-in_err-extend_from_slice-clause-once g c =
+    read_once-last _ (Ok c.in-Ok.count) c.pieces.invariant.once c.len.ensures c.in-Ok.ensures.made
 
 pub pieces-preserved : goal.pieces-preserved
 pieces-preserved g c =
@@ -69,4 +86,6 @@ pieces-preserved g c =
           ∙ more files c.args.name.now bytes _ _ _ c.in-Ok.count at front
           (c.in-Ok.ensures.used.2 files same) file there
           ∙ ap (λ n. take n file) (sym len);
+      once = read_to-more _ _ _ c.pieces.invariant.once c.len.ensures c.in-Ok.ensures.made
+          (omega (arith, len, ok.0));
     }

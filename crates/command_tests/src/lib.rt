@@ -5,9 +5,13 @@
 #[cfg(test)]
 mod calls;
 #[cfg(test)]
+mod checks;
+#[cfg(test)]
 mod files;
 #[cfg(test)]
 mod limits;
+#[cfg(test)]
+mod outputs;
 #[cfg(test)]
 mod records;
 #[cfg(test)]

@@ -10,13 +10,28 @@ use outside::{MemHouse, OpenGate};
 use outside_os::{FileShelf, StdSink, SystemClock};
 use std::io::ErrorKind;
 use std::process::ExitCode;
+use std::thread::{Builder, Threads};
 use std::{env, io};
 
 /// The status where the program ran out of memory before it could begin.
 const OUT_OF_MEMORY: u8 = 5;
 
+/// The bytes of the stack, enough for the deepest run. Memory that isn't touched is not taken.
+const STACK_BYTES: usize = 0x1000_0000;
+
 fn main(rt: HostRuntime) -> ExitCode {
-    ExitCode::from(exit_status(status_of(rt)))
+    ExitCode::from(match rt.clone() {
+        Ok(inner) => exit_status(on_large_stack(&rt, inner)),
+        Err(_) => OUT_OF_MEMORY,
+    })
+}
+
+/// The status of the program, which runs in a thread of its own.
+fn on_large_stack(rt: &impl Threads, inner: HostRuntime) -> io::Result<u8> {
+    let work = Builder::new()
+        .stack_size(STACK_BYTES)
+        .spawn(rt, move || exit_status(status_of(inner)))?;
+    Ok(work.join(rt))
 }
 
 /// The status of the program, where what was asked ended so, or did not begin.

@@ -18,20 +18,22 @@ fn empty(alloc: Global) -> Text {
 }
 
 /// The sum of two numbers, as the first node of a new ledger.
-fn sum<L: Ledger>(alloc: Global, blank: Blank, request: &Request) -> Option<Called>
+fn sum<L: Ledger>(alloc: Global, blank: Blank) -> Option<Called>
     requires name { blank.name ≡ L.name }
     requires parts { blank.parts ≡ L.parts }
     requires some { 0 < blank.parts }
 {
+    let parameters = Parameters::new(alloc);
+    let request = Request::new(empty(alloc), empty(alloc), parameters, empty(alloc))?;
     let mut steps = Steps::<L>::new(blank);
     let plus = Primitive::Binary(BinaryOperator::Plus);
     let operands = [Value::number(2), Value::number(3)];
-    evaluate(alloc, plus, &operands, request, &mut steps).ok()
+    evaluate(alloc, plus, &operands, &request, &mut steps).ok()
 }
 
 /// Whether two and three make five.
-fn makes_five(alloc: Global, request: &Request) -> bool {
-    match sum::<Brand>(alloc, Blank::new(1), request) {
+fn makes_five(alloc: Global) -> bool {
+    match sum::<Brand>(alloc, Blank::new(1)) {
         Some(Called::Value(value)) => matches!(&value.node, Node::Number(5)),
         Some(Called::Operation(_)) | None => false,
     }
@@ -39,10 +41,5 @@ fn makes_five(alloc: Global, request: &Request) -> bool {
 
 #[test]
 fn two_and_three_make_five(rt: HostRuntime) {
-    let text = empty(rt.alloc());
-    let parameters = Parameters::new(rt.alloc());
-    match Request::new(empty(rt.alloc()), text, parameters, empty(rt.alloc())) {
-        Some(request) => assert!(rt; makes_five(rt.alloc(), &request)),
-        None => assert!(rt; false, "a request"),
-    }
+    assert!(rt; makes_five(rt.alloc()));
 }

@@ -1,6 +1,6 @@
 //! Files of both kinds.
 ghost use Rattle.std.specs.Prelude.{◌≡◌, IfOk};
-ghost use Rattle.file_runs.specs.Spelled.{spelling, MayBeEncoded};
+ghost use Rattle.bench_files.specs.Spelled.{spelling, MayBeEncoded};
 
 use anyhow::{anyhow, bail};
 use report::Report;

@@ -3,8 +3,8 @@ use Rattle.std.specs.Prelude.{ℕ, List}
 use Rattle.wire.specs.Files.{file_spelling}
 use Rattle.trace_format.specs.Events.{trace_format}
 use Rattle.report_format.specs.Reports.{report_format, records_of, IsSpellable}
-use Rattle.file_runs.specs.declared.contents.Contents.{Contents}
-use Rattle.file_runs.specs.declared.contents.Contents.TheVariants.{Trace, Report}
+use Rattle.bench_files.specs.declared.contents.Contents.{Contents}
+use Rattle.bench_files.specs.declared.contents.Contents.TheVariants.{Trace, Report}
 
 abbrev pub spelling : Contents → List ℕ
 spelling (Trace trace) = file_spelling trace_format trace

@@ -18,7 +18,7 @@ fn main(rt: HostRuntime) -> ExitCode {
     match run(&rt) {
         Ok(()) => ExitCode::SUCCESS,
         Err(error) => {
-            let _ = eprintln!(rt; "page_runs: {error:#}");
+            let _ = eprintln!(rt; "bench_pages: {error:#}");
             ExitCode::from(REFUSED)
         }
     }

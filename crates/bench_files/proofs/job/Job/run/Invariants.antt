@@ -1,6 +1,6 @@
 use Rattle.std.specs.Prelude.{◌≡◌}
-use Rattle.file_runs.specs.Spelled.{spelling, MayBeEncoded}
-use Rattle.file_runs.proofs.job.Job.run.Given as goal
+use Rattle.bench_files.specs.Spelled.{spelling, MayBeEncoded}
+use Rattle.bench_files.proofs.job.Job.run.Given as goal
 
 abbrev pub invariant-loop : goal.invariant-loop
 invariant-loop l = record {

@@ -1,6 +1,6 @@
 //! What is asked of the program.
 ghost use Rattle.std.specs.Prelude.{◌≡◌, IfOk};
-ghost use Rattle.file_runs.specs.Spelled.{spelling, MayBeEncoded};
+ghost use Rattle.bench_files.specs.Spelled.{spelling, MayBeEncoded};
 
 use crate::contents::Contents;
 use anyhow::{Context, bail};

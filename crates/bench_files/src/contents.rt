@@ -1,8 +1,7 @@
 //! Files of both kinds.
-ghost use Rattle.std.specs.Prelude.{◌≡◌, IfOk};
+ghost use Rattle.std.specs.Prelude.{◌≡◌, IfSome};
 ghost use Rattle.bench_files.specs.Spelled.{spelling, MayBeEncoded};
 
-use anyhow::{anyhow, bail};
 use report::Report;
 use script_tree::trace::Trace;
 use std::alloc::Global;
@@ -16,37 +15,36 @@ pub enum Contents {
 
 impl Contents {
     /// What the file of these bytes holds. Its magic tells what kind of file it is.
-    pub fn decode(alloc: Global, bytes: &[u8]) -> anyhow::Result<Contents>
-        ensures spelled { IfOk result (λ contents. bytes.now ≡ spelling contents) }
-        ensures may { IfOk result MayBeEncoded }
+    #[tactic(auto, using(report_format::proofs::ReadAgain::may_be_spelled))]
+    pub fn decode(alloc: Global, bytes: &[u8]) -> Option<Contents>
+        ensures spelled { IfSome result (λ contents. bytes.now ≡ spelling contents) }
+        ensures may { IfSome result MayBeEncoded }
     {
         if bytes.starts_with(b"SSCOTRC1") {
             match trace_format::decoding::decode(alloc, bytes) {
-                Ok(trace) => Ok(Contents::Trace(trace)),
-                Err(fault) => Err(anyhow!("{fault}")),
-            }
-        } else if bytes.starts_with(b"SSCORPT1") {
-            match report_format::decoding::decode(alloc, bytes) {
-                Ok(report) => Ok(Contents::Report(report)),
-                Err(fault) => Err(anyhow!("{fault}")),
+                Ok(trace) => Some(Contents::Trace(trace)),
+                Err(_) => None,
             }
         } else {
-            bail!("neither a trace nor a report")
+            match report_format::decoding::decode(alloc, bytes) {
+                Ok(report) => Some(Contents::Report(report)),
+                Err(_) => None,
+            }
         }
     }
 
     /// Its file.
-    pub fn encode(&self, alloc: Global) -> anyhow::Result<Vec<u8>>
+    pub fn encode(&self, alloc: Global) -> Option<Vec<u8>>
         requires { MayBeEncoded self.now }
-        ensures { IfOk result (λ file. file.items ≡ spelling self.now) }
+        ensures { IfSome result (λ file. file.items ≡ spelling self.now) }
     {
         let encoded = match self {
             Contents::Trace(trace) => trace_format::encoding::encode(alloc, trace),
             Contents::Report(report) => report_format::encoding::encode(alloc, report),
         };
         match encoded {
-            Ok(file) => Ok(file),
-            Err(fault) => Err(anyhow!("{fault}")),
+            Ok(file) => Some(file),
+            Err(_) => None,
         }
     }
 

@@ -7,8 +7,8 @@
 mod contents;
 mod job;
 
-use crate::job::Job;
-use anyhow::Context;
+use crate::job::{Job, encoded_again};
+use anyhow::{Context, bail};
 use std::{env, fs};
 
 fn main(rt: HostRuntime) -> anyhow::Result<()> {
@@ -16,7 +16,11 @@ fn main(rt: HostRuntime) -> anyhow::Result<()> {
     for word in env::args(&rt)?.skip(1) {
         words.push(word)?;
     }
-    let (job, files) = Job::from_words(words.as_slice())?;
+    let [work, times, files @ ..] = words.as_slice() else {
+        bail!("the words are: decode|encode TIMES FILE ..");
+    };
+    let job = Job::from_words(work.as_str(), times.as_str());
+    let job = job.context("the work is decode or encode, and TIMES a number")?;
     for file in files {
         run(&rt, job, file.as_str())?;
     }
@@ -25,14 +29,16 @@ fn main(rt: HostRuntime) -> anyhow::Result<()> {
 
 /// Does the job with a file.
 fn run(rt: &HostRuntime, job: Job, file: &str) -> anyhow::Result<()> {
-    let bytes = fs::read(rt, file).context(format_args!("reading {file}"))?;
-    let (contents, took) = job.run(rt, &bytes).context(format_args!("running {file}"))?;
+    let bytes = fs::read(rt, file).context("reading FILE")?;
+    let contents = encoded_again(rt.alloc(), &bytes);
+    let contents = contents.context("FILE is no trace or report that is encoded to the same")?;
+    let took = job.took(rt, &bytes, &contents)?;
     println!(rt;
         "{}: records {}, bytes {}, times {}, same",
         contents.kind(),
         contents.record_count(),
         bytes.len(),
-        job.times()
+        job.times
     )?;
     eprintln!(rt; "{}: nanoseconds {}", contents.kind(), took.as_nanos())?;
     Ok(())

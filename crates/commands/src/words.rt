@@ -1,4 +1,5 @@
-ghost use Rattle.std.specs.Prelude.{◌≡◌, ◌++◌, ◌∷◌, [], map, option_map, IfOk, OnOk, OnErr, string_bytes};
+ghost use Rattle.std.specs.Prelude.{◌≡◌, ◌++◌, ◌∷◌, [], drop, map, option_map, IfOk, OnOk, OnErr, string_bytes};
+ghost use Rattle.std.specs.Vec.Iter.{into_iter_items};
 ghost use Rattle.clap.specs.Matches.{found_of};
 ghost use Rattle.clap.specs.Simple.{app_of};
 ghost use Rattle.commands.specs.Words.{in_four, in_one, is_option, names_in};
@@ -9,6 +10,7 @@ use crate::record_words::{RecordWords, taken_words};
 use clap::error::ErrorKind;
 use clap::{Arg, ArgMatches, Command};
 use std::alloc::{AllocError, Global};
+use std::env::Args;
 use std::marker::Model;
 
 /// The words of a command line, without the program's name. Contracts see the bytes of each.
@@ -46,6 +48,16 @@ impl Words {
             alloc,
             items: Vec::new(alloc),
         }
+    }
+
+    /// The arguments of a program behind the first, which is its name.
+    pub fn behind_name(alloc: Global, args: Args) -> Result<Words, AllocError>
+        ensures { IfOk result (λ words. words ≡ map string_bytes (drop 1 (into_iter_items args))) }
+    {
+        Ok(Words {
+            alloc,
+            items: args.skip(1).collect(alloc)?,
+        })
     }
 
     /// Takes one word more, behind the others.

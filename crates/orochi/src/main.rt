@@ -2,7 +2,7 @@
 #![tactic(auto)]
 
 ghost use Rattle.std.specs.Prelude.{◌≡◌, IfOk, OnErr};
-ghost use Rattle.orochi.specs.declared.TheConstants.{OUT_OF_MEMORY};
+ghost use Rattle.orochi.specs.declared.TheConstants.{NOT_BEGUN};
 
 use commands::run::run;
 use commands::words::Words;
@@ -10,34 +10,44 @@ use outside::{MemHouse, OpenGate};
 use outside_os::{FileShelf, StdSink, SystemClock};
 use std::io::ErrorKind;
 use std::process::ExitCode;
+use std::thread::{Builder, Threads};
 use std::{env, io};
 
-/// The status where the program ran out of memory before it could begin.
-const OUT_OF_MEMORY: u8 = 5;
+/// The status where the program had no memory or no thread to begin with.
+const NOT_BEGUN: u8 = 5;
+
+/// How many bytes of stack the program has, enough for the deepest run: docs/speed.md. Only those
+/// that are touched take memory.
+const STACK_BYTES: usize = 268_435_456;
 
 fn main(rt: HostRuntime) -> ExitCode {
-    ExitCode::from(exit_status(status_of(rt)))
+    ExitCode::from(match rt.clone() {
+        Ok(inner) => exit_status(on_large_stack(&rt, inner)),
+        Err(_) => NOT_BEGUN,
+    })
+}
+
+/// The status of the program, which runs in a thread of its own.
+fn on_large_stack(rt: &impl Threads, inner: HostRuntime) -> io::Result<u8> {
+    let work = Builder::new()
+        .stack_size(STACK_BYTES)
+        .spawn(rt, move || exit_status(status_of(inner)))?;
+    Ok(work.join(rt))
 }
 
 /// The status of the program, where what was asked ended so, or did not begin.
 fn exit_status(outcome: io::Result<u8>) -> u8
     ensures asked { IfOk outcome (λ status. result ≡ status) }
-    ensures out_of_memory { OnErr outcome (result ≡ OUT_OF_MEMORY) }
+    ensures not_begun { OnErr outcome (result ≡ NOT_BEGUN) }
 {
-    outcome.unwrap_or(OUT_OF_MEMORY)
+    outcome.unwrap_or(NOT_BEGUN)
 }
 
 /// The words after the program's name. There are none where one isn't UTF-8, which asks for the usage.
 fn words_of(rt: &HostRuntime) -> io::Result<Words> {
-    let mut words = Words::new(rt.alloc());
     match env::args(rt) {
-        Ok(args) => {
-            for word in args.skip(1) {
-                words.push(word.as_str())?;
-            }
-            Ok(words)
-        }
-        Err(error) if error.kind() == ErrorKind::InvalidData => Ok(words),
+        Ok(args) => Ok(Words::behind_name(rt.alloc(), args)?),
+        Err(error) if error.kind() == ErrorKind::InvalidData => Ok(Words::new(rt.alloc())),
         Err(error) => Err(error),
     }
 }

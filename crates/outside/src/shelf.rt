@@ -8,8 +8,8 @@ pub trait Shelf {
     /// What is told of the shelf.
     ghost told: { Self → ShelfTold };
 
-    /// The reads that were made, in their order, where they are told. No shelf of this project tells
-    /// them, and what is said of the reads of one who is given any shelf holds of one that does.
+    /// The reads that were made, in their order, where they are told. No shelf of this project
+    /// tells them: a function that is given any shelf is proved for one that does.
     ghost reads: { Self → Option (List ReadMade) };
 
     /// Reads from `offset` bytes into the file on, at most as much as `into` takes, and answers how

@@ -4,4 +4,5 @@ mod Endings
 mod Enters
 mod Lighter
 mod Parts
+mod Rows
 mod Within

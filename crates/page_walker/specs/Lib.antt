@@ -3,6 +3,7 @@ pub mod Found
 pub mod Frames
 pub mod Gives
 pub mod Nodes
+pub mod Rows
 pub mod RunView
 pub mod Statuses
 pub mod VariablesView

@@ -1,16 +1,19 @@
 ghost use Rattle.std.specs.Prelude.{◌≡◌, ℕ, Bool};
 ghost use Rattle.script_tree.specs.Declarations.{own, built, unknown};
 ghost use Rattle.script_tree.specs.ExpressionView.{expression_of};
-ghost use Rattle.script_tree.specs.Syntax.{unary, binary, and_, or_, index as indexed, call};
+ghost use Rattle.script_tree.specs.Syntax.{binary, and_, or_, index as indexed, call};
 ghost use Rattle.script_tree.specs.Syntax.{list as listed, transact, expression, Expressions as Several};
+ghost use Rattle.script_tree.specs.Syntax.{Expression as Meant};
 ghost use Rattle.script_tree.specs.SyntaxLists.{expressions_of, queries_of};
 ghost use Rattle.script_meaning.specs.Evaluate.{store_name};
 ghost use Rattle.page_walker.specs.Found.{IsInProgram};
 ghost use Rattle.script_index.specs.Found.{function_of};
 ghost use Rattle.page_walker.specs.Frames.{value_at, values_at, arguments_at, call_at, entered_at};
 ghost use Rattle.page_walker.specs.Gives.{Gives, GivesValue};
+ghost use Rattle.page_walker.specs.Rows.{first_of, climbed};
 
 use crate::declared::{Callee, callee_named};
+use crate::first::first_operand;
 use crate::frame::{Flow, Frame};
 use crate::run::{Run, Stopped};
 use crate::variables::Variables;
@@ -19,7 +22,7 @@ use script_tree::fault::ScriptFault;
 use script_tree::limits::MOST_CALL_DEPTH;
 use script_tree::syntax::builtin::Builtin;
 use script_tree::syntax::expression::{Expression, ExpressionNode, Expressions, Queries};
-use script_tree::syntax::operator::{BinaryOperator, UnaryOperator};
+use script_tree::syntax::operator::BinaryOperator;
 use script_tree::text::Text;
 use script_tree::value::Value;
 
@@ -34,17 +37,49 @@ impl Frame<'_, '_, '_> {
     ) -> Result<Value, Stopped>
         ensures { GivesValue result run.new (value_at self.now variables.now e.now run.old) }
     {
-        self.eval_node(variables, run, e.at, &e.node)
+        match first_operand(&e.node) {
+            None => self.eval_atom(variables, run, e.at, &e.node),
+            Some(first) => {
+                let value = self.eval_first(variables, run, first)?;
+                self.climb(variables, run, e.at, &e.node, value)
+            }
+        }
     }
 
+    /// The value of an expression. Its first operands lie one in the other: those that wait for the
+    /// innermost are in a list, and not on the stack.
     #[cycle(walk)]
-    fn eval_node(
+    fn eval_first(
+        &self,
+        variables: &Variables,
+        run: &mut Run,
+        e: &Expression,
+    ) -> Result<Value, Stopped>
+        ensures { GivesValue result run.new (value_at self.now variables.now e.now run.old) }
+    {
+        let mut waiting = Vec::new(self.alloc);
+        let mut inner = e;
+        while let Some(first) = first_operand(&inner.node) {
+            waiting.push(inner)?;
+            inner = first;
+        }
+        let mut value = self.eval_atom(variables, run, inner.at, &inner.node)?;
+        while let Some(outer) = waiting.pop() {
+            value = self.climb(variables, run, outer.at, &outer.node, value)?;
+        }
+        Ok(value)
+    }
+
+    /// The value of an expression that has no first operand.
+    #[cycle(walk)]
+    fn eval_atom(
         &self,
         variables: &Variables,
         run: &mut Run,
         at: usize,
         node: &ExpressionNode,
     ) -> Result<Value, Stopped>
+        requires { first_of (expression_of at node.now) ≡ None }
         ensures { GivesValue result run.new
             (value_at self.now variables.now (expression_of at node.now) run.old) }
     {
@@ -58,60 +93,76 @@ impl Frame<'_, '_, '_> {
             ExpressionNode::Call(name, operands) => self.eval_call(variables, run, name, operands),
             ExpressionNode::List(members) => self.eval_list(variables, run, members),
             ExpressionNode::Transact(queries) => self.eval_transact(variables, run, queries),
-            ExpressionNode::Unary(operator, e) => self.eval_unary(variables, run, *operator, e),
-            ExpressionNode::Binary(operator, a, b) => {
-                self.eval_binary(variables, run, *operator, a, b)
+            ExpressionNode::Unary(_, _)
+            | ExpressionNode::Binary(_, _, _)
+            | ExpressionNode::And(_, _)
+            | ExpressionNode::Or(_, _)
+            | ExpressionNode::Index(_, _) => unreachable!(),
+        }
+    }
+
+    /// What a node does with the value of its first operand.
+    #[cycle(walk)]
+    fn climb(
+        &self,
+        variables: &Variables,
+        run: &mut Run,
+        at: usize,
+        node: &ExpressionNode,
+        value: Value,
+    ) -> Result<Value, Stopped>
+        ensures { GivesValue result run.new
+            (climbed self.now variables.now (expression_of at node.now) value run.old) }
+    {
+        match node {
+            ExpressionNode::Unary(operator, _) => {
+                run.node(script_values::unary(*operator, &value))
             }
-            ExpressionNode::And(a, b) => self.eval_and(variables, run, a, b),
-            ExpressionNode::Or(a, b) => self.eval_or(variables, run, a, b),
-            ExpressionNode::Index(whole, place) => self.eval_index(variables, run, whole, place),
+            ExpressionNode::Binary(operator, _, b) => {
+                self.climb_binary(variables, run, *operator, value, b)
+            }
+            ExpressionNode::And(_, b) => self.climb_and(variables, run, value, b),
+            ExpressionNode::Or(_, b) => self.climb_or(variables, run, value, b),
+            ExpressionNode::Index(_, place) => self.climb_index(variables, run, value, place),
+            ExpressionNode::Number(_)
+            | ExpressionNode::Text(_)
+            | ExpressionNode::Bool(_)
+            | ExpressionNode::Null
+            | ExpressionNode::Bracket(_)
+            | ExpressionNode::Variable(_)
+            | ExpressionNode::Call(_, _)
+            | ExpressionNode::List(_)
+            | ExpressionNode::Transact(_) => Ok(value),
         }
     }
 
     #[cycle(walk)]
-    fn eval_unary(
-        &self,
-        variables: &Variables,
-        run: &mut Run,
-        operator: UnaryOperator,
-        e: &Expression,
-    ) -> Result<Value, Stopped>
-        ensures { (at : ℕ) → GivesValue result run.new
-            (value_at self.now variables.now (unary at operator e.now) run.old) }
-    {
-        let operand = self.eval(variables, run, e)?;
-        run.node(script_values::unary(operator, &operand))
-    }
-
-    #[cycle(walk)]
-    fn eval_binary(
+    fn climb_binary(
         &self,
         variables: &Variables,
         run: &mut Run,
         operator: BinaryOperator,
-        a: &Expression,
+        left: Value,
         b: &Expression,
     ) -> Result<Value, Stopped>
-        ensures { (at : ℕ) → GivesValue result run.new
-            (value_at self.now variables.now (binary at operator a.now b.now) run.old) }
+        ensures { (at : ℕ) (a : Meant) → GivesValue result run.new
+            (climbed self.now variables.now (binary at operator a b.now) left run.old) }
     {
-        let left = self.eval(variables, run, a)?;
         let right = self.eval(variables, run, b)?;
         run.node(script_values::binary(self.alloc, operator, &left, &right))
     }
 
     #[cycle(walk)]
-    fn eval_and(
+    fn climb_and(
         &self,
         variables: &Variables,
         run: &mut Run,
-        a: &Expression,
+        left: Value,
         b: &Expression,
     ) -> Result<Value, Stopped>
-        ensures { (at : ℕ) → GivesValue result run.new
-            (value_at self.now variables.now (and_ at a.now b.now) run.old) }
+        ensures { (at : ℕ) (a : Meant) → GivesValue result run.new
+            (climbed self.now variables.now (and_ at a b.now) left run.old) }
     {
-        let left = self.eval(variables, run, a)?;
         if run.decide(&left)? {
             self.eval(variables, run, b)
         } else {
@@ -120,17 +171,16 @@ impl Frame<'_, '_, '_> {
     }
 
     #[cycle(walk)]
-    fn eval_or(
+    fn climb_or(
         &self,
         variables: &Variables,
         run: &mut Run,
-        a: &Expression,
+        left: Value,
         b: &Expression,
     ) -> Result<Value, Stopped>
-        ensures { (at : ℕ) → GivesValue result run.new
-            (value_at self.now variables.now (or_ at a.now b.now) run.old) }
+        ensures { (at : ℕ) (a : Meant) → GivesValue result run.new
+            (climbed self.now variables.now (or_ at a b.now) left run.old) }
     {
-        let left = self.eval(variables, run, a)?;
         if run.decide(&left)? {
             Ok(left)
         } else {
@@ -139,17 +189,16 @@ impl Frame<'_, '_, '_> {
     }
 
     #[cycle(walk)]
-    fn eval_index(
+    fn climb_index(
         &self,
         variables: &Variables,
         run: &mut Run,
-        a: &Expression,
+        whole: Value,
         b: &Expression,
     ) -> Result<Value, Stopped>
-        ensures { (at : ℕ) → GivesValue result run.new
-            (value_at self.now variables.now (indexed at a.now b.now) run.old) }
+        ensures { (at : ℕ) (a : Meant) → GivesValue result run.new
+            (climbed self.now variables.now (indexed at a b.now) whole run.old) }
     {
-        let whole = self.eval(variables, run, a)?;
         let place = self.eval(variables, run, b)?;
         run.node(script_values::indexed(self.alloc, &whole, &place))
     }

@@ -5,6 +5,7 @@
 mod declared;
 mod ending;
 mod expressions;
+mod first;
 mod frame;
 mod queries;
 mod run;

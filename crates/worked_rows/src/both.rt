@@ -127,17 +127,21 @@ fn machine_step(
 }
 
 fn copy_of(alloc: Global, request: &Request) -> Result<Request, AllocError> {
-    let mut parameters = Parameters::new(alloc);
-    for parameter in request.parameters().as_slice() {
-        parameters.push(Parameter {
-            name: parameter.name.clone()?,
-            value: parameter.value.clone()?,
-        })?;
-    }
+    let parameters = parameters_of(alloc, request.parameters().as_slice())?;
     let method = request.method().clone()?;
     let path = request.path().clone()?;
     let body = request.body().clone()?;
     Request::new(method, path, parameters, body).ok_or(AllocError)
+}
+
+fn parameters_of(alloc: Global, parameters: &[Parameter]) -> Result<Parameters, AllocError> {
+    let mut copies = Parameters::new(alloc);
+    for parameter in parameters {
+        let name = parameter.name.clone()?;
+        let value = parameter.value.clone()?;
+        copies.push(Parameter { name, value })?;
+    }
+    Ok(copies)
 }
 
 /// Whether the replay of these files agrees; nothing where the machine and the walker don't say the

@@ -1,44 +1,88 @@
-use Rattle.std.proofs.Common.{◌≡◌, ap, sym, refl, ◌∙◌, subst, map, arith}
+use Rattle.std.proofs.Common.{◌≡◌, Some, ap, sym, refl, ◌∙◌, subst, map, arith}
 use Rattle.std.proofs.lemmas.Result.{err_from_is_err_and}
 use Rattle.script_tree.specs.Declarations.{callee_in}
-use Rattle.script_tree.specs.ExpressionView.{condition_of, assignment_of}
-use Rattle.script_tree.specs.ExpressionWeight.{query_list_weight, condition_list_weight, assignment_list_weight}
+use Rattle.script_tree.specs.ExpressionView.{expression_of, condition_of, assignment_of}
+use Rattle.script_tree.specs.ExpressionWeight.{expression_weight, query_list_weight, condition_list_weight, assignment_list_weight}
+use Rattle.script_tree.specs.Syntax.{null}
 use Rattle.script_tree.specs.SyntaxLists.{statements_of}
 use Rattle.script_meaning.specs.Evaluate.{on, back}
-use Rattle.script_meaning.specs.Run.{goes}
+use Rattle.script_meaning.specs.Run.{goes, after}
 use Rattle.page_walker.specs.Flows.{flow_of}
 use Rattle.script_index.specs.Found.{function_of}
-use Rattle.page_walker.specs.Frames.{call_at}
+use Rattle.page_walker.specs.Frames.{value_at, call_at}
 use Rattle.page_walker.specs.Gives.{GivesValue}
 use Rattle.page_walker.specs.Nodes.{block_nodes}
+use Rattle.page_walker.specs.Rows.{first_of, climbs}
 use Rattle.page_walker.proofs.Blocks.{while_turn, while_out}
 use Rattle.page_walker.proofs.Enters.{fewer, one_less, none_left, inside, inside_stops}
 use Rattle.page_walker.proofs.Lighter.{operand_lighter, query_lighter, condition_lighter, assignment_lighter, statement_lighter}
+use Rattle.page_walker.proofs.Rows.{AreWithin, within_more, within_less, first_lighter, waits, rest_stops, rest_goes}
 use Rattle.page_walker.proofs.frame.Frame.+walk.Goals as goal
 
-pub eval_node-returns-in-Call : goal.eval_node-returns-in-Call
-eval_node-returns-in-Call t c = rw c.in-Call.is (c.eval_call.ensures c.args.at)
+pub eval_atom-returns-in-Call : goal.eval_atom-returns-in-Call
+eval_atom-returns-in-Call t c = rw c.in-Call.is (c.eval_call.ensures c.args.at)
 
-pub eval_node-returns-in-List : goal.eval_node-returns-in-List
-eval_node-returns-in-List t c = rw c.in-List.is (c.eval_list.ensures c.args.at)
+pub eval_atom-returns-in-List : goal.eval_atom-returns-in-List
+eval_atom-returns-in-List t c = rw c.in-List.is (c.eval_list.ensures c.args.at)
 
-pub eval_node-returns-in-Transact : goal.eval_node-returns-in-Transact
-eval_node-returns-in-Transact t c = rw c.in-Transact.is (c.eval_transact.ensures c.args.at)
+pub eval_atom-returns-in-Transact : goal.eval_atom-returns-in-Transact
+eval_atom-returns-in-Transact t c = rw c.in-Transact.is (c.eval_transact.ensures c.args.at)
 
-pub eval_node-returns-in-Unary : goal.eval_node-returns-in-Unary
-eval_node-returns-in-Unary t c = rw (c.in-Unary.is, ← c.deref-in-Unary.ensures) (c.eval_unary.ensures c.args.at)
+pub climb-returns-in-Binary : goal.climb-returns-in-Binary
+climb-returns-in-Binary t c = rw (c.in-Binary.is, ← c.deref.ensures) (c.climb_binary.ensures c.args.at (null 0))
 
-pub eval_node-returns-in-Binary : goal.eval_node-returns-in-Binary
-eval_node-returns-in-Binary t c = rw (c.in-Binary.is, ← c.deref-in-Binary.ensures, ← c.deref-in-Binary-2.ensures) (c.eval_binary.ensures c.args.at)
+pub climb-returns-in-And : goal.climb-returns-in-And
+climb-returns-in-And t c = rw (c.in-And.is, ← c.deref-in-And.ensures) (c.climb_and.ensures c.args.at (null 0))
 
-pub eval_node-returns-in-And : goal.eval_node-returns-in-And
-eval_node-returns-in-And t c = rw (c.in-And.is, ← c.deref-in-And.ensures, ← c.deref-in-And-2.ensures) (c.eval_and.ensures c.args.at)
+pub climb-returns-in-Or : goal.climb-returns-in-Or
+climb-returns-in-Or t c = rw (c.in-Or.is, ← c.deref-in-Or.ensures) (c.climb_or.ensures c.args.at (null 0))
 
-pub eval_node-returns-in-Or : goal.eval_node-returns-in-Or
-eval_node-returns-in-Or t c = rw (c.in-Or.is, ← c.deref-in-Or.ensures, ← c.deref-in-Or-2.ensures) (c.eval_or.ensures c.args.at)
+pub climb-returns-in-Index : goal.climb-returns-in-Index
+climb-returns-in-Index t c = rw (c.in-Index.is, ← c.deref-in-Index.ensures) (c.climb_index.ensures c.args.at (null 0))
 
-pub eval_node-returns-in-Index : goal.eval_node-returns-in-Index
-eval_node-returns-in-Index t c = rw (c.in-Index.is, ← c.deref-in-Index.ensures, ← c.deref-in-Index-2.ensures) (c.eval_index.ensures c.args.at)
+pub eval_first-loop-first-preserved : goal.eval_first-loop-first-preserved
+eval_first-loop-first-preserved t c =
+    let f = c.args.self.now in
+    let vs = c.args.variables.now in
+    let inner = c.loop-first.inner in
+    let first = c.in-Some.first.now in
+    let n = expression_weight c.args.e.now in
+    let here : first_of inner.now ≡ Some first = ap first_of (sym c.inner.view_is) ∙ sym (c.in-Some.ensures c.inner.inside.at) in
+    record {
+      told = λ p.
+          ap (λ es. after (value_at f vs first p) (climbs f vs es)) c.in_ok-push.ensures.items
+          ∙ waits f vs c.loop-first.waiting.items inner first here p
+          ∙ c.loop-first.invariant.told p;
+      inner = omega (arith, first_lighter inner.now first here, c.loop-first.invariant.inner);
+      waiting = subst (AreWithin n) (sym c.in_ok-push.ensures.items) (within_more n c.loop-first.waiting.items inner c.loop-first.invariant.waiting c.loop-first.invariant.inner);
+    }
+
+pub eval_first-climb-requires : goal.eval_first-climb-requires
+eval_first-climb-requires t c =
+    let n = expression_weight c.args.e.now in
+    let outer = c.in-Some-pop.outer in
+    let lighter = within_less n c.pop.new.self.items outer (subst (AreWithin n) c.in-Some-pop.ensures.items c.loop-outer.invariant.waiting) in
+    let same : expression_weight (expression_of c.outer.inside.at c.outer.inside.node) ≡ expression_weight outer.now = ap expression_weight c.outer.view_is in
+    omega (arith, lighter.1, same, c.decreases)
+
+pub eval_first-returns-in_err-value-2 : goal.eval_first-returns-in_err-value-2
+eval_first-returns-in_err-value-2 t c =
+    let q = err_from_is_err_and c.from_residual-in_err-value-2.result c.from_residual-in_err-value-2.ensures.1 in
+    rw (q.1, q.2)
+    (rest_stops c.args.self.now c.args.variables.now c.loop-outer.waiting.items c.pop.new.self.items c.in-Some-pop.outer (expression_of c.outer.inside.at c.outer.inside.node) c.loop-outer.value c.loop-outer.run
+    (value_at c.args.self.now c.args.variables.now c.args.e.now c.args.run.now) c.in_err-value-2.field-0.0 c.climb.new.run
+    c.in-Some-pop.ensures.items c.outer.view_is c.loop-outer.invariant.told c.in_err-value-2.ensures)
+
+pub eval_first-loop-outer-preserved : goal.eval_first-loop-outer-preserved
+eval_first-loop-outer-preserved t c =
+    let n = expression_weight c.args.e.now in
+    record {
+      told =
+          rest_goes c.args.self.now c.args.variables.now c.loop-outer.waiting.items c.pop.new.self.items c.in-Some-pop.outer (expression_of c.outer.inside.at c.outer.inside.node) c.loop-outer.value c.loop-outer.run
+          (value_at c.args.self.now c.args.variables.now c.args.e.now c.args.run.now) c.in_ok-value-2.value c.climb.new.run
+          c.in-Some-pop.ensures.items c.outer.view_is c.loop-outer.invariant.told c.in_ok-value-2.ensures;
+      waiting = (within_less n c.pop.new.self.items c.in-Some-pop.outer (subst (AreWithin n) c.in-Some-pop.ensures.items c.loop-outer.invariant.waiting)).0;
+    }
 
 pub exec_node-returns-in-Let : goal.exec_node-returns-in-Let
 exec_node-returns-in-Let t c = rw c.in-Let.is (c.exec_let.ensures c.args.at)

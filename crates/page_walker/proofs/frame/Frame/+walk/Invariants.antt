@@ -1,4 +1,4 @@
-use Rattle.std.proofs.Common.{ℕ, ◌+◌, ◌*◌, ◌≡◌, ◌≤◌, ◌++◌, map, drop}
+use Rattle.std.proofs.Common.{ℕ, ◌+◌, ◌*◌, ◌≡◌, ◌≤◌, ◌++◌, length, map, drop}
 use Rattle.script_tree.specs.Datum.{Datum}
 use Rattle.script_tree.specs.ExpressionView.{expression_of, query_of, condition_of, assignment_of}
 use Rattle.script_tree.specs.ExpressionWeight.{expression_weight, query_weight, expression_list_weight, query_list_weight, condition_list_weight, assignment_list_weight}
@@ -6,33 +6,38 @@ use Rattle.script_tree.specs.StatementView.{statement_of, else_of}
 use Rattle.script_tree.specs.Syntax.{while_}
 use Rattle.script_tree.specs.SyntaxLists.{statements_of}
 use Rattle.script_meaning.specs.Evaluate.{exec}
-use Rattle.script_meaning.specs.Run.{after, give}
+use Rattle.script_meaning.specs.Run.{Progress, after, give}
 use Rattle.script_values.specs.Queries.{unchecked_of}
 use Rattle.script_index.specs.Found.{table_of}
-use Rattle.page_walker.specs.Frames.{later_in, nodes_left, values_at, all_operands_at, tests_at, changes_at, block_at, turns_at}
+use Rattle.page_walker.specs.Frames.{later_in, nodes_left, value_at, values_at, all_operands_at, tests_at, changes_at, block_at, turns_at}
 use Rattle.page_walker.specs.Nodes.{statement_nodes, else_nodes, block_nodes}
+use Rattle.page_walker.specs.Rows.{climbs}
+use Rattle.page_walker.proofs.Rows.{AreWithin}
 use Rattle.page_walker.proofs.frame.Frame.+walk.Given as goal
 
 abbrev pub decreases-eval : goal.decreases-eval
 decreases-eval l = nodes_left l.self.now.walker.now.program l.self.now.fuel + (4 * expression_weight l.e.now + 2)
 
-abbrev pub decreases-eval_node : goal.decreases-eval_node
-decreases-eval_node l = nodes_left l.self.now.walker.now.program l.self.now.fuel + (4 * expression_weight (expression_of l.at l.node.now) + 1)
+abbrev pub decreases-eval_first : goal.decreases-eval_first
+decreases-eval_first l = nodes_left l.self.now.walker.now.program l.self.now.fuel + (4 * expression_weight l.e.now + 3)
 
-abbrev pub decreases-eval_unary : goal.decreases-eval_unary
-decreases-eval_unary l = nodes_left l.self.now.walker.now.program l.self.now.fuel + (4 * expression_weight l.e.now + 3)
+abbrev pub decreases-eval_atom : goal.decreases-eval_atom
+decreases-eval_atom l = nodes_left l.self.now.walker.now.program l.self.now.fuel + (4 * expression_weight (expression_of l.at l.node.now) + 1)
 
-abbrev pub decreases-eval_binary : goal.decreases-eval_binary
-decreases-eval_binary l = nodes_left l.self.now.walker.now.program l.self.now.fuel + (4 * (expression_weight l.a.now + expression_weight l.b.now) + 3)
+abbrev pub decreases-climb : goal.decreases-climb
+decreases-climb l = nodes_left l.self.now.walker.now.program l.self.now.fuel + (4 * expression_weight (expression_of l.at l.node.now))
 
-abbrev pub decreases-eval_and : goal.decreases-eval_and
-decreases-eval_and l = nodes_left l.self.now.walker.now.program l.self.now.fuel + (4 * (expression_weight l.a.now + expression_weight l.b.now) + 3)
+abbrev pub decreases-climb_binary : goal.decreases-climb_binary
+decreases-climb_binary l = nodes_left l.self.now.walker.now.program l.self.now.fuel + (4 * expression_weight l.b.now + 3)
 
-abbrev pub decreases-eval_or : goal.decreases-eval_or
-decreases-eval_or l = nodes_left l.self.now.walker.now.program l.self.now.fuel + (4 * (expression_weight l.a.now + expression_weight l.b.now) + 3)
+abbrev pub decreases-climb_and : goal.decreases-climb_and
+decreases-climb_and l = nodes_left l.self.now.walker.now.program l.self.now.fuel + (4 * expression_weight l.b.now + 3)
 
-abbrev pub decreases-eval_index : goal.decreases-eval_index
-decreases-eval_index l = nodes_left l.self.now.walker.now.program l.self.now.fuel + (4 * (expression_weight l.a.now + expression_weight l.b.now) + 3)
+abbrev pub decreases-climb_or : goal.decreases-climb_or
+decreases-climb_or l = nodes_left l.self.now.walker.now.program l.self.now.fuel + (4 * expression_weight l.b.now + 3)
+
+abbrev pub decreases-climb_index : goal.decreases-climb_index
+decreases-climb_index l = nodes_left l.self.now.walker.now.program l.self.now.fuel + (4 * expression_weight l.b.now + 3)
 
 abbrev pub decreases-eval_list : goal.decreases-eval_list
 decreases-eval_list l = nodes_left l.self.now.walker.now.program l.self.now.fuel + (4 * expression_list_weight l.members.now + 3)
@@ -123,6 +128,24 @@ decreases-turns l = nodes_left l.self.now.walker.now.program l.self.now.fuel + (
 
 abbrev pub decreases-turn : goal.decreases-turn
 decreases-turn l = nodes_left l.self.now.walker.now.program l.self.now.fuel + (4 * block_nodes l.body.now + 2)
+
+-- the expression has the value of the inner one, and then those that wait do the rest
+abbrev pub invariant-eval_first-loop-first : goal.invariant-eval_first-loop-first
+invariant-eval_first-loop-first l = record {
+  told : (p : Progress) → after (value_at l.self l.variables l.inner p) (climbs l.self l.variables l.waiting.items) ≡ value_at l.self l.variables l.e p;
+  inner : expression_weight l.inner ≤ expression_weight l.e;
+  waiting : AreWithin (expression_weight l.e) l.waiting.items;
+}
+
+-- those that wait do the rest
+abbrev pub invariant-eval_first-loop-outer : goal.invariant-eval_first-loop-outer
+invariant-eval_first-loop-outer l = record {
+  told : climbs l.self l.variables l.waiting.items l.value l.run ≡ value_at l.self l.variables l.e l.fn.run;
+  waiting : AreWithin (expression_weight l.e) l.waiting.items;
+}
+
+abbrev pub decreases-eval_first-loop-outer : goal.decreases-eval_first-loop-outer
+decreases-eval_first-loop-outer l = length l.waiting.items
 
 -- the values so far, and those of the operands that are left, are all values
 abbrev pub invariant-eval_all-loop-operand : goal.invariant-eval_all-loop-operand

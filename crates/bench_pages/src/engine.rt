@@ -1,33 +1,33 @@
 //! What runs a page.
-use anyhow::bail;
+use crate::inputs::request_of;
 use machine::{Machine, MachineStep};
 use page_walker::{Walker, WalkerStep};
-use script_code::translate::Code;
+use script_check::program::Program;
+use script_code::translate::{Code, translate};
 use script_index::Index;
 use script_tree::limits::MOST_OPERATIONS;
 use script_tree::request::Request;
 use script_tree::value::Value;
-use std::alloc::Global;
+use std::alloc::{AllocError, Global};
 
-#[derive(Clone, Copy)]
-pub enum Engine {
-    Machine,
-    Walker,
-}
-
-impl Engine {
-    /// The engine of this name.
-    pub fn named(name: &str) -> Option<Engine> {
-        match name {
-            "machine" => Some(Engine::Machine),
-            "walker" => Some(Engine::Walker),
-            _ => None,
-        }
+/// The steps of so many runs by the machine.
+pub fn steps_by_machine(
+    alloc: Global,
+    program: &Program,
+    path: &str,
+    times: u32,
+) -> Result<u64, AllocError> {
+    let code = translate(alloc, program)?;
+    let mut steps = 0u64;
+    for _ in 0..times {
+        let spent = machine_run(alloc, &code, request_of(alloc, path)?)?;
+        steps = steps.saturating_add(u64::from(spent));
     }
+    Ok(steps)
 }
 
 /// The steps of the request's run by the machine.
-pub fn steps_by_machine(alloc: Global, code: &Code, request: Request) -> anyhow::Result<u32> {
+fn machine_run(alloc: Global, code: &Code, request: Request) -> Result<u32, AllocError> {
     let mut machine = Machine::start(alloc, code, request);
     for _ in 0..=MOST_OPERATIONS {
         match machine.run()? {
@@ -35,11 +35,28 @@ pub fn steps_by_machine(alloc: Global, code: &Code, request: Request) -> anyhow:
             MachineStep::Ends(_, path) => return Ok(path.steps),
         }
     }
-    bail!("more operations than a request has")
+    Err(AllocError)
 }
 
-/// The steps of the request's run by the walker, which begins again after each operation.
-pub fn steps_by_walker(alloc: Global, index: &Index, request: &Request) -> anyhow::Result<u32> {
+/// The steps of so many runs by the walker.
+pub fn steps_by_walker(
+    alloc: Global,
+    program: &Program,
+    path: &str,
+    times: u32,
+) -> Result<u64, AllocError> {
+    let index = Index::new(alloc, program)?;
+    let mut steps = 0u64;
+    for _ in 0..times {
+        let spent = walker_run(alloc, &index, &request_of(alloc, path)?)?;
+        steps = steps.saturating_add(u64::from(spent));
+    }
+    Ok(steps)
+}
+
+/// The steps of the request's run by the walker, which begins again after each operation. None has
+/// more operations than a request may.
+fn walker_run(alloc: Global, index: &Index, request: &Request) -> Result<u32, AllocError> {
     let walker = Walker::new(index, request);
     let mut answers = Vec::new(alloc);
     for _ in 0..=MOST_OPERATIONS {
@@ -48,5 +65,5 @@ pub fn steps_by_walker(alloc: Global, index: &Index, request: &Request) -> anyho
             WalkerStep::Ends(_, path) => return Ok(path.steps),
         }
     }
-    bail!("more operations than a request has")
+    Err(AllocError)
 }

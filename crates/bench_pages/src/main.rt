@@ -4,41 +4,48 @@
 #![tactic(auto)]
 
 mod engine;
-mod job;
+mod inputs;
 
-use crate::job::Job;
-use anyhow::Context;
-use std::process::ExitCode;
+use crate::engine::{steps_by_machine, steps_by_walker};
+use crate::inputs::program_of;
+use anyhow::{Context, bail};
+use script_check::program::Program;
+use std::alloc::{AllocError, Global};
 use std::{env, fs};
 
-/// The status where the words or the program's file are at fault.
-const REFUSED: u8 = 2;
-
-fn main(rt: HostRuntime) -> ExitCode {
-    match run(&rt) {
-        Ok(()) => ExitCode::SUCCESS,
-        Err(error) => {
-            let _ = eprintln!(rt; "bench_pages: {error:#}");
-            ExitCode::from(REFUSED)
-        }
+/// The steps of so many runs of the page of this path, where there is an engine of this name.
+fn steps(
+    alloc: Global,
+    engine: &str,
+    program: &Program,
+    path: &str,
+    times: u32,
+) -> Result<Option<u64>, AllocError> {
+    match engine {
+        "machine" => Ok(Some(steps_by_machine(alloc, program, path, times)?)),
+        "walker" => Ok(Some(steps_by_walker(alloc, program, path, times)?)),
+        _ => Ok(None),
     }
 }
 
-/// Does what the words ask.
-fn run(rt: &HostRuntime) -> anyhow::Result<()> {
-    let alloc = rt.alloc();
-    let job = job_of(rt)?;
-    let text = fs::read(rt, job.file()).context(format_args!("reading {}", job.file()))?;
-    let steps = job.steps(alloc, &text)?;
-    println!(rt; "steps {steps}")?;
-    Ok(())
+/// What these words ask for.
+fn run(rt: &HostRuntime, words: &[String]) -> anyhow::Result<u64> {
+    let [engine, file, path, times] = words else {
+        bail!("the words are: ENGINE FILE PATH TIMES");
+    };
+    let times = times.parse().context("TIMES is a number")?;
+    let text = fs::read(rt, file.as_str()).context("reading FILE")?;
+    let program = program_of(rt.alloc(), &text).context("FILE holds no program")?;
+    let steps = steps(rt.alloc(), engine.as_str(), &program, path.as_str(), times)?;
+    steps.context("the engine is machine or walker")
 }
 
-/// What the words after the program's name ask.
-fn job_of(rt: &HostRuntime) -> anyhow::Result<Job> {
+fn main(rt: HostRuntime) -> anyhow::Result<()> {
     let mut words = Vec::new(rt.alloc());
-    for word in env::args(rt)?.skip(1) {
+    for word in env::args(&rt)?.skip(1) {
         words.push(word)?;
     }
-    Job::from_words(words.as_slice())
+    let steps = run(&rt, words.as_slice())?;
+    println!(rt; "steps {steps}")?;
+    Ok(())
 }

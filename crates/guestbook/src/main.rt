@@ -5,6 +5,7 @@
 use commands::run::run;
 use commands::words::Words;
 use outside::{FixedClock, MemHouse, MemShelf, MemSink, OpenGate};
+use std::alloc::{AllocError, Global};
 use std::fs;
 
 /// The inputs, in the order of the words.
@@ -24,25 +25,28 @@ const WORDS: [&str; 10] = [
 ];
 
 /// What the clock shows, in milliseconds since the start of 1970.
-const TIME: u64 = 1_700_000_200_000;
+const CLOCK: FixedClock = FixedClock(1_700_000_200_000);
 
-fn main(rt: HostRuntime) -> anyhow::Result<()> {
-    let alloc = rt.alloc();
-    let mut shelf = MemShelf::new(alloc, Vec::new(alloc));
-    for name in INPUTS {
-        shelf.put(name, &fs::read(&rt, name)?)?;
-    }
+/// The status and the line with which the recording over these files ends.
+fn recorded(alloc: Global, shelf: &mut MemShelf) -> Result<String, AllocError> {
     let mut words = Words::new(alloc);
     for word in WORDS {
         words.push(word)?;
     }
     let mut out = MemSink::new(alloc, Vec::new(alloc), None);
     let mut house = MemHouse::new(alloc, Vec::new(alloc), Vec::new(alloc));
-    let clock = FixedClock(TIME);
     let status = run(
-        alloc, &words, &mut shelf, &mut out, &mut house, &clock, &OpenGate,
+        alloc, &words, shelf, &mut out, &mut house, &CLOCK, &OpenGate,
     );
     let line = String::from_utf8_lossy(alloc, out.written())?;
-    print!(rt; "{status} {line}")?;
+    format!(in alloc; "{status} {line}")
+}
+
+fn main(rt: HostRuntime) -> anyhow::Result<()> {
+    let mut shelf = MemShelf::new(rt.alloc(), Vec::new(rt.alloc()));
+    for name in INPUTS {
+        shelf.put(name, &fs::read(&rt, name)?)?;
+    }
+    print!(rt; "{}", recorded(rt.alloc(), &mut shelf)?)?;
     Ok(())
 }

@@ -1,96 +1,99 @@
-//! Runs the rows of the files that lie beside it, programs that are checked, replays and recordings, each over memory, and tells
-//! those that end in another way than the row says.
+//! Runs the rows of the files that lie beside it, programs that are checked, replays and recordings,
+//! each over memory, and tells those that end in another way than the row says.
 #![tactic(auto)]
 
-mod files;
-mod fitting;
-mod machines;
-mod open_run;
-mod rows;
+mod both;
+mod row;
 mod runs;
 mod same;
-mod stopped_run;
+mod spelled;
+mod tally;
 
-use machines::compare;
-use rows::Rows;
-use runs::{checked, recorded, replayed};
+use crate::both::agreement;
+use crate::row::Row;
+use crate::runs::{checked, recorded, replay_shelf, replayed};
+use crate::tally::{Tally, told};
 use std::alloc::Global;
 use std::fs;
 
 /// The files of rows.
-const FILES: [&str; 3] = ["checks.toml", "replays.toml", "records.toml"];
+const CHECKS: &str = "checks.txt";
+
+const REPLAYS: &str = "replays.txt";
+
+const RECORDS: &str = "records.txt";
 
 /// How the end of a replay that agrees begins.
 const AGREES: &str = "0 agrees";
 
-/// Tells whether the row ends as it should, and prints it where it doesn't.
-fn is_as_wanted(rt: &impl Print, what: &str, wanted: &str, ended: &str) -> anyhow::Result<bool> {
-    if ended != wanted {
-        println!(rt; "{what}: {ended}, not {wanted}")?;
-    }
-    Ok(ended == wanted)
-}
+/// What is said of one that agrees by the machine too.
+const AGREES_BY_BOTH: &str = "agrees by the machine";
 
-/// How many of these rows don't end as they should.
-fn differing(rt: &impl Print, alloc: Global, rows: &Rows) -> anyhow::Result<usize> {
-    let mut count = 0usize;
-    for row in &rows.checks {
-        let ended = checked(alloc, row)?;
-        if !is_as_wanted(rt, row.program.as_str(), row.ends.as_str(), ended.as_str())? {
-            count = count.saturating_add(1);
+/// Runs the programs that are checked: a line each, with its end before the program.
+fn run_checks(rt: &HostRuntime, alloc: Global) -> anyhow::Result<()> {
+    let text = fs::read_to_string(rt, CHECKS)?;
+    let mut tally = Tally::new();
+    for line in text.as_str().lines() {
+        if let Some((ends, program)) = line.split_once(" |")
+            && !line.starts_with('#')
+        {
+            let program = program.strip_prefix(' ').unwrap_or(program);
+            let ended = told(alloc, checked(alloc, program))?;
+            tally.count(rt, program, ends, ended.as_str())?;
         }
     }
-    for row in &rows.replays {
-        let ended = replayed(alloc, row)?;
-        if !is_as_wanted(rt, row.what.as_str(), row.ends.as_str(), ended.as_str())? {
-            count = count.saturating_add(1);
-        }
-    }
-    for row in &rows.records {
-        let ended = recorded(alloc, row)?;
-        if !is_as_wanted(rt, row.what.as_str(), row.ends.as_str(), ended.as_str())? {
-            count = count.saturating_add(1);
-        }
-    }
-    Ok(count)
+    tally.tell(rt, CHECKS, "rows")
 }
 
-/// How many rows there are.
-fn row_count(rows: &Rows) -> usize {
-    let checks = rows.checks.len();
-    let replays = rows.replays.len();
-    let records = rows.records.len();
-    checks.saturating_add(replays).saturating_add(records)
-}
-
-/// How many replays of these rows agree, and how many of those the machine doesn't run as the walker does.
-fn by_machine(rt: &impl Print, alloc: Global, rows: &Rows) -> anyhow::Result<(usize, usize)> {
-    let mut count = 0usize;
-    let mut differ = 0usize;
-    for row in &rows.replays {
-        if row.ends.as_str().starts_with(AGREES) {
-            count = count.saturating_add(1);
-            if let Err(error) = compare(alloc, row) {
-                println!(rt; "{} by the machine: {error:#}", row.what)?;
-                differ = differ.saturating_add(1);
+/// Runs the replays, and those that agree by the machine too.
+fn run_replays(rt: &HostRuntime, alloc: Global) -> anyhow::Result<()> {
+    let text = fs::read_to_string(rt, REPLAYS)?;
+    let mut tally = Tally::new();
+    let mut by_machine = Tally::new();
+    for paragraph in text.as_str().split("\n\n") {
+        let row = Row::new(paragraph)?;
+        if let Some(name) = row.field("row") {
+            let ends = row.said("ends");
+            let ended = told(alloc, replayed(alloc, row))?;
+            tally.count(rt, name, ends, ended.as_str())?;
+            if ends.starts_with(AGREES) {
+                let ended = told(alloc, by_both(alloc, row))?;
+                by_machine.count(rt, name, AGREES_BY_BOTH, ended.as_str())?;
             }
         }
     }
-    Ok((count, differ))
+    tally.tell(rt, REPLAYS, "rows")?;
+    by_machine.tell(rt, REPLAYS, "rows by the machine")
+}
+
+/// Whether the replay agrees by the machine too.
+fn by_both(alloc: Global, row: Row<'_>) -> anyhow::Result<String> {
+    let mut shelf = replay_shelf(alloc, row)?;
+    let told = match agreement(alloc, &mut shelf, row.said("path")) {
+        Some(true) => AGREES_BY_BOTH,
+        Some(false) => "differs by the machine",
+        None => "another run by the machine",
+    };
+    Ok(String::from_str(alloc, told)?)
+}
+
+/// Runs the recordings.
+fn run_records(rt: &HostRuntime, alloc: Global) -> anyhow::Result<()> {
+    let text = fs::read_to_string(rt, RECORDS)?;
+    let mut tally = Tally::new();
+    for paragraph in text.as_str().split("\n\n") {
+        let row = Row::new(paragraph)?;
+        if let Some(name) = row.field("row") {
+            let ended = told(alloc, recorded(alloc, row))?;
+            tally.count(rt, name, row.said("ends"), ended.as_str())?;
+        }
+    }
+    tally.tell(rt, RECORDS, "rows")
 }
 
 fn main(rt: HostRuntime) -> anyhow::Result<()> {
     let alloc = rt.alloc();
-    for name in FILES {
-        let text = fs::read_to_string(&rt, name)?;
-        let rows: Rows = toml::from_str(alloc, text.as_str())?;
-        let count = row_count(&rows);
-        let differ = differing(&rt, alloc, &rows)?;
-        println!(rt; "{name}: {count} rows, {differ} differ")?;
-        if !rows.replays.is_empty() {
-            let (count, differ) = by_machine(&rt, alloc, &rows)?;
-            println!(rt; "{name}: {count} rows by the machine, {differ} differ")?;
-        }
-    }
-    Ok(())
+    run_checks(&rt, alloc)?;
+    run_replays(&rt, alloc)?;
+    run_records(&rt, alloc)
 }

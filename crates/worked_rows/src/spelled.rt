@@ -1,0 +1,116 @@
+//! The bytes of a row's trace and schedule, as docs/formats.md says.
+use crate::row::{Row, parted, text_of};
+use anyhow::Context;
+use std::alloc::Global;
+
+/// The bytes of a trace of the row's events.
+pub fn trace_of(alloc: Global, row: Row<'_>) -> anyhow::Result<Vec<u8>> {
+    let mut trace = b"SSCOTRC1".to_vec(alloc)?;
+    for line in row.text().lines() {
+        match parted(line) {
+            ("request", said) => put_bytes(&mut trace, &request_of(alloc, said)?)?,
+            ("response", said) => put_bytes(&mut trace, &response_of(alloc, said)?)?,
+            _ => (),
+        }
+    }
+    Ok(trace)
+}
+
+/// The bytes of a schedule of these moments, parted by blanks; `X0*9` stands for nine of one.
+pub fn schedule_of(alloc: Global, moments: &str) -> anyhow::Result<Vec<u8>> {
+    let mut schedule = b"SSCOSCH1".to_vec(alloc)?;
+    for word in moments.split_whitespace() {
+        let (word, times) = word.split_once('*').unwrap_or((word, "1"));
+        let moment = moment_of(alloc, word)?;
+        for _ in 0..times.parse::<u32>()? {
+            put_bytes(&mut schedule, &moment)?;
+        }
+    }
+    Ok(schedule)
+}
+
+/// The payload of a request: its id, its method, its path, its parameters, and after a bar its body.
+fn request_of(alloc: Global, said: &str) -> anyhow::Result<Vec<u8>> {
+    let (head, body) = said.split_once(" | ").unwrap_or((said, ""));
+    let (id, head) = parted(head);
+    let (method, head) = parted(head);
+    let (path, parameters) = parted(head);
+    let mut payload = payload_of(alloc, 1, id)?;
+    put_text(alloc, &mut payload, method)?;
+    put_text(alloc, &mut payload, path)?;
+    put_parameters(alloc, &mut payload, parameters)?;
+    put_text(alloc, &mut payload, body)?;
+    Ok(payload)
+}
+
+/// Each word is a name, `=` and a value.
+fn put_parameters(alloc: Global, payload: &mut Vec<u8>, words: &str) -> anyhow::Result<()> {
+    let count = words.split_whitespace().count();
+    put_count(payload, count)?;
+    for word in words.split_whitespace() {
+        let (name, value) = word.split_once('=').context("a parameter")?;
+        put_text(alloc, payload, name)?;
+        put_text(alloc, payload, value)?;
+    }
+    Ok(())
+}
+
+/// The payload of a response: its id, its status, its body.
+fn response_of(alloc: Global, said: &str) -> anyhow::Result<Vec<u8>> {
+    let (id, rest) = parted(said);
+    let (status, body) = parted(rest);
+    let mut payload = payload_of(alloc, 2, id)?;
+    payload.extend_from_slice(&status.parse::<u16>()?.to_be_bytes())?;
+    put_text(alloc, &mut payload, body)?;
+    Ok(payload)
+}
+
+/// The payload of a moment: `A0`, `X0`, `X0=5` or `D0`.
+fn moment_of(alloc: Global, word: &str) -> anyhow::Result<Vec<u8>> {
+    if let Some(id) = word.strip_prefix('A') {
+        return payload_of(alloc, 1, id);
+    }
+    if let Some(id) = word.strip_prefix('D') {
+        return payload_of(alloc, 3, id);
+    }
+    let act = word.strip_prefix('X').context("a moment")?;
+    let (id, number) = act.split_once('=').unwrap_or((act, ""));
+    let mut payload = payload_of(alloc, 2, id)?;
+    put_choice(&mut payload, number)?;
+    Ok(payload)
+}
+
+fn put_choice(payload: &mut Vec<u8>, number: &str) -> anyhow::Result<()> {
+    if number.is_empty() {
+        payload.push(0)?;
+    } else {
+        payload.push(1)?;
+        payload.extend_from_slice(&number.parse::<i64>()?.to_be_bytes())?;
+    }
+    Ok(())
+}
+
+/// A payload that begins with its kind and an id.
+fn payload_of(alloc: Global, kind: u8, id: &str) -> anyhow::Result<Vec<u8>> {
+    let mut payload = Vec::new(alloc);
+    payload.push(kind)?;
+    payload.extend_from_slice(&id.parse::<u32>()?.to_be_bytes())?;
+    Ok(payload)
+}
+
+fn put_text(alloc: Global, payload: &mut Vec<u8>, spelled: &str) -> anyhow::Result<()> {
+    let text = text_of(alloc, spelled)?;
+    put_bytes(payload, text.as_bytes())
+}
+
+/// Puts the bytes behind their length.
+fn put_bytes(file: &mut Vec<u8>, bytes: &[u8]) -> anyhow::Result<()> {
+    put_count(file, bytes.len())?;
+    file.extend_from_slice(bytes)?;
+    Ok(())
+}
+
+fn put_count(file: &mut Vec<u8>, count: usize) -> anyhow::Result<()> {
+    file.extend_from_slice(&u32::try_from(count)?.to_be_bytes())?;
+    Ok(())
+}

@@ -42,10 +42,13 @@ fn statements(alloc: Global, count: i64) -> Result<Statements, AllocError> {
 
 /// How many rows the first table has.
 pub fn row_count(tables: &Tables) -> usize {
-    if tables.widths().is_empty() {
-        return 0;
+    let mut count = 0usize;
+    if !tables.widths().is_empty() {
+        for _row in tables.rows(0) {
+            count = count.saturating_add(1);
+        }
     }
-    tables.rows(0).count()
+    count
 }
 
 /// How many answers the transaction has, where it commits.

@@ -1,19 +1,26 @@
 //! Replays by the walker and by the machine at once.
+ghost use Rattle.object_set.specs.ObjectSets.{IsSetOf};
+
 use crate::runs::{PROGRAM, SCHEDULE, STATE, TRACE};
 use crate::same::{is_same_op, is_same_response};
 use command_inputs::{read_program, read_schedule, read_state, read_trace};
 use machine::{Machine, MachineStep};
+use object_set::ObjectSet;
 use outside::MemShelf;
 use page_walker::{Walker, WalkerStep};
+use replayer::ReplayReason;
 use replayer::plain_runner::PlainRunner;
 use replayer::replay::replay_by;
 use replayer::runner::{Next, Runner};
+use schedule_format::schedule_file::ScheduleFile;
+use script_check::program::Program;
 use script_code::translate::{Code, translate};
 use script_index::Index;
 use script_tree::path::{End, Path};
 use script_tree::request::{Parameter, Parameters, Request};
 use script_tree::value::Value;
 use std::alloc::{AllocError, Global};
+use trace_format::trace_file::TraceFile;
 
 /// How many bytes are read of a file at most.
 const MOST_BYTES: usize = 1 << 30;
@@ -144,18 +151,47 @@ fn parameters_of(alloc: Global, parameters: &[Parameter]) -> Result<Parameters, 
     Ok(copies)
 }
 
-/// Whether the replay of these files agrees; nothing where the machine and the walker don't say the
-/// same, or a path doesn't begin so.
-pub fn agreement(alloc: Global, shelf: &mut MemShelf, path: &str) -> Option<bool> {
-    let program = read_program(alloc, shelf, PROGRAM, MOST_BYTES).ok()?;
-    let state = read_state(alloc, shelf, STATE, MOST_BYTES, &program).ok()?;
+/// The first difference of the schedule from the trace, by both.
+fn difference(
+    alloc: Global,
+    program: &Program,
+    start: ObjectSet,
+    files: (&TraceFile, &ScheduleFile),
+    path: &str,
+) -> Result<Option<ReplayReason>, AllocError>
+    requires { IsSetOf program.now start }
+{
+    let (trace, schedule) = files;
+    let index = Index::new(alloc, program)?;
+    let code = translate(alloc, program)?;
+    let runner = BothRunner { code: &code, path };
+    replay_by(alloc, &runner, &index, start, trace, schedule)
+}
+
+/// Whether the schedule of the shelf agrees with its trace, from these objects on.
+fn agrees(
+    alloc: Global,
+    shelf: &mut MemShelf,
+    program: &Program,
+    start: ObjectSet,
+    path: &str,
+) -> Option<bool>
+    requires { IsSetOf program.now start }
+{
     let trace = read_trace(alloc, shelf, TRACE, MOST_BYTES).ok()?;
     let schedule = read_schedule(alloc, shelf, SCHEDULE, MOST_BYTES)
         .ok()?
         .ok()?;
-    let index = Index::new(alloc, &program).ok()?;
-    let code = translate(alloc, &program).ok()?;
-    let runner = BothRunner { code: &code, path };
-    let difference = replay_by(alloc, &runner, &index, state, &trace, &schedule).ok()?;
-    Some(difference.is_none())
+    let found = difference(alloc, program, start, (&trace, &schedule), path).ok()?;
+    Some(found.is_none())
+}
+
+/// Whether the replay of these files agrees; nothing where the machine and the walker don't say the
+/// same, or a path doesn't begin so.
+pub fn agreement(alloc: Global, shelf: &mut MemShelf, path: &str) -> Option<bool> {
+    let program = read_program(alloc, shelf, PROGRAM, MOST_BYTES).ok()?;
+    match read_state(alloc, shelf, STATE, MOST_BYTES, &program) {
+        Ok(start) => agrees(alloc, shelf, &program, start, path),
+        Err(_) => None,
+    }
 }

@@ -7,7 +7,7 @@ use Rattle.script_tree.specs.Programs.{Program}
 use Rattle.history.specs.Balanced.{TracesAreBalanced}
 use Rattle.history.specs.Names.{names_from, rid_at}
 use Rattle.history.specs.Rooms.{Room, AreSteps, and_answer, empty_room, onward, room_after}
-use Rattle.history.specs.TraceOf.{trace_in}
+use Rattle.history.specs.TraceOf.{trace_in, trace_of}
 use Rattle.history.specs.Visits.{Visit, visit_of}
 use Rattle.history.specs.declared.happening.Happening.{Happening}
 use Rattle.history.specs.declared.happening.Happening.TheVariants.{Arrive, Act, Depart}
@@ -28,7 +28,7 @@ same_rid (Some v) d = refl
 follows : (program : Program) (room : Room) (history : List Happening) → AreSteps program room history
     → ((seat : ℕ) → (room_after room history).open_at seat ≡ None) → Follows room.arrived (ids_in room) (trace_in (names_from room history))
 follows program room [] steps closed = none_follows room.arrived (ids_in room) (λ seat. ap (option_map rid_of) (closed seat))
-follows program room (Arrive seat request ∷ rest) (free, steps) closed =
+follows program room (Arrive seat request ∷ rest) ((free, short), steps) closed =
     let after = onward room (Arrive seat request) in
     came_follows room.arrived (ids_in room) seat (ap (option_map rid_of) free) request.value (trace_in (names_from after rest))
     (subst (λ ids. Follows (suc room.arrived) ids (trace_in (names_from after rest))) (sym (mapped_seated rid_of seat (Some (visit_of room.arrived request.value [])) room.open_at))
@@ -47,5 +47,6 @@ follows program room (Depart seat response path ∷ rest) ((v, here, ends), step
     (follows program after rest steps closed))
 
 pub balanced : TracesAreBalanced
+unfolding trace_of
 balanced program start history legal closed =
     balances (ids_in (empty_room start)) (trace_in (names_from (empty_room start) history)) (λ seat. refl) (follows program (empty_room start) history legal closed)

@@ -3,7 +3,6 @@ pub mod Histories
 pub mod Journals
 pub mod Names
 pub mod Others
-pub mod Paths
 pub mod Recordings
 pub mod RecordingView
 pub mod ReportOf

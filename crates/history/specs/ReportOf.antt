@@ -1,20 +1,16 @@
 -- The report of a history: how many operations each request did, the log of each object, and which requests took the same path.
-use Rattle.std.specs.Prelude.{ℕ, Bool, not, List, [], ◌∷◌, map, filter, filter_map, length, Option, Some, None, nat_eq, if◌then◌else◌}
+use Rattle.std.specs.Prelude.{ℕ, List, [], ◌∷◌, map, filter_map, length, Option, Some, None, nat_eq, if◌then◌else◌}
+use Rattle.basis.specs.Lists.{firsts}
 use Rattle.script_tree.specs.Objects.{Objects, is_same}
+use Rattle.script_tree.specs.Paths.{same_path}
 use Rattle.script_tree.specs.declared.operation.Object.{Object}
 use Rattle.script_tree.specs.declared.path.Path.{Path}
 use Rattle.report.specs.declared.Count.{Count}
 use Rattle.report.specs.declared.LogEntry.{LogEntry}
 use Rattle.report.specs.declared.Report.{Report}
 use Rattle.history.specs.Names.{Named, came, did, went, names_from}
-use Rattle.history.specs.Paths.{same_path}
 use Rattle.history.specs.Rooms.{empty_room}
 use Rattle.history.specs.declared.happening.Happening.{Happening}
-
--- each at its first place
-abbrev pub firsts : {A : Type 0} → (A → A → Bool) → List A → List A
-firsts alike [] = []
-firsts alike (x ∷ xs) = x ∷ filter (λ y. not (alike x y)) (firsts alike xs)
 
 -- ---- counts
 

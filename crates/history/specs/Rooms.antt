@@ -3,6 +3,7 @@ use Rattle.std.specs.Prelude.{◌≡◌, ℕ, suc, true, List, [], ◌∷◌, �
 use Rattle.script_tree.specs.Datum.{Datum}
 use Rattle.script_tree.specs.Objects.{Objects, acted, plausible, holding}
 use Rattle.script_tree.specs.Programs.{Program}
+use Rattle.script_tree.specs.Requests.{IsRequestWithinLimits}
 use Rattle.script_tree.specs.declared.operation.Op.{Op}
 use Rattle.script_tree.specs.declared.path.Path.{Path}
 use Rattle.script_tree.specs.declared.request.Response.{Response}
@@ -33,9 +34,10 @@ WantsNext program here op = (v : Visit) × (here ≡ Some v) × (ending_of progr
 abbrev pub EndsWith : Program → Option Visit → Response → Path → Type 0
 EndsWith program here response path = (v : Visit) × (here ≡ Some v) × (ending_of program v.request v.answers ≡ Ends response path)
 
--- A request arrives where none is open. It acts as it wants to, with a choice that the object takes. It departs as it ends.
+-- A request within the limits arrives where none is open. It acts as it wants to, with a choice that the object takes. It departs as
+-- it ends.
 abbrev pub IsStep : Program → Room → Happening → Type 0
-IsStep program room (Arrive seat request) = room.open_at seat ≡ None
+IsStep program room (Arrive seat request) = (room.open_at seat ≡ None) × IsRequestWithinLimits request.value
 IsStep program room (Act seat op choice) = WantsNext program (room.open_at seat) op × (plausible op.act choice (room.objects op.object) ≡ true)
 IsStep program room (Depart seat response path) = EndsWith program (room.open_at seat) response path
 

@@ -15,5 +15,5 @@ event_in (went r response path) = Some (Answered r response)
 abbrev pub trace_in : List Named → List TraceEvent
 trace_in names = filter_map event_in names
 
-abbrev pub trace_of : Objects → List Happening → List TraceEvent
+unfoldable pub trace_of : Objects → List Happening → List TraceEvent
 trace_of start history = trace_in (names_from (empty_room start) history)

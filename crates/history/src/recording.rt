@@ -86,6 +86,7 @@ impl Recording {
         requires { MayCome self.old seat (asks.Arrive request.now) }
         ensures { IsTaken seat (asks.Arrive request.now) self.old self.new result }
     {
+        request.keeps_limits();
         let rid = self.arrived;
         let arrived = rid.checked_add(1).ok_or(AllocError)?;
         let visit = Visit::new(self.alloc, rid, request.clone()?);

@@ -1,5 +1,5 @@
 -- From the run of code to the conduct of a request.
-use Rattle.std.proofs.Common.{◌≡◌, ◌+◌, ℕ, true, false, List, [], ◌∷◌, ◌++◌, Some, None, Ok, Err, refl, sym, ap, subst, ◌∙◌, append-nil, append_assoc, arith}
+use Rattle.std.proofs.Common.{◌≡◌, ◌+◌, ℕ, true, false, List, [], ◌∷◌, ◌++◌, length, Some, None, Ok, Err, refl, sym, ap, subst, ◌∙◌, append-nil, append_assoc, arith}
 use Rattle.script_tree.specs.Datum.{Datum, is_within_limits}
 use Rattle.script_tree.specs.Programs.{Program}
 use Rattle.script_tree.specs.Requests.{Request}
@@ -32,20 +32,23 @@ use Rattle.machine.specs.declared.machine.Phase.TheVariants.{Running, Waiting, R
 use Rattle.machine.specs.declared.run.Run.{Run}
 use Rattle.machine.specs.declared.stopped.Stopped.TheVariants.{Wants, Fault}
 use Rattle.machine.proofs.Runs.{reaches_on}
-use Rattle.machine.proofs.Trails.{one_issued}
+use Rattle.machine.proofs.Trails.{one_issued, marks_counted}
 
 -- ---- how the conduct ends
 
 module _ (program : Program) (q : Request) (answers : List Datum) (code : Code) (means : IsCodeOf program code) (entry : Entry) (found : pages_of code q.path ≡ Some entry) where
   -- as a run that comes to an outcome
-  pub ends_so : (o : Outcome Flow) → Reaches (begun q code entry answers) (λ k. o) → (ended entry.number o).ending ≡ (conduct program q answers).ending
-  ends_so o r =
+  pub conducts_so : (o : Outcome Flow) → Reaches (begun q code entry answers) (λ k. o) → ended entry.number o ≡ conduct program q answers
+  conducts_so o r =
       let d = means.conducts q answers in
       let e : r.0 + d.0 ≡ d.0 + r.0 = omega arith in
-      ap (λ z. (ended entry.number z).ending) (sym (r.1 d.0))
-      ∙ ap (λ n. (ended entry.number (begun q code entry answers n)).ending) e
-      ∙ ap (λ p. (code_conduct code.functions.items code.instructions.items p q answers (d.0 + r.0)).ending) (sym found)
-      ∙ ap (λ w. w.ending) (d.1 r.0)
+      ap (ended entry.number) (sym (r.1 d.0))
+      ∙ ap (λ n. ended entry.number (begun q code entry answers n)) e
+      ∙ ap (λ p. code_conduct code.functions.items code.instructions.items p q answers (d.0 + r.0)) (sym found)
+      ∙ d.1 r.0
+
+  pub ends_so : (o : Outcome Flow) → Reaches (begun q code entry answers) (λ k. o) → (ended entry.number o).ending ≡ (conduct program q answers).ending
+  ends_so o r = ap (λ w. w.ending) (conducts_so o r)
 
   -- where no more answers come
   pub none_more : (there : (ops : List Op) (more : List Datum) → ℕ → Outcome Flow) (l : Leads q code entry answers there) (g : ℕ → Outcome Flow) → Reaches (there l.ops []) g → Reaches (begun q code entry answers) g
@@ -158,6 +161,19 @@ module _ (program : Program) (q : Request) (answers : List Datum) (m : Machine) 
       },
     ),
   )
+
+-- ---- a run that waits
+
+-- its marks are those of the conduct
+pub waits_after : (program : Program) (q : Request) (answers : List Datum) (m : Machine) → Follows program q answers m → m.phase ≡ Waiting
+    → length m.run.state.account.trail.items ≡ length (conduct program q answers).trail
+waits_after program q answers m f waiting =
+    let s : OnPage q m.code.now answers m.page m.run Waiting = subst (λ p. StandsIn q m.code.now answers m.page m.run p) waiting f.stands in
+    let l = s.3.1 in
+    let a = m.run.state.account in
+    let o : Outcome Flow = stops (wants s.3.0) (progress_of a l.ops []) in
+    sym (marks_counted a.trail.items l.ops)
+    ∙ ap (λ w. length w.trail) (conducts_so program q answers m.code.now f.code s.0 s.1 o (none_more program q answers m.code.now f.code s.0 s.1 (wanting q m.code.now m.run s.3.0) l (λ k. o) (0, λ k. refl)))
 
 -- ---- a run that ends at an answer or without a page
 

@@ -1,13 +1,13 @@
 -- The trail of a run, and the marks that it stands for.
-use Rattle.std.proofs.Common.{◌≡◌, Bool, List, [], ◌∷◌, ◌++◌, append-nil, refl, sym, ap, ◌∙◌}
+use Rattle.std.proofs.Common.{◌≡◌, suc, Bool, List, [], ◌∷◌, ◌++◌, length, refl, sym, ap, ◌∙◌}
 use Rattle.std.specs.Prelude.{reverse}
-use Rattle.std.proofs.lemmas.List.{reverse-append, reverse-reverse}
+use Rattle.std.proofs.lemmas.List.{reverse-append, reverse-reverse, length-reverse}
 use Rattle.script_meaning.specs.Conduct.{decisions}
 use Rattle.script_meaning.specs.Operations.{Op}
 use Rattle.script_meaning.specs.declared.run.Mark.{Mark}
 use Rattle.script_meaning.specs.declared.run.Mark.TheVariants.{Decided as decided, Issued as issued}
 use Rattle.machine.specs.Decided.{decided_in}
-use Rattle.machine.specs.Gives.{marks_back, marks_of}
+use Rattle.machine.specs.Gives.{marks_back, marks_of, untold}
 use Rattle.machine.specs.declared.account.BareMark.{BareMark}
 use Rattle.machine.specs.declared.account.BareMark.TheVariants as left
 
@@ -42,8 +42,19 @@ more_traces t ts = ap decided_in (last t ts) ∙ decided_both (reverse ts) (t �
 backwards : (ts : List BareMark) (ops : List Op) → decisions (reverse (marks_back ts ops)) ≡ decided_in (reverse ts)
 backwards [] ops = refl
 backwards (left.Decided b ∷ ts) ops = more_marks (decided b) (marks_back ts ops) ∙ ap (λ ds. ds ++ b ∷ []) (backwards ts ops) ∙ sym (more_traces (left.Decided b) ts)
-backwards (left.Issued ∷ ts) [] = backwards ts [] ∙ sym (append-nil (decided_in (reverse ts))) ∙ sym (more_traces left.Issued ts)
+backwards (left.Issued ∷ ts) [] = more_marks (issued untold) (marks_back ts []) ∙ ap (λ ds. ds ++ []) (backwards ts []) ∙ sym (more_traces left.Issued ts)
 backwards (left.Issued ∷ ts) (op ∷ ops) = more_marks (issued op) (marks_back ts ops) ∙ ap (λ ds. ds ++ []) (backwards ts ops) ∙ sym (more_traces left.Issued ts)
 
 pub same_decisions : (ts : List BareMark) (ops : List Op) → decisions (marks_of ts ops) ≡ decided_in ts
 same_decisions ts ops = backwards (reverse ts) ops ∙ ap decided_in (reverse-reverse ts)
+
+-- ---- how many there are
+
+counted_back : (ts : List BareMark) (ops : List Op) → length (marks_back ts ops) ≡ length ts
+counted_back [] ops = refl
+counted_back (left.Decided b ∷ ts) ops = ap suc (counted_back ts ops)
+counted_back (left.Issued ∷ ts) [] = ap suc (counted_back ts [])
+counted_back (left.Issued ∷ ts) (op ∷ ops) = ap suc (counted_back ts ops)
+
+pub marks_counted : (ts : List BareMark) (ops : List Op) → length (marks_of ts ops) ≡ length ts
+marks_counted ts ops = length-reverse (marks_back (reverse ts) ops) ∙ counted_back (reverse ts) ops ∙ length-reverse ts

@@ -18,7 +18,7 @@ use Rattle.machine.specs.declared.ending.MachineStep.{MachineStep}
 use Rattle.machine.specs.declared.ending.MachineStep.TheVariants.{Wants, Ends}
 use Rattle.machine.specs.declared.machine.Machine.{Machine}
 use Rattle.machine.specs.declared.machine.Phase.{Phase}
-use Rattle.machine.specs.declared.machine.Phase.TheVariants.{Running, Waiting, Refused, NoPage, Over}
+use Rattle.machine.specs.declared.machine.Phase.TheVariants.{Running, Waiting, Refused, NoPage, Over, Exhausted}
 use Rattle.machine.specs.declared.run.Run.{Run}
 
 -- ---- what a machine can be asked for
@@ -29,6 +29,7 @@ ready_in Waiting = ⊥
 ready_in Refused = Unit {0}
 ready_in NoPage = Unit {0}
 ready_in Over = ⊥
+ready_in Exhausted = Unit {0}
 
 -- it can be run
 abbrev pub IsReady : Machine → Type 0
@@ -41,6 +42,10 @@ IsWaiting m = m.phase ≡ Waiting
 -- its run is over
 abbrev pub IsOver : Machine → Type 0
 IsOver m = m.phase ≡ Over
+
+-- it ran out of memory
+abbrev pub IsExhausted : Machine → Type 0
+IsExhausted m = m.phase ≡ Exhausted
 
 -- Where it wants an operation, it waits for the answer; where it ends, its run is over.
 abbrev pub WaitsAfter : MachineStep → Machine → Type 0
@@ -81,6 +86,7 @@ IsThere q code entry answers r Waiting = (op : Op) × Leads q code entry answers
 IsThere q code entry answers r Refused = Leads q code entry answers (refused r)
 IsThere q code entry answers r NoPage = ⊥
 IsThere q code entry answers r Over = Unit {0}
+IsThere q code entry answers r Exhausted = ⊥
 
 -- on the page of the request's path
 abbrev pub OnPage : Request → Code → List Datum → (page : ℕ) → Run → Phase → Type 0
@@ -92,6 +98,7 @@ StandsIn q code answers page r Waiting = OnPage q code answers page r Waiting
 StandsIn q code answers page r Refused = OnPage q code answers page r Refused
 StandsIn q code answers page r NoPage = (pages_of code q.path ≡ None) × (answers ≡ [])
 StandsIn q code answers page r Over = Unit {0}
+StandsIn q code answers page r Exhausted = ⊥
 
 -- at a place of the code, with nothing done
 pub record IsFresh (place : ℕ) (r : Run) : Type 0 where

@@ -5,6 +5,8 @@ use Rattle.basis.specs.declared.or_memory.OrMemory.TheVariants as values
 use Rattle.script_tree.specs.Datum.{Datum, null, bool}
 use Rattle.script_tree.specs.declared.fault.ScriptFault.{ScriptFault}
 use Rattle.script_tree.specs.declared.fault.ScriptFault.TheVariants.{WrongKind}
+use Rattle.script_tree.specs.declared.operation.Act.TheVariants.{Now}
+use Rattle.script_tree.specs.declared.operation.Object.TheVariants.{Clock}
 use Rattle.script_meaning.specs.Operations.{Op}
 use Rattle.script_meaning.specs.Run.{Progress, Outcome, goes, stops, Run, charge, taking, decide_by}
 use Rattle.script_meaning.specs.declared.run.Mark.{Mark}
@@ -16,11 +18,15 @@ use Rattle.machine.specs.declared.account.BareMark.TheVariants as left
 use Rattle.machine.specs.declared.stopped.Stopped.{Stopped}
 use Rattle.machine.specs.declared.stopped.Stopped.TheVariants.{Memory, Wants, Fault}
 
+-- an operation of which nothing is told
+abbrev pub untold : Op
+untold = record { object = Clock; act = Now }
+
 -- The marks of a trail that is read backwards, as are the operations that belong in their places.
 abbrev pub marks_back : List BareMark → List Op → List Mark
 marks_back [] ops = []
 marks_back (left.Decided b ∷ ts) ops = decided b ∷ marks_back ts ops
-marks_back (left.Issued ∷ ts) [] = marks_back ts []
+marks_back (left.Issued ∷ ts) [] = issued untold ∷ marks_back ts []
 marks_back (left.Issued ∷ ts) (op ∷ ops) = issued op ∷ marks_back ts ops
 
 -- the marks of a trail with these operations, the last one first

@@ -1,10 +1,10 @@
-ghost use Rattle.std.specs.Prelude.{◌≡◌, ◌++◌, ◌∷◌, [], List, IfOk, OnOk};
+ghost use Rattle.std.specs.Prelude.{◌≡◌, ◌++◌, ◌∷◌, [], length, List, IfOk, IsErr, OnOk, OnErr};
 ghost use Rattle.script_tree.specs.Datum.{Datum};
 ghost use Rattle.script_tree.specs.Programs.{Program as Meant};
 ghost use Rattle.script_tree.specs.Requests.{Request as Asked};
 ghost use Rattle.script_meaning.specs.Conduct.{conduct};
 ghost use Rattle.script_code.specs.Translated.{IsCodeOf};
-ghost use Rattle.machine.specs.Follows.{Follows, IsFresh, IsReady, IsWaiting, WaitsAfter};
+ghost use Rattle.machine.specs.Follows.{Follows, IsExhausted, IsFresh, IsReady, IsWaiting, WaitsAfter};
 ghost use Rattle.machine.specs.Told.{ending_of};
 ghost use Rattle.machine.specs.declared.machine.Phase.TheVariants.{Running};
 
@@ -36,10 +36,12 @@ pub(crate) enum Phase {
     /// No page has its path, and it ends so.
     NoPage,
     Over,
+    /// It ran out of memory.
+    Exhausted,
 }
 
-/// The run of a request's page, which stops at each operation and goes on with its answer. Of a
-/// machine that ran out of memory nothing more is said: it can only be dropped.
+/// The run of a request's page, which stops at each operation and goes on with its answer. A machine
+/// that ran out of memory may be run again, and says so from then on.
 #[derive(Drop)]
 pub struct Machine<'c> {
     code: &'c Code,
@@ -79,6 +81,28 @@ impl<'c> Machine<'c> {
             → Follows program q answers self.old
             → OnOk result (Follows program q answers self.new) }
         ensures waits { IfOk result (λ step. WaitsAfter step self.new) }
+        ensures err { OnErr result (IsExhausted self.new) }
+        ensures again { IsExhausted self.old → IsErr result }
+    {
+        match self.next_step() {
+            Ok(step) => Ok(step),
+            Err(error) => {
+                self.phase = Phase::Exhausted;
+                Err(error)
+            }
+        }
+    }
+
+    fn next_step(&mut self) -> Result<MachineStep, AllocError>
+        requires { IsReady self.old }
+        ensures tells { (program : Meant) (q : Asked) (answers : List Datum)
+            → Follows program q answers self.old
+            → IfOk result (λ step. ending_of step ≡ (conduct program q answers).ending) }
+        ensures follows { (program : Meant) (q : Asked) (answers : List Datum)
+            → Follows program q answers self.old
+            → OnOk result (Follows program q answers self.new) }
+        ensures waits { IfOk result (λ step. WaitsAfter step self.new) }
+        ensures again { IsExhausted self.old → IsErr result }
     {
         let alloc = self.run.state.alloc;
         match self.phase {
@@ -98,8 +122,8 @@ impl<'c> Machine<'c> {
                 )
             }
             Phase::Running => self.go_on(),
-            // No caller comes here.
-            Phase::Waiting | Phase::Over => Err(AllocError),
+            // No caller comes here but with one that is exhausted.
+            Phase::Waiting | Phase::Over | Phase::Exhausted => Err(AllocError),
         }
     }
 
@@ -134,6 +158,17 @@ impl<'c> Machine<'c> {
         }
     }
 
+    /// How many marks the run left before the operation that it wants: its decisions, and the operations
+    /// that were answered.
+    pub fn marks(&self) -> usize
+        requires { IsWaiting self.now }
+        ensures { (program : Meant) (q : Asked) (answers : List Datum)
+            → Follows program q answers self.now
+            → result ≡ length (conduct program q answers).trail }
+    {
+        self.run.state.account.trail.len()
+    }
+
     /// Takes the answer to the operation that was wanted. One that is beyond the limits of a value
     /// ends the run.
     pub fn answer(&mut self, value: Value) -> Result<(), AllocError>
@@ -142,7 +177,9 @@ impl<'c> Machine<'c> {
             → Follows program q answers self.old
             → OnOk result (Follows program q (answers ++ value ∷ []) self.new) }
         ensures ready { OnOk result (IsReady self.new) }
+        ensures err { OnErr result (IsExhausted self.new) }
     {
+        self.phase = Phase::Exhausted;
         self.run.state.account.note_operation()?;
         if value.is_within_limits() {
             self.run.state.stack.push(Operand::own(value))?;

@@ -2,10 +2,11 @@
 use Rattle.std.proofs.Common.{◌≡◌, ℕ, zero, suc, List, [], ◌∷◌, Some, length, refl, subst}
 use Rattle.basis.specs.Lists.{nth}
 use Rattle.basis.proofs.Options.{some_is, none_is_not}
+use Rattle.script_tree.specs.ActLimits.{AreWithinLimits}
 use Rattle.script_tree.specs.Datum.{Datum, IsWithinLimits}
 use Rattle.script_tree.specs.Fit.{IsRow, IsRowKey}
 use Rattle.script_tree.specs.Transactions.{Row, key}
-use Rattle.script_fit.specs.FitsTransaction.{AreWithinLimits}
+use Rattle.script_fit.specs.FitsTransaction.{}
 
 each_within : (ds : List Datum) → ((i : ℕ) (d : Datum) → nth ds i ≡ Some d → IsWithinLimits d) → AreWithinLimits ds
 each_within [] h = tt

@@ -1,4 +1,5 @@
 pub mod ActFields
+pub mod Limits
 pub mod ObjectFields
 pub mod ReadAgain
 pub mod RecordFields

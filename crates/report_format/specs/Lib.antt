@@ -1,4 +1,5 @@
 pub mod LentView
+pub mod Limits
 pub mod OperationLaws
 pub mod Operations
 pub mod PairLaws

@@ -6,6 +6,7 @@ pub mod decoding;
 pub mod encoding;
 mod fields;
 pub mod format;
+pub mod law;
 mod operations;
 mod parts;
 mod records;

@@ -3,6 +3,7 @@ use Rattle.std.proofs.Common.{◌≡◌, ◌≢◌, ℕ, zero, suc, ◌<◌, ◌
 use Rattle.std.specs.Prelude.{◌==◌, nat_lt, slice_get}
 use Rattle.std.specs.Str.{bytes_eq}
 use Rattle.basis.specs.Lists.{nth}
+use Rattle.script_tree.specs.ActLimits.{AreWithinLimits}
 use Rattle.script_tree.specs.Datum as v
 use Rattle.script_tree.specs.Datum.{Datum, Data, IsWithinLimits, is_within_limits}
 use Rattle.script_tree.specs.Declarations.{NumberedTable, DeclaredFunction, Callee, own, built, unknown, callee, callee_in, function_in, or_empty, table_in}
@@ -27,7 +28,7 @@ use Rattle.script_meaning.specs.declared.run.Stop.TheVariants.{Wants as wants, F
 use Rattle.script_meaning.specs.declared.run.Mark.TheVariants.{Issued as issued}
 use Rattle.script_meaning.specs.Variables.{Variables, value_in, declared, assigned, bound}
 use Rattle.script_fit.specs.FitsOperation.{FitsOperation}
-use Rattle.script_fit.specs.FitsTransaction.{FitTests, FitChanges, AreWithinLimits}
+use Rattle.script_fit.specs.FitsTransaction.{FitTests, FitChanges}
 use Rattle.script_asks.proofs.Values.{IsFine, text_within, member_within, checked_fine, binary_fine, unary_fine, indexed_fine}
 use Rattle.script_asks.proofs.Operations.{Fitting, IsFineCall, HasStore, built_in_fine, FitsUnchecked, FitUnchecked, transacts}
 use Rattle.script_asks.proofs.Tables.{width_at, column_there, not_the_key, some_columns, columns_there}

@@ -4,6 +4,7 @@ use Rattle.std.specs.Prelude.{nat_lt}
 use Rattle.basis.specs.Lists.{nth}
 use Rattle.basis.proofs.Booleans.{both-left, both-right}
 use Rattle.basis.proofs.Options.{some_is, none_is_not}
+use Rattle.script_tree.specs.ActLimits.{AreWithinLimits}
 use Rattle.script_tree.specs.Datum.{Datum, text, list, data_of, IsWithinLimits}
 use Rattle.script_tree.specs.Fit.{declares_store, table_widths, IsKey}
 use Rattle.script_tree.specs.Programs.{Program}
@@ -21,7 +22,7 @@ use Rattle.script_meaning.specs.Operations as o
 use Rattle.script_meaning.specs.Operators.{printed, escaped_bytes}
 use Rattle.script_meaning.specs.Results.{◌>>=◌}
 use Rattle.script_fit.specs.FitsOperation.{FitsOperation}
-use Rattle.script_fit.specs.FitsTransaction.{FitColumns, FitTests, FitChanges, FitsStatement, FitStatements, AreWithinLimits}
+use Rattle.script_fit.specs.FitsTransaction.{FitColumns, FitTests, FitChanges, FitsStatement, FitStatements}
 use Rattle.script_asks.proofs.Values.{IsFine, fine_after, checked_fine, length_fine, sliced_fine, kind_within, number_of_within, request_text, built_fine}
 
 first_within : (ds : List Datum) → AreWithinLimits ds → IsWithinLimits (first ds)

@@ -1,6 +1,6 @@
 -- A run with one answer more goes as before up to where that answer is taken; without answers it takes none; and it counts each
 -- operation that it asks for.
-use Rattle.std.proofs.Common.{◌≡◌, ◌≢◌, ℕ, zero, suc, ◌+◌, ◌<◌, ◌≤◌, Bool, true, false, cond, List, [], ◌∷◌, ◌++◌, length, Option, Some, None, Result, Ok, Err, refl, sym, subst, arith}
+use Rattle.std.proofs.Common.{◌≡◌, ◌≢◌, ℕ, zero, suc, ◌+◌, ◌<◌, ◌≤◌, Bool, true, false, cond, List, [], ◌∷◌, ◌++◌, length, Option, Some, None, Result, Ok, Err, refl, sym, ap, ◌∙◌, subst, arith, append_assoc, append-nil}
 use Rattle.std.specs.Prelude.{◌==◌, nat_lt}
 use Rattle.std.proofs.lemmas.Bool.{eqb-false}
 use Rattle.script_tree.specs.Datum as v
@@ -17,13 +17,14 @@ use Rattle.script_tree.specs.declared.operation.Op.{Op}
 use Rattle.script_tree.specs.declared.request.Response.{Response}
 use Rattle.script_tree.specs.declared.path.Path.{Path}
 use Rattle.script_meaning.specs.BuiltinCalls.{Call, plain, of_request, operation, built_in}
-use Rattle.script_meaning.specs.Conduct.{conduct, Wants, Ends, Undefined, unless_left, ended, on_page, start}
+use Rattle.script_meaning.specs.Conduct.{Ending, conduct, Wants, Ends, Undefined, unless_left, ended, on_page, start}
 use Rattle.script_meaning.specs.Evaluate.{Setting, Flow, on, back, Later, value_of, entered, call_cost, call_made, called, names_store, store_name, print, print_value, set_status, eval, eval_all, eval_others, operands_of, operands_of_all, tests_of, changes_of, then_on, left_as, scoped, turns, turns_of, exec, otherwise, block, run, node, issue_unless_fault}
 use Rattle.script_meaning.specs.Kinds.{bool_in, list_in}
 use Rattle.script_meaning.specs.Operands.{OpAnswer, values_of_all, transact_op, status_in}
 use Rattle.script_meaning.specs.Operators.{Answer, printed}
 use Rattle.script_meaning.specs.Run.{Cost, taking, Run, Progress, Outcome, goes, stops, ◌>>=◌, ◌>>◌, after, give, fails, unless_fault, charge, charge_for, answered, count_operation, decide, decide_by, and_cost, last_issuing}
-use Rattle.script_meaning.specs.declared.run.Mark.TheVariants.{Issued as issued}
+use Rattle.script_meaning.specs.declared.run.Mark.{Mark}
+use Rattle.script_meaning.specs.declared.run.Mark.TheVariants.{Decided as decided_mark, Issued as issued}
 use Rattle.script_meaning.specs.declared.run.Stop.TheVariants.{Wants as wants, Fault as fault, AnswerFault as answer_fault}
 use Rattle.script_meaning.specs.Variables.{Variables, value_in, declared, bound}
 
@@ -35,10 +36,18 @@ abbrev left_of : {A : Type 0} → Outcome A → List Datum
 left_of (goes a p) = p.answers
 left_of (stops e p) = p.answers
 
+abbrev trail_in : {A : Type 0} → Outcome A → List Mark
+trail_in (goes a p) = p.trail
+trail_in (stops e p) = p.trail
+
+-- the trail goes on from there
+abbrev Extends : {A : Type 0} → List Mark → Outcome A → Type 0
+Extends ts o = (ms : List Mark) × (trail_in o ≡ ts ++ ms)
+
 -- what the outcome with an answer more is, where this is the one without it
 abbrev GoesFurther : {A : Type 0} → Datum → Outcome A → Outcome A → Type 0
 GoesFurther d (goes a p) o = o ≡ goes a (with_answer d p)
-GoesFurther d (stops (wants op) p) o = left_of o ≡ []
+GoesFurther d (stops (wants op) p) o = (left_of o ≡ []) × Extends (p.trail ++ issued op ∷ []) o
 GoesFurther d (stops (fault f) p) o = o ≡ stops (fault f) (with_answer d p)
 GoesFurther d (stops answer_fault p) o = o ≡ stops answer_fault (with_answer d p)
 
@@ -92,6 +101,7 @@ module _ (d : Datum) where
   pub record IsFurther {A : Type 0} (m : Run A) : Type 0 where
     pub further : (p : Progress) → GoesFurther d (m p) (m (with_answer d p))
     pub none_left : (p : Progress) → p.answers ≡ [] → left_of (m p) ≡ []
+    pub grows : (p : Progress) → Extends p.trail (m p)
 
   pub record IsSteady {A : Type 0} (m : Run A) : Type 0 where
     pub on : IsFurther m
@@ -101,15 +111,20 @@ module _ (d : Datum) where
   on_further {A} {B} m f g h = record {
     further = λ p. by (m p) (m (with_answer d p)) (g.further p);
     none_left = λ p e. no (m p) (g.none_left p e);
+    grows = λ p. more p.trail (m p) (g.grows p);
   }
     where
       no : (r : Outcome A) → left_of r ≡ [] → left_of (after r f) ≡ []
       no (goes a q) e = (h a).none_left q e
       no (stops x q) e = e
 
+      more : (ts : List Mark) (r : Outcome A) → Extends ts r → Extends ts (after r f)
+      more ts (goes a q) e = let k = (h a).grows q in (e.0 ++ k.0, k.1 ∙ ap (λ us. us ++ k.0) e.1 ∙ append_assoc ts e.0 k.0)
+      more ts (stops x q) e = e
+
       by : (r s : Outcome A) → GoesFurther d r s → GoesFurther d (after r f) (after s f)
       by (goes a q) s e = subst (λ x. GoesFurther d (f a q) (after x f)) (sym e) ((h a).further q)
-      by (stops (wants op) q) s e = no s e
+      by (stops (wants op) q) s e = (no s e.0, more (q.trail ++ issued op ∷ []) s e.1)
       by (stops (fault x) q) s e = subst (λ y. GoesFurther d (stops (fault x) q) (after y f)) (sym e) refl
       by (stops answer_fault q) s e = subst (λ y. GoesFurther d (stops answer_fault q) (after y f)) (sym e) refl
 
@@ -120,10 +135,10 @@ module _ (d : Datum) where
   then m n g h = bind m (λ _. n) g (λ _. h)
 
   gives : {A : Type 0} (a : A) → IsSteady (give a)
-  gives a = record { on = record { further = λ p. refl; none_left = λ p e. e }; counts = λ p l. (refl, l) }
+  gives a = record { on = record { further = λ p. refl; none_left = λ p e. e; grows = λ p. ([], sym (append-nil p.trail)) }; counts = λ p l. (refl, l) }
 
   failing : {A : Type 0} (f : ScriptFault) → IsSteady {A = A} (fails f)
-  failing f = record { on = record { further = λ p. refl; none_left = λ p e. e }; counts = λ p l. tt }
+  failing f = record { on = record { further = λ p. refl; none_left = λ p e. e; grows = λ p. ([], sym (append-nil p.trail)) }; counts = λ p l. tt }
 
   unless : {A : Type 0} (r : Result A ScriptFault) → IsSteady (unless_fault r)
   unless (Ok a) = gives a
@@ -148,9 +163,13 @@ module _ (d : Datum) where
   charge_counts c p l true = tt
   charge_counts c p l false = (refl, l)
 
+  charge_grows : (c : Cost) (p : Progress) (b : Bool) → Extends p.trail (charge_outcome c p b)
+  charge_grows c p true = ([], sym (append-nil p.trail))
+  charge_grows c p false = ([], sym (append-nil p.trail))
+
   charged : (c : Cost) → IsSteady (charge c)
   charged c = record {
-    on = record { further = λ p. charge_further c p (p.steps == MOST_STEPS); none_left = λ p e. charge_none c p e (p.steps == MOST_STEPS) };
+    on = record { further = λ p. charge_further c p (p.steps == MOST_STEPS); none_left = λ p e. charge_none c p e (p.steps == MOST_STEPS); grows = λ p. charge_grows c p (p.steps == MOST_STEPS) };
     counts = λ p l. charge_counts c p l (p.steps == MOST_STEPS);
   }
 
@@ -162,8 +181,12 @@ module _ (d : Datum) where
   count_none p e true = e
   count_none p e false = e
 
+  count_grows : (p : Progress) (b : Bool) → Extends p.trail (count_outcome p b)
+  count_grows p true = ([], sym (append-nil p.trail))
+  count_grows p false = ([], sym (append-nil p.trail))
+
   counted : IsFurther count_operation
-  counted = record { further = λ p. count_further p (p.operations == MOST_OPERATIONS); none_left = λ p e. count_none p e (p.operations == MOST_OPERATIONS) }
+  counted = record { further = λ p. count_further p (p.operations == MOST_OPERATIONS); none_left = λ p e. count_none p e (p.operations == MOST_OPERATIONS); grows = λ p. count_grows p (p.operations == MOST_OPERATIONS) }
 
   -- an answer that is taken
   abbrev taken : Op → Progress → Datum → List Datum → Bool → Outcome Datum
@@ -177,8 +200,20 @@ module _ (d : Datum) where
   taken_none op p x true = refl
   taken_none op p x false = refl
 
+  taken_grows : (op : Op) (p : Progress) (x : Datum) (xs : List Datum) (b : Bool) → Extends (p.trail ++ issued op ∷ []) (taken op p x xs b)
+  taken_grows op p x xs true = ([], sym (append-nil (p.trail ++ issued op ∷ [])))
+  taken_grows op p x xs false = ([], sym (append-nil (p.trail ++ issued op ∷ [])))
+
+  taken_on : (op : Op) (p : Progress) (x : Datum) (xs : List Datum) (b : Bool) → Extends p.trail (taken op p x xs b)
+  taken_on op p x xs true = (issued op ∷ [], refl)
+  taken_on op p x xs false = (issued op ∷ [], refl)
+
+  answer_grows : (op : Op) (as' : List Datum) (p : Progress) → Extends p.trail (answered op as' p)
+  answer_grows op [] p = ([], sym (append-nil p.trail))
+  answer_grows op (x ∷ xs) p = taken_on op p x xs (is_within_limits x)
+
   answer_further : (op : Op) (as' : List Datum) (p : Progress) → p.answers ≡ as' → GoesFurther d (answered op as' p) (answered op (as' ++ d ∷ []) (with_answer d p))
-  answer_further op [] p e = taken_none op (with_answer d p) d (is_within_limits d)
+  answer_further op [] p e = (taken_none op (with_answer d p) d (is_within_limits d), taken_grows op (with_answer d p) d [] (is_within_limits d))
   answer_further op (x ∷ xs) p e = taken_further op p x xs (is_within_limits x)
 
   answer_none : (op : Op) (as' : List Datum) (p : Progress) → p.answers ≡ as' → as' ≡ [] → left_of (answered op as' p) ≡ []
@@ -186,7 +221,7 @@ module _ (d : Datum) where
   answer_none op (x ∷ xs) p e f = absurd cc
 
   takes_answer : (op : Op) → IsFurther (λ p. answered op p.answers p)
-  takes_answer op = record { further = λ p. answer_further op p.answers p refl; none_left = λ p e. answer_none op p.answers p refl e }
+  takes_answer op = record { further = λ p. answer_further op p.answers p refl; none_left = λ p e. answer_none op p.answers p refl e; grows = λ p. answer_grows op p.answers p }
 
   issued_well : (op : OpAnswer) → IsSteady (issue_unless_fault op)
   issued_well (Err f) = failing f
@@ -196,7 +231,7 @@ module _ (d : Datum) where
   }
 
   decided : (whole x : Datum) → IsSteady (decide_by whole x)
-  decided whole x = bind (charge_for whole) _ (charged (taking (whole ∷ []))) (λ _. bind (unless_fault (bool_in x)) _ (unless (bool_in x)) (λ b. record { on = record { further = λ p. refl; none_left = λ p e. e }; counts = λ p l. (refl, l) }))
+  decided whole x = bind (charge_for whole) _ (charged (taking (whole ∷ []))) (λ _. bind (unless_fault (bool_in x)) _ (unless (bool_in x)) (λ b. record { on = record { further = λ p. refl; none_left = λ p e. e; grows = λ p. (decided_mark b ∷ [], refl) }; counts = λ p l. (refl, l) }))
 
   noded : (ds : List Datum) (a : Answer) → IsSteady (node ds a)
   noded ds a = then (charge (taking ds)) (unless_fault a) (charged (taking ds)) (unless a)
@@ -307,6 +342,10 @@ module _ (d : Datum) where
     print_none bytes p e true = e
     print_none bytes p e false = e
 
+    print_grows : (bytes : List ℕ) (p : Progress) (b : Bool) → Extends p.trail (print_outcome bytes p b)
+    print_grows bytes p true = ([], sym (append-nil p.trail))
+    print_grows bytes p false = ([], sym (append-nil p.trail))
+
     print_counts : (bytes : List ℕ) (p : Progress) → p.operations ≤ MOST_OPERATIONS → (b : Bool) → Counts (both p) (print_outcome bytes p b)
     print_counts bytes p l true = tt
     print_counts bytes p l false = (refl, l)
@@ -316,6 +355,7 @@ module _ (d : Datum) where
       on = record {
         further = λ p. print_further bytes p (nat_lt MOST_BODY_BYTES (length (p.body ++ bytes)));
         none_left = λ p e. print_none bytes p e (nat_lt MOST_BODY_BYTES (length (p.body ++ bytes)));
+        grows = λ p. print_grows bytes p (nat_lt MOST_BODY_BYTES (length (p.body ++ bytes)));
       };
       counts = λ p l. print_counts bytes p l (nat_lt MOST_BODY_BYTES (length (p.body ++ bytes)));
     })
@@ -342,7 +382,7 @@ module _ (d : Datum) where
             bind (eval w later depth vs e) _ (eval_steady depth vs e) (λ y. turns_of_steady y x.text (block w later depth body) (λ us. block_steady body us) vs (list_in y))
         exec_steady (echo at e) vs = spent vs e _ (λ y. bind (print_value y) (λ _. give (on vs)) (printed_steady y) (λ _. gives (on vs)))
         exec_steady (status at e) vs =
-            spent vs e _ (λ y. bind (unless_fault (status_in y)) (λ n. set_status n >>= λ _. give (on vs)) (unless (status_in y)) (λ n. record { on = record { further = λ p. refl; none_left = λ p h. h }; counts = λ p l. (refl, l) }))
+            spent vs e _ (λ y. bind (unless_fault (status_in y)) (λ n. set_status n >>= λ _. give (on vs)) (unless (status_in y)) (λ n. record { on = record { further = λ p. refl; none_left = λ p h. h; grows = λ p. ([], sym (append-nil p.trail)) }; counts = λ p l. (refl, l) }))
         exec_steady (return at e) vs = spent vs e _ (λ y. gives (back y))
         exec_steady (do_ at e) vs = spent vs e _ (λ y. gives (on vs))
 
@@ -378,9 +418,32 @@ wish_is (x ∷ xs) response path op e = cc
 
 further_defined : (d : Datum) (page : ℕ) (op : Op) (r s : Outcome Flow) → GoesFurther d r s → (ended page r).ending ≡ Wants op → (ended page s).ending ≢ Undefined
 further_defined d page op (goes flow p) s g e = absurd (wish_is p.answers _ _ op e)
-further_defined d page op (stops (wants x) p) s g e = ended_defined page s g
+further_defined d page op (stops (wants x) p) s g e = ended_defined page s g.0
 further_defined d page op (stops (fault f) p) s g e = absurd (wish_is p.answers _ _ op e)
 further_defined d page op (stops answer_fault p) s g e = absurd (wish_is p.answers _ _ op e)
+
+-- the trail of a run with one answer more
+
+ended_trail : (page : ℕ) (r : Outcome Flow) → (ended page r).trail ≡ trail_in r
+ended_trail page (goes flow p) = refl
+ended_trail page (stops (wants op) p) = refl
+ended_trail page (stops (fault f) p) = refl
+ended_trail page (stops answer_fault p) = refl
+
+wanted_in : Op → Ending → Op
+wanted_in op (Wants x) = x
+wanted_in op (Ends response path) = op
+wanted_in op Undefined = op
+
+further_extends : (d : Datum) (page : ℕ) (op : Op) (r s : Outcome Flow) → GoesFurther d r s → (ended page r).ending ≡ Wants op
+    → (ms : List Mark) × ((ended page s).trail ≡ (ended page r).trail ++ issued op ∷ ms)
+unfolding wanted_in
+further_extends d page op (goes flow p) s g e = absurd (wish_is p.answers _ _ op e)
+further_extends d page op (stops (wants x) p) s g e =
+    let same : x ≡ op = ap (wanted_in op) e in
+    (g.1.0, ended_trail page s ∙ g.1.1 ∙ append_assoc p.trail (issued x ∷ []) g.1.0 ∙ ap (λ o. p.trail ++ issued o ∷ g.1.0) same)
+further_extends d page op (stops (fault f) p) s g e = absurd (wish_is p.answers _ _ op e)
+further_extends d page op (stops answer_fault p) s g e = absurd (wish_is p.answers _ _ op e)
 
 module _ (program : Program) (request : Request) where
   abbrev setting : Setting
@@ -402,6 +465,16 @@ module _ (program : Program) (request : Request) where
 
   pub defined_next : (answers : List Datum) (d : Datum) (op : Op) → (conduct program request answers).ending ≡ Wants op → (conduct program request (answers ++ d ∷ [])).ending ≢ Undefined
   defined_next answers d op e = next_on answers d op (page_in program request.path) e
+
+  extends_on : (answers : List Datum) (d : Datum) (op : Op) (o : Option NumberedPage) → (on_page program request answers o).ending ≡ Wants op
+      → (ms : List Mark) × ((on_page program request (answers ++ d ∷ []) o).trail ≡ (on_page program request answers o).trail ++ issued op ∷ ms)
+  extends_on answers d op None e = absurd (wish_is answers _ _ op e)
+  extends_on answers d op (Some page) e = further_extends d page.number op (run setting (MOST_STEPS + 1) 0 (statements_of page.body) [] (start answers)) _
+      ((run_steady d setting (MOST_STEPS + 1) 0 (statements_of page.body) []).on.further (start answers)) e
+
+  pub trail_extends : (answers : List Datum) (d : Datum) (op : Op) → (conduct program request answers).ending ≡ Wants op
+      → (ms : List Mark) × ((conduct program request (answers ++ d ∷ [])).trail ≡ (conduct program request answers).trail ++ issued op ∷ ms)
+  trail_extends answers d op e = extends_on answers d op (page_in program request.path) e
 
   counted_in : (n : ℕ) (op : Op) (page : ℕ) (r : Outcome Flow) → Counts n r → (ended page r).ending ≡ Wants op → n < MOST_OPERATIONS
   counted_in n op page (goes flow p) c e = absurd (wish_is p.answers _ _ op e)

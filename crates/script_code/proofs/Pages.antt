@@ -18,9 +18,11 @@ use Rattle.script_check.specs.Validity.{IsValid}
 use Rattle.script_asks.proofs.Valid.{bodies_sound, page_sound}
 use Rattle.script_meaning.specs.Conduct.{conduct, on_page, ended, start}
 use Rattle.script_meaning.specs.Evaluate.{Setting, Flow, on, back, run, block}
-use Rattle.script_meaning.specs.Run.{Outcome, goes, stops}
+use Rattle.script_meaning.specs.Run.{Progress, Outcome, goes, stops}
+use Rattle.script_meaning.specs.Costs.{keeping, page_run, costs_in, costs_on, costs_of}
 use Rattle.script_code.specs.Code.{Instructions, Names, Entry, texts, function_from, function_number, block_code, declaration_code, declarations_code, places_from, entry_from}
-use Rattle.script_code.specs.Means.{code_conduct, Means}
+use Rattle.script_code.specs.CodeRun.{exec}
+use Rattle.script_code.specs.Means.{code_conduct, code_costs, Means}
 use Rattle.script_code.specs.declared.instruction.Instruction.TheVariants.{End, Halt}
 use Rattle.script_code.proofs.Leads.{Goal, Leads, leads_on, leads_same, Does, HasAt, has_front, has_back, has_all, move}
 use Rattle.script_code.proofs.Slots.{values}
@@ -144,19 +146,44 @@ module _ (program : Program) (functions : List ℕ) (code : Instructions) where
     page_ends ns low pc here (goes (back x) q) has h = leads_on _ _ _ h.1 (leads_same _ _ (λ k. refl))
     page_ends ns low pc here (stops e q) has h = h
 
+    page_leads : (p : Progress) → p.steps ≡ 0 → (page : NumberedPage) (entry : Entry) → page_in program request.path ≡ Some page → HasAt code entry.place (block_code program [] (statements_of page.body) ++ Halt ∷ [])
+        → Leads (λ k. exec request functions code k [] entry.place [] [] p) (λ k. over (page_run program request p page))
+    page_leads p none page entry is has =
+        let ss = statements_of page.body in
+        let b = block_code program [] ss in
+        let more : suc MOST_STEPS ≡ MOST_STEPS + 1 = omega arith in
+        let runs = block_runs setting functions code placed linked (bodies_sound program valid) MOST_STEPS ss (page_sound program valid request.path page is) [] [] in
+        let does = runs [] refl entry.place [] p (has_front code entry.place b (Halt ∷ []) has) (omega (arith, none)) (omega (arith, none)) in
+        let ends = page_ends (block_names [] ss) p.steps (entry.place + length b) _ (block setting (run setting MOST_STEPS) 0 ss [] p) (has_back code entry.place b (Halt ∷ []) has) does in
+        record { count = ends.count; by = λ k. ends.by k ∙ ap (λ n. over (run setting n 0 ss [] p)) more }
+
+    over_costs : (o : Outcome Flow) → costs_in (over o) ≡ costs_in o
+    over_costs (goes flow q) = refl
+    over_costs (stops e q) = refl
+
     conducts_page : (page : NumberedPage) (entry : Entry) → page_in program request.path ≡ Some page → entry.number ≡ page.number → HasAt code entry.place (block_code program [] (statements_of page.body) ++ Halt ∷ [])
         → (enough : ℕ) × ((k : ℕ) → code_conduct functions code (Some entry) request answers (enough + k) ≡ on_page program request answers (Some page))
     conducts_page page entry is number has =
-        let ss = statements_of page.body in
-        let b = block_code program [] ss in
-        let more : MOST_STEPS + 1 ≡ suc MOST_STEPS = omega arith in
-        let runs = block_runs setting functions code placed linked (bodies_sound program valid) MOST_STEPS ss (page_sound program valid request.path page is) [] [] in
-        let does = runs [] refl entry.place [] (start answers) (has_front code entry.place b (Halt ∷ []) has) (omega arith) (omega arith) in
-        let ends = page_ends (block_names [] ss) 0 (entry.place + length b) _ (block setting (run setting MOST_STEPS) 0 ss [] (start answers)) (has_back code entry.place b (Halt ∷ []) has) does in (
-          ends.count,
-          λ k. ap (ended entry.number) (ends.by k) ∙ over_ended entry.number (block setting (run setting MOST_STEPS) 0 ss [] (start answers)) ∙ ap (λ n. ended n (block setting (run setting MOST_STEPS) 0 ss [] (start answers))) number
-              ∙ ap (λ n. ended page.number (run setting n 0 ss [] (start answers))) (sym more),
-        )
+        let ends = page_leads (start answers) refl page entry is has in
+        let o = page_run program request (start answers) page in
+        (ends.count, λ k. ap (ended entry.number) (ends.by k) ∙ over_ended entry.number o ∙ ap (λ n. ended n o) number)
+
+    charges_page : (page : NumberedPage) (entry : Entry) → page_in program request.path ≡ Some page → HasAt code entry.place (block_code program [] (statements_of page.body) ++ Halt ∷ [])
+        → (enough : ℕ) × ((k : ℕ) → code_costs functions code (Some entry) request answers (enough + k) ≡ costs_on program request answers (Some page))
+    charges_page page entry is has =
+        let p : Progress = keeping (Some []) (start answers) in
+        let ends = page_leads p refl page entry is has in
+        (ends.count, λ k. ap costs_in (ends.by k) ∙ over_costs (page_run program request p page))
+
+    charges : (o : Option NumberedPage) (e : Option Entry) → page_in program request.path ≡ o → IsEntryOf o e
+        → (enough : ℕ) × ((k : ℕ) → code_costs functions code e request answers (enough + k) ≡ costs_on program request answers o)
+    charges None None is h = (0, λ k. refl)
+    charges None (Some entry) is h = absurd h
+    charges (Some page) None is h = absurd h
+    charges (Some page) (Some entry) is h = charges_page page entry is h.1
+
+    pub charged_so : (enough : ℕ) × ((k : ℕ) → code_costs functions code (entry_from program 0 0 request.path program.declarations) request answers (enough + k) ≡ costs_of program request answers)
+    charged_so = charges (page_in program request.path) (entry_from program 0 0 request.path program.declarations) refl (page_at request.path 0 program.declarations [] 0 whole)
 
     conducts : (o : Option NumberedPage) (e : Option Entry) → page_in program request.path ≡ o → IsEntryOf o e
         → (enough : ℕ) × ((k : ℕ) → code_conduct functions code e request answers (enough + k) ≡ on_page program request answers o)
@@ -175,4 +202,7 @@ module _ (program : Program) (functions : List ℕ) (code : Instructions) where
     conducts = λ request answers.
         let done = conducted valid is_code are_places request answers in
         (done.0, λ k. ap (λ e. code_conduct functions code e request answers (done.0 + k)) (are_pages request.path) ∙ done.1 k);
+    charges = λ request answers.
+        let done = charged_so valid is_code are_places request answers in
+        (done.0, λ k. ap (λ e. code_costs functions code e request answers (done.0 + k)) (are_pages request.path) ∙ done.1 k);
   }

@@ -1,4 +1,5 @@
 pub mod Changed
+pub mod OfProgram
 pub mod Stay
 pub mod TableRows
 pub mod Transacted

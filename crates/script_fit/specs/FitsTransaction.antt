@@ -57,7 +57,3 @@ FitStatements widths (s ∷ ss) = FitsStatement widths s × FitStatements widths
 -- a transaction has a statement
 abbrev pub FitsTransaction : List ℕ → List Statement → Type 0
 FitsTransaction widths ss = (0 < length ss) × FitStatements widths ss
-
-abbrev pub AreWithinLimits : List Datum → Type 0
-AreWithinLimits [] = Unit {0}
-AreWithinLimits (d ∷ ds) = IsWithinLimits d × AreWithinLimits ds

@@ -1,3 +1,4 @@
 pub mod FitsOperation
 pub mod FitsTransaction
 pub mod Laws
+pub mod OfProgram

@@ -4,3 +4,4 @@ mod HitRows
 mod LongRows
 pub mod Programs
 mod RuleRows
+pub mod ValueFaults

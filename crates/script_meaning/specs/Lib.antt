@@ -1,7 +1,9 @@
 pub mod BuiltinCalls
 pub mod Conduct
+pub mod Costs
 pub mod Evaluate
 pub mod Explains
+pub mod GroupCost
 pub mod Kinds
 pub mod Operands
 pub mod Operations
@@ -10,4 +12,5 @@ pub mod Replay
 pub mod Results
 pub mod Run
 pub mod RunCodes
+pub mod ValueFaults
 pub mod Variables

@@ -1,28 +1,10 @@
--- The faults that values have by themselves.
-use Rattle.std.specs.Prelude.{◌≡◌, Bool, true, false, List, Result, Ok, Err}
+-- A node has no fault but of its values.
+use Rattle.std.specs.Prelude.{List}
 use Rattle.script_tree.specs.Datum.{Datum}
 use Rattle.script_tree.specs.Requests.{Request}
-use Rattle.script_tree.specs.declared.fault.ScriptFault.{ScriptFault}
-use Rattle.script_tree.specs.declared.fault.ScriptFault.TheVariants.{WrongKind, Overflow, ZeroDivisor, OutOfRange, TooLarge, OutOfSteps, TooManyOperations, TooDeep, BadBound}
+use Rattle.script_meaning.specs.ValueFaults.{FailsByValues}
 use Rattle.script_nodes.specs.Evaluated.{evaluated}
 use Rattle.script_nodes.specs.declared.primitive.Primitive.{Primitive}
-
--- not by how much a run did before
-abbrev pub is_of_values : ScriptFault → Bool
-is_of_values WrongKind = true
-is_of_values Overflow = true
-is_of_values ZeroDivisor = true
-is_of_values OutOfRange = true
-is_of_values TooLarge = true
-is_of_values OutOfSteps = false
-is_of_values TooManyOperations = false
-is_of_values TooDeep = false
-is_of_values BadBound = true
-
--- where it fails, it is by the values
-abbrev pub FailsByValues : {A : Type 0} → Result A ScriptFault → Type 0
-FailsByValues (Ok x) = Unit {0}
-FailsByValues (Err f) = is_of_values f ≡ true
 
 abbrev pub NodesFailByValues : Type 0
 NodesFailByValues = (q : Request) (p : Primitive) (ds : List Datum) → FailsByValues (evaluated q p ds)

@@ -5,11 +5,13 @@ ghost use Rattle.script_nodes.specs.Evaluated.{evaluated};
 use crate::filling::all_filled;
 use crate::primitive::Primitive;
 use crate::steps::Steps;
+use basis::OrMemory;
+use script_tree::fault::ScriptFault;
 use script_tree::request::Request;
 use script_tree::value::Value;
 use script_values::{
-    Arguments, Called, Faulted, binary, bool_in, call_of, copied, indexed, listed, printed,
-    status_in, transact_op, unary,
+    Arguments, Called, Faulted, as_list, binary, bool_in, call_of, copied, indexed, listed,
+    printed, status_in, transact_op, unary,
 };
 use std::alloc::Global;
 use std::sync::ledger::Ledger;
@@ -58,5 +60,11 @@ fn answer(
         Primitive::Decide => Ok(Called::Value(Value::bool(bool_in(first)?))),
         Primitive::Status => Ok(Called::Value(Value::number(status_in(first)? as i64))),
         Primitive::Echo => Ok(Called::Value(Value::shared_text(printed(alloc, first)?))),
+        Primitive::Call => Ok(Called::Value(Value::null())),
+        Primitive::Unknown => Err(OrMemory::Other(ScriptFault::WrongKind)),
+        Primitive::Member(passed) => match as_list(first) {
+            None => Err(OrMemory::Other(ScriptFault::WrongKind)),
+            Some(values) => Ok(Called::Value(Value::bool(passed < values.as_slice().len()))),
+        },
     }
 }

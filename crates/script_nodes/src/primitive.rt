@@ -27,4 +27,10 @@ pub enum Primitive<'a> {
     Status,
     /// The text that `echo` prints.
     Echo,
+    /// The call of a function of the program, which has no value of its own.
+    Call,
+    /// The call of a name that nothing has.
+    Unknown,
+    /// Whether a list has a member beyond so many.
+    Member(usize),
 }

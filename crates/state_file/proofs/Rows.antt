@@ -4,7 +4,7 @@ use Rattle.std.specs.Prelude.{◌==◌}
 use Rattle.std.specs.List.{list_all}
 use Rattle.basis.proofs.Booleans.{both-left, both-right}
 use Rattle.object_tables.proofs.FitTests.{row_whole}
-use Rattle.script_fit.specs.FitsTransaction.{AreWithinLimits}
+use Rattle.script_tree.specs.ActLimits.{AreWithinLimits}
 use Rattle.script_tree.specs.Datum.{Datum, null, bool, number, text, list, is_within_limits}
 use Rattle.script_tree.specs.Fit.{IsRow, IsRowKey}
 use Rattle.script_tree.specs.Transactions.{Row, key}

@@ -21,7 +21,8 @@ use Rattle.script_tree.specs.contracts.path.EndPartialEq.TheImpl as end_eq
 use Rattle.script_tree.specs.contracts.path.PathPartialEq.TheImpl as path_eq
 use Rattle.script_tree.specs.contracts.path.PathEq.TheImpl.Laws as path_laws
 use Rattle.trace_and_report.specs.Grouped.{and_member}
-use Rattle.history.specs.Paths.{same_path, same_end, same_page, same_decision, each}
+use Rattle.basis.specs.Lists.{each}
+use Rattle.script_tree.specs.Paths.{same_path, same_end, same_page, same_decision}
 
 pub same_objects : (a b : Object) → (object_eq.ghosts).eq a b ≡ is_same a b
 same_objects (Register a) (Register b) = is_eq-slice_cmp a b

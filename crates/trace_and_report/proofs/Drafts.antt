@@ -22,7 +22,7 @@ use Rattle.trace_format.specs.Events.{trace_format, IsResponse}
 use Rattle.report.specs.declared.LogEntry.{LogEntry}
 use Rattle.report_format.specs.Reports.{entry_field}
 use Rattle.history.specs.Names.{Named, came, did, went}
-use Rattle.history.specs.Paths.{same_path}
+use Rattle.script_tree.specs.Paths.{same_path}
 use Rattle.history.specs.ReportOf.{did_in, object_in, entry_in, path_in, member_in}
 use Rattle.history.specs.Seats.{at_seat, seated}
 use Rattle.history.specs.TraceOf.{event_in, trace_in}

@@ -6,6 +6,7 @@ use Rattle.report_format.proofs.ReadAgain.{read_again}
 use Rattle.history.specs.Names.{Named, names_from}
 use Rattle.history.specs.ReportOf.{report_in, report_of}
 use Rattle.history.specs.Rooms.{empty_room}
+use Rattle.history.specs.TraceOf.{trace_of}
 use Rattle.history.specs.declared.happening.Happening.{Happening}
 use Rattle.trace_and_report.specs.Recorded.{AreFilesOf, HasTooLong, IsTraceFile, IsReportFile}
 use Rattle.trace_and_report.specs.Written.{AreFiles, TellsTooLong}
@@ -20,6 +21,7 @@ module _ (start : Objects) (history : List Happening) (recorded : Recorded) (fil
   names = names_from (empty_room start) history
 
   trace_file : length recorded.trace.items ≤ MOST_FILE_BYTES → IsTraceFile start history recorded.trace.items
+  unfolding trace_of
   trace_file short = record {
     within = (files.trace, short);
     read_again = λ few. trace_read_again names recorded.trace.items (omega (arith, few, requests_counted (empty_room start) history)) files.spellings (files.trace, short);
@@ -33,7 +35,7 @@ module _ (start : Objects) (history : List Happening) (recorded : Recorded) (fil
   }
 
   pub are_files : TellsTooLong recorded None → AreFilesOf start history recorded
-  unfolding report_of
+  unfolding trace_of report_of
   are_files within = record {
     trace = trace_file within.0;
     report = report_file within.1;
@@ -42,7 +44,7 @@ module _ (start : Objects) (history : List Happening) (recorded : Recorded) (fil
   }
 
   pub too_long : (which : TooLong) → TellsTooLong recorded (Some which) → HasTooLong start history which
-  unfolding report_of
+  unfolding trace_of report_of
   too_long past.Trace long = subst (λ bytes. MOST_FILE_BYTES < length bytes) files.trace long
   too_long past.Report (short, long) =
       ((λ over. absurd (omega (arith, short, over, ap length files.trace))), subst (λ bytes. MOST_FILE_BYTES < length bytes) files.report long)

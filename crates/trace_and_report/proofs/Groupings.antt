@@ -3,8 +3,8 @@ use Rattle.std.proofs.Common.{◌≡◌, ◌∙◌, Bool, true, false, not, cond
 use Rattle.std.specs.Prelude.{filter_map, option_map}
 use Rattle.std.specs.List.{cons_option}
 use Rattle.std.specs.Cmp.{IsEquivalence}
+use Rattle.basis.specs.Lists.{firsts}
 use Rattle.trace_and_report.specs.Grouped.{grouped, and_member, HaveMembers}
-use Rattle.history.specs.ReportOf.{firsts}
 
 -- ---- lists of keys with members
 

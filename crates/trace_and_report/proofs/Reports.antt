@@ -4,6 +4,7 @@ use Rattle.std.specs.Prelude.{filter_map}
 use Rattle.std.specs.List.{cons_option}
 use Rattle.std.proofs.lemmas.List.{length-map, map-append}
 use Rattle.std.proofs.Math.Seq.{take-suc}
+use Rattle.basis.specs.Lists.{firsts}
 use Rattle.script_tree.specs.Objects.{is_same}
 use Rattle.script_tree.specs.declared.operation.Object.{Object}
 use Rattle.script_tree.specs.declared.path.Path.{Path}
@@ -16,8 +17,8 @@ use Rattle.report_format.specs.Reports.{any_record_field, count_field, entry_fie
 use Rattle.report_format.specs.declared.format.ReportRecord.{ReportRecord}
 use Rattle.report_format.specs.declared.format.ReportRecord.TheVariants as it
 use Rattle.history.specs.Names.{Named, came, did, went}
-use Rattle.history.specs.Paths.{same_path}
-use Rattle.history.specs.ReportOf.{firsts, did_in, count_in, object_in, entry_in, log_in, path_in, member_in, report_in}
+use Rattle.script_tree.specs.Paths.{same_path}
+use Rattle.history.specs.ReportOf.{did_in, count_in, object_in, entry_in, log_in, path_in, member_in, report_in}
 use Rattle.trace_and_report.specs.Draft.{IsOfNames, HasSpelling, arrival_in, counted, count_at, entry_of}
 use Rattle.trace_and_report.specs.Grouped.{groups_in, grouped, HaveMembers}
 use Rattle.trace_and_report.specs.Widths.{Each, IsWideCount}

@@ -13,7 +13,7 @@ use Rattle.report.specs.declared.LogEntry.{LogEntry}
 use Rattle.report_format.specs.Reports.{entry_field}
 use Rattle.report_format.specs.Spelled.{Spelled, spelled}
 use Rattle.history.specs.Names.{Named, came, did, went}
-use Rattle.history.specs.Paths.{same_path}
+use Rattle.script_tree.specs.Paths.{same_path}
 use Rattle.history.specs.ReportOf.{did_in, object_in, entry_in, path_in, member_in}
 use Rattle.history.specs.Seats.{at_seat}
 use Rattle.history.specs.TraceOf.{trace_in}

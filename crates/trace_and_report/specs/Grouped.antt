@@ -1,8 +1,8 @@
 -- Keys in order, each with its members in order.
 use Rattle.std.specs.Prelude.{◌≢◌, Bool, List, [], ◌∷◌, ◌++◌, map, filter_map, Option, Vec, if◌then◌else◌}
 use Rattle.std.specs.declared.alloc.Global.{Global}
+use Rattle.basis.specs.Lists.{firsts}
 use Rattle.indexmap.specs.IndexMap.{IndexMap}
-use Rattle.history.specs.ReportOf.{firsts}
 
 -- what the code keeps
 unfoldable pub groups_in : {K V S : Type 0} → IndexMap K (Vec V Global) S → List (K × List V)

@@ -1,5 +1,5 @@
 use Rattle.std.proofs.Common.{drop, ◌↔◌}
-use Rattle.script_fit.specs.FitsTransaction.{AreWithinLimits}
+use Rattle.script_tree.specs.ActLimits.{AreWithinLimits}
 use Rattle.object_tables.proofs.fitting.are_within_limits.Given as goal
 
 -- what is left decides

@@ -1,16 +1,10 @@
 -- Equal paths, as a test that computes.
-use Rattle.std.specs.Prelude.{ℕ, Bool, true, false, not, ◌&&◌, List, [], ◌∷◌, Option, Some, None, nat_eq}
+use Rattle.std.specs.Prelude.{ℕ, Bool, true, false, not, ◌&&◌, Option, Some, None, nat_eq}
+use Rattle.basis.specs.Lists.{each}
 use Rattle.script_tree.specs.Faults.{fault_number}
 use Rattle.script_tree.specs.declared.path.End.{End}
 use Rattle.script_tree.specs.declared.path.End.TheVariants.{Normal, Fault, AnswerFault}
 use Rattle.script_tree.specs.declared.path.Path.{Path}
-
--- two lists of one length, alike at each place
-abbrev pub each : {A : Type 0} → (A → A → Bool) → List A → List A → Bool
-each alike [] [] = true
-each alike [] (y ∷ ys) = false
-each alike (x ∷ xs) [] = false
-each alike (x ∷ xs) (y ∷ ys) = alike x y && each alike xs ys
 
 abbrev pub same_page : Option ℕ → Option ℕ → Bool
 same_page None None = true

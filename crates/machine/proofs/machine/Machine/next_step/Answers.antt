@@ -6,7 +6,7 @@ use Rattle.script_meaning.specs.Conduct.{Ends, conduct, fault_response, no_page,
 use Rattle.machine.specs.Gives.{progress_of}
 use Rattle.machine.specs.Told.{ending_of}
 use Rattle.machine.proofs.Following.{refused_tells, no_page_tells, waits_over}
-use Rattle.machine.proofs.machine.Machine.run.Goals as goal
+use Rattle.machine.proofs.machine.Machine.next_step.Goals as goal
 
 pub returns-in-NoPage-clause-tells : goal.returns-in-NoPage-clause-tells
 returns-in-NoPage-clause-tells c program q answers f =

@@ -1,0 +1,19 @@
+-- The law of completeness.
+use Rattle.std.specs.Prelude.{◌≡◌, ℕ, List}
+use Rattle.script_tree.specs.Objects.{Objects}
+use Rattle.script_tree.specs.Programs.{Program}
+use Rattle.script_tree.specs.declared.schedule.Moment.{Moment}
+use Rattle.script_check.specs.Validity.{IsValid}
+use Rattle.history.specs.ReportOf.{report_of}
+use Rattle.history.specs.Rooms.{IsLegal, IsClosed}
+use Rattle.history.specs.TraceOf.{trace_of}
+use Rattle.history.specs.declared.happening.Happening.{Happening}
+use Rattle.audit_meaning.specs.Verdicts.{verdict}
+use Rattle.audit_meaning.specs.declared.verdict.Verdict.TheVariants.{Accepted}
+
+-- The trace and the report of a history that a valid program allows, and in which no request is left open, are accepted.
+abbrev pub RecordedIsAccepted : Type 0
+RecordedIsAccepted = (program : Program) (start : Objects) (history : List Happening)
+    → IsValid program.declarations
+    → IsLegal program start history → IsClosed start history
+    → (schedule : List Moment) × (evaluated : ℕ) × (steps : ℕ) × (verdict program start (trace_of start history) (report_of start history) ≡ Accepted schedule evaluated steps)

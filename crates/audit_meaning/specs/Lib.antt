@@ -1,0 +1,15 @@
+pub mod Cycles
+pub mod Edges
+pub mod EdgesAre
+pub mod GroupFaults
+pub mod Groups
+pub mod Lists
+pub mod LogFaults
+pub mod Members
+pub mod Nodes
+pub mod Orders
+pub mod Placed
+pub mod Soundness
+pub mod Spots
+pub mod Verdicts
+pub mod Walked

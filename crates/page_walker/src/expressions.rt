@@ -262,7 +262,8 @@ impl Frame<'_, '_, '_> {
     ) -> Result<Value, Stopped>
         requires { IsInProgram self.now.walker.now.program function }
         ensures { GivesValue result run.new
-            (call_at self.now variables.now (own (function_of function.entry)) operands.now run.old) }
+            (call_at self.now variables.now (own (function_of function.entry)) operands.now
+            run.old) }
     {
         let values = self.eval_all(variables, run, operands.as_slice())?;
         run.charge()?;

@@ -1,5 +1,5 @@
 -- A run's files: their requests, counts, logs and edges.
-use Rattle.std.proofs.Common.{◌≡◌, ℕ, zero, suc, ◌+◌, ◌<◌, Bool, true, false, cond, List, [], ◌∷◌, ◌++◌, length, take, map, flat_map, filter_map, Some, None, Option, inl, inr, refl, sym, ap, subst, ◌∙◌, arith, nat_eq}
+use Rattle.std.proofs.Common.{◌≡◌, ℕ, zero, suc, ◌+◌, ◌<◌, Bool, true, false, cond, List, [], ◌∷◌, ◌++◌, length, take, map, flat_map, filter_map, Some, None, Option, inl, inr, refl, sym, ap, subst, ◌∙◌, arith, nat_eq, unwrap_or}
 use Rattle.std.proofs.lemmas.Bool.{cases_lt, eq-eqb, eqb-true}
 use Rattle.script_tree.specs.Programs.{Program}
 use Rattle.script_tree.specs.declared.operation.Object.{Object}
@@ -18,7 +18,7 @@ use Rattle.report.specs.declared.LogEntry.{LogEntry}
 use Rattle.report.specs.declared.Count.{Count}
 use Rattle.script_tree.specs.Objects.{Objects, is_same}
 use Rattle.script_tree.specs.Traces.{request_of}
-use Rattle.audit_meaning.specs.Spots.{Spot, spots, spots_in, count_of, or_zero}
+use Rattle.audit_meaning.specs.Spots.{Spot, spots, spots_in, count_of}
 use Rattle.audit_meaning.specs.Nodes.{node_at, node_of, nodes_in, nodes}
 use Rattle.audit_meaning.specs.declared.node.Node.{Node}
 use Rattle.audit_meaning.specs.declared.node.Node.TheVariants.{Number as step, End as close}
@@ -180,7 +180,7 @@ module _ (P : Program) (O : Objects) (E : List Named) (run : IsRun P (hall O) E)
           by true p k = sym (some_is k) ∙ is ∙ ap (total E) (sym (eqb-true r c.rid p))
           by false p k = absurd (none_is_not k)
 
-      go : (o : Option ℕ) → first_answer (member.operations_in r) (report_in E).counts ≡ o → or_zero o ≡ total E r
+      go : (o : Option ℕ) → first_answer (member.operations_in r) (report_in E).counts ≡ o → unwrap_or o 0 ≡ total E r
       go None e =
           let k = in_filter (hist.count_in E) E i (came r q) count h refl in
           absurd (none_is_not (sym (first_none (member.operations_in r) (report_in E).counts k.0 count e k.1) ∙ mine))

@@ -1,5 +1,5 @@
 -- Logs by their objects, and entries by their places.
-use Rattle.std.proofs.Common.{◌≡◌, ℕ, ◌<◌, Bool, true, false, ◌&&◌, cond, List, length, take, Some, None, Option, inl, inr, refl, sym, ap, subst, ◌∙◌, true≢false, nat_eq, length-take-le, le_of_lt}
+use Rattle.std.proofs.Common.{◌≡◌, ℕ, ◌<◌, Bool, true, false, ◌&&◌, cond, List, [], length, take, Some, None, Option, inl, inr, refl, sym, ap, subst, ◌∙◌, true≢false, nat_eq, length-take-le, le_of_lt, unwrap_or}
 use Rattle.std.proofs.lemmas.Bool.{cases_order, eqb-true, eq-eqb, and_from, and_parts}
 use Rattle.script_tree.specs.Programs.{Program}
 use Rattle.script_tree.specs.declared.operation.Object.{Object}
@@ -13,7 +13,7 @@ use Rattle.report.specs.declared.Log.{Log}
 use Rattle.report.specs.declared.Report.{Report}
 use Rattle.script_tree.specs.Objects.{Objects, is_same}
 use Rattle.audit_meaning.specs.Spots.{Spot, spots, spots_in, spot_of, if_named}
-use Rattle.audit_meaning.specs.Nodes.{step, node_of, log_of, if_of, or_empty}
+use Rattle.audit_meaning.specs.Nodes.{step, node_of, log_of, if_of}
 use Rattle.audit_meaning.proofs.Words.{same_itself, step_request, step_number}
 use Rattle.script_fit.proofs.Stay.{same_object}
 use Rattle.audit_meaning.proofs.Places.{in_map, in_map_back, in_flat, in_flat_back, first_none, befores_at, befores_back}
@@ -44,7 +44,7 @@ pub log_there : (R : Report) (o : Object) (i : ℕ) (e : LogEntry) → nth (log_
 unfolding log_of
 log_there R o i e h = go (first_answer (if_of o) R.logs) refl h
   where
-    go : (x : Option (List LogEntry)) → first_answer (if_of o) R.logs ≡ x → nth (or_empty x) i ≡ Some e → LogAt R o (or_empty x)
+    go : (x : Option (List LogEntry)) → first_answer (if_of o) R.logs ≡ x → nth (unwrap_or x []) i ≡ Some e → LogAt R o (unwrap_or x [])
     go None p q = absurd (none_is_not q)
     go (Some es) p q =
         let found = first_some (if_of o) R.logs es p in
@@ -80,7 +80,7 @@ module _ (P : Program) (O : Objects) (T : List TraceEvent) (R : Report) (checked
   unfolding log_of
   log_is i l at_i = go (first_answer (if_of l.object) R.logs) refl
     where
-      go : (x : Option (List LogEntry)) → first_answer (if_of l.object) R.logs ≡ x → or_empty x ≡ l.entries
+      go : (x : Option (List LogEntry)) → first_answer (if_of l.object) R.logs ≡ x → unwrap_or x [] ≡ l.entries
       go None p = absurd (none_is_not (sym (first_none (if_of l.object) R.logs i l p at_i) ∙ if_of_itself l))
       go (Some es) p =
           let found = first_some (if_of l.object) R.logs es p in

@@ -7,7 +7,7 @@ use Rattle.std.proofs.lemmas.List.{reverse-append}
 use Rattle.basis.specs.Lists.{nth, or_else, first_answer}
 use Rattle.basis.proofs.Options.{some_is, none_is_not}
 use Rattle.basis.proofs.Places.{In, any_false}
-use Rattle.audit_meaning.specs.Cycles.{left_over, predecessor, until, since, walked, turned, head_of, direct_edges, cycle_of}
+use Rattle.audit_meaning.specs.Cycles.{left_over, predecessor, until, since, walked, turned, direct_edges, cycle_of}
 use Rattle.audit_meaning.specs.Edges.{Edge, edges}
 use Rattle.audit_meaning.specs.Lists.{answer_if, last}
 use Rattle.audit_meaning.specs.Nodes.{Node, same_node, nodes}
@@ -276,15 +276,8 @@ module _ (direct : List Edge) (left : List Node) where
         ∙ until_is c.again (reverse c.after) (onto c.before []) (λ m. again_after (in_after c.again (subst (λ l. In l c.again) (sym (onto_is c.after [] ∙ append-nil (reverse c.after))) m)))
         ∙ sym (onto_is c.after [] ∙ append-nil (reverse c.after))
 
-    start_is : nth (c.before ++ c.again ∷ c.after) 0 ≡ head_of left
-    start_is = c.walk.starts ∙ by left
-      where
-        by : (xs : List Node) → nth xs 0 ≡ head_of xs
-        by [] = refl
-        by (x ∷ xs) = refl
-
-    walked_is : walked direct left (length left + 1) [] (head_of left) ≡ ring
-    walked_is = ap (walked direct left (length left + 1) []) (sym start_is) ∙ walk_from (c.before ++ c.again ∷ c.after) refl ∙ ap (λ l. c.again ∷ l) until_again
+    walked_is : walked direct left (length left + 1) [] (nth left 0) ≡ ring
+    walked_is = ap (walked direct left (length left + 1) []) (sym c.walk.starts) ∙ walk_from (c.before ++ c.again ∷ c.after) refl ∙ ap (λ l. c.again ∷ l) until_again
 
     ring_apart : Apart ring
     ring_apart = apart_more c.again (onto c.after []) (λ m. again_after (in_after c.again m)) (onto_apart c.after [] after_apart (λ x i j a b. absurd (none_is_not a)) (λ z m k. none_is_not k.1))
@@ -339,7 +332,7 @@ module _ (direct : List Edge) (left : List Node) where
         ∙ (λ i. since_is c.first parts.a parts.d first_once i ++ until_is c.first parts.a parts.d first_once i)
         ∙ sym parts.is
 
-    pub cycle_is : turned left (walked direct left (length left + 1) [] (head_of left)) ≡ cycle
+    pub cycle_is : turned left (walked direct left (length left + 1) [] (nth left 0)) ≡ cycle
     cycle_is = ap (turned left) walked_is ∙ turned_is
 
 over_apart : (all : List Edge) (n : ℕ) (left : List Node) → Apart left → Apart (left_over all n left)

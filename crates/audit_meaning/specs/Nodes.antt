@@ -1,5 +1,5 @@
 -- The events of a report: of each request its arrival, its operations and its departure.
-use Rattle.std.specs.Prelude.{ℕ, zero, suc, ◌+◌, Bool, false, ◌&&◌, List, [], map, flat_map, Option, Some, None, nat_le, nat_eq, if◌then◌else◌}
+use Rattle.std.specs.Prelude.{ℕ, zero, suc, ◌+◌, Bool, false, ◌&&◌, List, [], map, flat_map, Option, Some, None, nat_le, nat_eq, unwrap_or, if◌then◌else◌}
 use Rattle.basis.specs.Lists.{first_answer}
 use Rattle.script_tree.specs.Objects.{is_same}
 use Rattle.script_tree.specs.declared.operation.Choice.{Choice}
@@ -60,11 +60,6 @@ node_of entry = step entry.rid entry.number
 abbrev pub if_of : Object → Log → Option (List LogEntry)
 if_of object log = if is_same object log.object then Some log.entries else None
 
--- no entries where there is none
-abbrev pub or_empty : Option (List LogEntry) → List LogEntry
-or_empty None = []
-or_empty (Some entries) = entries
-
 -- an object's log
 unfoldable pub log_of : Report → Object → List LogEntry
-log_of report object = or_empty (first_answer (if_of object) report.logs)
+log_of report object = unwrap_or (first_answer (if_of object) report.logs) []

@@ -30,8 +30,9 @@ use Rattle.replayer.specs.declared.reason.Reason.TheVariants.{BadChoice, OtherRe
 use Rattle.object_set.specs.ObjectSets.{HeldObjects, objects_of}
 use Rattle.object_set.specs.Applied.{Does}
 use Rattle.replayer.specs.Opened.{Opened, opened_with, with_answer}
-use Rattle.replayer.specs.Places.{first_place, is_request, request_place, the_request}
-use Rattle.replayer.proofs.PlaceFacts.{request_place-once, request_found, request_absent, request_here}
+use Rattle.trace_index.specs.Places.{first_place, is_request, request_place, the_request}
+use Rattle.trace_index.proofs.HeadFacts.{tell_apart}
+use Rattle.trace_index.proofs.PlaceFacts.{request_place-once, request_found, request_absent, request_here}
 use Rattle.replayer.specs.Standings.{standing_at, standing_in, answers_in, is_away, departed_in, is_departed, Puts, waits, first_waiting, IsOpened, AreOpened}
 use Rattle.replayer.specs.Stages.{Kept, ShowsIn, Shows, IsStageOf, Opens, IsStep, Steps}
 use Rattle.replayer.specs.declared.stage.Stage.{Stage}
@@ -49,9 +50,6 @@ tell r x e = eq-eqb r x (sym e)
 not-true : (b : Bool) → (b ≡ true → ⊥) → b ≡ false
 not-true true h = absurd (h refl)
 not-true false h = refl
-
-pub tell_apart : (r x : ℕ) → (x ≡ r → ⊥) → nat_eq r x ≡ false
-tell_apart r x ne = not-true (nat_eq r x) (λ t. ne (sym (eqb-true r x t)))
 
 -- ---- one moment more
 

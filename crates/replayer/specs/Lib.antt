@@ -1,9 +1,7 @@
 pub mod Differences
-pub mod IndexedTraces
 pub mod Laws
 pub mod Opened
 pub mod OpenedView
-pub mod Places
 pub mod Runners
 pub mod Stages
 pub mod Standings

@@ -9,7 +9,7 @@ use Rattle.script_meaning.specs.Replay.{Scene, opening, after, ending_with}
 use Rattle.replayer.specs.Differences.{has_arrived, has_departed, moment_fault, fault_of}
 use Rattle.script_fit.specs.FitsOperation.{FitsOperation}
 use Rattle.object_set.specs.ObjectSets.{HeldObjects, objects_of}
-use Rattle.replayer.specs.Places.{request_place}
+use Rattle.trace_index.specs.Places.{request_place}
 use Rattle.replayer.specs.Runners.{IsNextIfOpen}
 use Rattle.replayer.specs.Standings.{standing_in, answers_in, is_away, departed_in, first_waiting}
 use Rattle.replayer.specs.declared.reason.Reason.{Reason}

@@ -11,7 +11,7 @@ use Rattle.trace_format.specs.Heads.{head_of}
 use Rattle.trace_format.specs.declared.trace_file.EventHead.{EventHead}
 use Rattle.replayer.specs.Differences.{left_open}
 use Rattle.replayer.specs.Opened.{Opened, with_answer}
-use Rattle.replayer.specs.Places.{request_place}
+use Rattle.trace_index.specs.Places.{request_place}
 use Rattle.replayer.specs.declared.reason.ReplayReason.{ReplayReason}
 use Rattle.replayer.specs.declared.standing.Standing.{Standing}
 use Rattle.replayer.specs.declared.standing.Standing.TheVariants.{Away, Open, Departed}

@@ -1,7 +1,6 @@
 //! A schedule against a trace: it agrees, or the first moment that differs, and why.
 #![tactic(auto)]
 
-pub mod indexed_trace;
 pub mod law;
 pub mod open_request;
 pub mod plain_runner;

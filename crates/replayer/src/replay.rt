@@ -3,7 +3,6 @@ ghost use Rattle.script_tree.specs.Traces.{IsBalanced};
 ghost use Rattle.object_set.specs.ObjectSets.{IsSetOf};
 ghost use Rattle.replayer.specs.Laws.{IsDifference, IsFinding, AgreesWhereExplained, schedule_read};
 
-use crate::indexed_trace::IndexedTrace;
 use crate::law::agreement;
 use crate::plain_runner::PlainRunner;
 use crate::reason::{ReplayReason, Replayed};
@@ -15,6 +14,7 @@ use script_check::program::Program;
 use script_index::Index;
 use std::alloc::{AllocError, Global};
 use trace_format::trace_file::TraceFile;
+use trace_index::IndexedTrace;
 
 /// Where the schedule first differs from the trace, if it does, from what these objects hold.
 /// Requests are run by the runner.

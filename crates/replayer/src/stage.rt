@@ -5,7 +5,6 @@ ghost use Rattle.script_meaning.specs.Explains.{rid_of};
 ghost use Rattle.replayer.specs.Differences.{is_same_response};
 ghost use Rattle.replayer.specs.Standings.{AreOpened};
 
-use crate::indexed_trace::IndexedTrace;
 use crate::open_request::OpenRequest;
 use crate::reason::{Reason, ReplayReason};
 use crate::runner::{Next, Runner};
@@ -17,6 +16,7 @@ use script_tree::operation::Choice;
 use script_tree::request::Response;
 use script_tree::schedule::Moment;
 use std::alloc::{AllocError, Global};
+use trace_index::IndexedTrace;
 
 /// What is kept between two moments of a schedule.
 #[derive(Drop)]
@@ -38,7 +38,7 @@ impl<'a, 'p> Stage<'a, 'p> {
     ghost use Rattle.std.specs.Prelude.{◌≡◌, IfOk};
     ghost use Rattle.script_tree.specs.declared.schedule.Moment.TheVariants.{Arrive, Act, Depart};
     ghost use Rattle.replayer.specs.Differences.{first_not_departed};
-    ghost use Rattle.replayer.specs.Places.{IsRequestPlace};
+    ghost use Rattle.trace_index.specs.Places.{IsRequestPlace};
     ghost use Rattle.replayer.specs.Stages.{Opens, IsStageOf, Steps, StepsAt, NextAt, WantsWhatFits, departed_of};
 
     /// Before the first moment, where the objects hold this.

@@ -4,12 +4,12 @@ ghost use Rattle.replayer.specs.Standings.{standing_at, departed_in, is_departed
 ghost use Rattle.replayer.specs.Standings.{PutsAnswer, IsWaiting, IsLeftOpen};
 ghost use Rattle.replayer.specs.declared.standing.Standing.TheVariants.{Away};
 
-use crate::indexed_trace::IndexedTrace;
 use crate::open_request::OpenRequest;
 use crate::reason::ReplayReason;
 use script_tree::value::Value;
 use std::alloc::{AllocError, Global};
 use trace_format::trace_file::EventHead;
+use trace_index::IndexedTrace;
 
 /// How a request stands.
 #[derive(Drop)]

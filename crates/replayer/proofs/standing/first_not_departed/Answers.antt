@@ -2,7 +2,7 @@ use Rattle.std.proofs.Common.{◌∙◌, ◌<◌, length, ap, sym, arith}
 use Rattle.std.proofs.lemmas.List.{drop_all}
 use Rattle.replayer.specs.Differences.{first_not_departed}
 use Rattle.replayer.specs.Standings.{departed_in}
-use Rattle.replayer.proofs.HeadFacts.{there, read_there}
+use Rattle.trace_index.proofs.HeadFacts.{there, read_there}
 use Rattle.replayer.proofs.StandingFacts.{passed, met}
 use Rattle.replayer.proofs.standing.first_not_departed.Goals as goal
 

@@ -11,7 +11,7 @@ use Rattle.script_meaning.specs.Replay.{ending_of, ending_with, next_of}
 use Rattle.script_tree.specs.Objects.{plausible}
 use Rattle.object_set.specs.Applied.{Does, takes}
 use Rattle.replayer.specs.Opened.{Opened, opened_with, with_answer}
-use Rattle.replayer.specs.Places.{request_place}
+use Rattle.trace_index.specs.Places.{request_place}
 use Rattle.replayer.specs.Standings.{standing_at, standing_in, answers_in, Puts, PutsAnswer, AreOpened}
 use Rattle.replayer.specs.Stages.{standing_of, kept_of, NextAt}
 use Rattle.replayer.specs.declared.stage.Stage.{Stage}

@@ -6,7 +6,7 @@ use Rattle.script_tree.specs.declared.schedule.Moment.{Moment}
 use Rattle.script_tree.specs.declared.trace.TraceEvent.{TraceEvent}
 use Rattle.replayer.specs.Differences.{has_arrived, is_too_early, arrival_fault}
 use Rattle.replayer.specs.Opened.{Opened, opened_with}
-use Rattle.replayer.specs.Places.{request_place}
+use Rattle.trace_index.specs.Places.{request_place}
 use Rattle.replayer.specs.Standings.{is_away, departed_in, Puts}
 use Rattle.replayer.specs.Stages.{standing_of, kept_of}
 use Rattle.replayer.specs.declared.reason.Reason.TheVariants.{SecondArrival, TooEarly}

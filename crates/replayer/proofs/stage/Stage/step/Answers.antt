@@ -1,8 +1,8 @@
 use Rattle.std.proofs.Common.{◌≡◌, ◌∙◌, ap, sym, Some, None}
 use Rattle.script_tree.specs.declared.schedule.Moment.TheVariants.{Arrive, Act, Depart}
 use Rattle.script_meaning.specs.Explains.{rid_of}
-use Rattle.replayer.specs.Places.{request_place}
-use Rattle.replayer.proofs.ResultFacts.{IfOk-map}
+use Rattle.trace_index.specs.Places.{request_place}
+use Rattle.trace_index.proofs.ResultFacts.{IfOk-map}
 use Rattle.replayer.proofs.StageFacts.{unknown_fault, known_step}
 use Rattle.replayer.proofs.stage.Stage.step.Goals as goal
 

@@ -1,0 +1,10 @@
+pub mod Members
+pub mod Steps
+pub mod Placed
+pub mod Agreement
+pub mod Walks
+pub mod Windows
+pub mod Paces
+pub mod Stuckness
+pub mod Outcomes
+pub mod Rings

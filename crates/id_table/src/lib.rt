@@ -1,0 +1,6 @@
+//! A table from the ids of requests to numbers.
+#![tactic(auto)]
+
+pub mod table;
+
+pub use table::IdTable;

@@ -3,13 +3,14 @@ use Rattle.std.proofs.Common.{◌≡◌, ℕ, zero, suc, ◌+◌, ◌-◌, ◌<�
 use Rattle.std.proofs.Common.{◌⊎◌, inl, inr, refl, sym, ap, subst, ◌∙◌, arith, true≢false}
 use Rattle.std.proofs.lemmas.Bool.{cases_lt}
 use Rattle.std.proofs.lemmas.List.{get_or_default}
+use Rattle.std.proofs.lemmas.Option.{slice_get_within, slice_get-get_or, get_or_from_slice_get}
 use Rattle.event_order.specs.declared.graph.Graph.{Graph}
 use Rattle.event_order.specs.declared.graph.Node.{Node}
 use Rattle.event_order.specs.declared.graph.Event.TheVariants.{Arrival}
 use Rattle.event_order.specs.Order.{NodeIs, EventIs, has, IsEventGraph}
 use Rattle.event_order.specs.Standing.{Standing}
 use Rattle.event_order.specs.Thin.{LiesBetween, IsThin}
-use Rattle.event_order.specs.Cycle.{IsDirect, by_request, by_log, by_time, IsLeast, HoldsBack, considered}
+use Rattle.event_order.specs.Cycle.{IsDirect, by_request, by_log, by_time, IsLeast, IsLeft, IsUnmarked, HoldsBack, considered}
 use Rattle.event_order.specs.Window.{IsDeparted}
 use Rattle.event_order.proofs.Steps.{same_node, once, not_later, not_arriving}
 
@@ -39,6 +40,17 @@ consider_more P Q false (Some z) x h to new from = (
 pub marked_read : (g : Graph) (xs : List ℕ) (marks : List Bool) (f : ℕ → Bool) (p : ℕ) → Standing g xs marks f p
     → (x : ℕ) (d : Bool) → x < length g.nodes.items → get_or marks x d ≡ has xs x
 marked_read g xs marks f p holds x d l = get_or_default marks x d false (omega (arith, holds.marks_all)) ∙ holds.marked x l
+
+-- the least without a mark is the least that is left
+pub unmarked_left : (g : Graph) (xs : List ℕ) (marks : List Bool) (f : ℕ → Bool) (p : ℕ) → Standing g xs marks f p
+    → (least : Option ℕ) → IsLeast (IsUnmarked marks) least → IsLeast (IsLeft g xs) least
+unmarked_left g xs marks f p holds least is = least_same (IsUnmarked marks) (IsLeft g xs) least is
+    (λ x mark.
+    let l : x < length g.nodes.items = omega (arith, holds.marks_all, slice_get_within marks x false mark) in
+    (l, sym (holds.marked x l) ∙ get_or_from_slice_get marks x false false mark))
+    (λ x left.
+    let l : x < length marks = omega (arith, holds.marks_all, left.0) in
+    slice_get-get_or marks x false l ∙ ap (λ b. Some b) (holds.marked x left.0 ∙ left.1))
 
 module _ (g : Graph) (xs : List ℕ) (graph : IsEventGraph g) (x : ℕ) (node : Node) (is : NodeIs g x node) where
   -- what holds an arrival back

@@ -2,7 +2,7 @@
 use Rattle.std.specs.Prelude.{◌≡◌, ℕ, ◌+◌, ◌-◌, ◌<◌, ◌≤◌, ◌⊎◌, min, Bool, true, false, Some, None, Option, nat_eq}
 use Rattle.std.specs.Prelude.{List, ◌++◌, length, take, drop, reverse, slice_index, All, Vec}
 use Rattle.std.specs.declared.alloc.Global.{Global}
-use Rattle.std.specs.List.{IsDistinct}
+use Rattle.std.specs.List.{IsDistinct, slice_get}
 use Rattle.event_order.specs.declared.graph.Graph.{Graph}
 use Rattle.event_order.specs.declared.graph.Node.{Node}
 use Rattle.event_order.specs.declared.graph.Event.TheVariants.{Arrival, Departure}
@@ -23,6 +23,10 @@ IsLeast P (Some x) = P x × ((y : ℕ) → P y → x ≤ y)
 -- a node that is not placed
 abbrev pub IsLeft : Graph → List ℕ → ℕ → Type 0
 IsLeft g xs x = (x < length g.nodes.items) × (has xs x ≡ false)
+
+-- the same by its mark
+abbrev pub IsUnmarked : List Bool → ℕ → Type 0
+IsUnmarked marks x = slice_get marks x ≡ Some false
 
 -- a node before x that is not placed
 abbrev pub HoldsBack : Graph → List ℕ → ℕ → ℕ → Type 0

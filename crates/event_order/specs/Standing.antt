@@ -23,7 +23,7 @@ Covering g xs free p = (q : ℕ) → IsFree g xs q → free q ≡ false → (i :
 
 -- the trace has been passed up to its end, or to a departure that is not placed
 pub record Stops (g : Graph) (xs : List ℕ) (p : ℕ) : Type 0 where
-  pub no_arrival : (q : ℕ) → EventIs g p (Arrival q) → ⊥
+  pub no_arrival : (q : ℕ) → ¬ EventIs g p (Arrival q)
   pub not_departed : (y : ℕ) → EventIs g p (Departure y) → has xs y ≡ false
 
 -- the set has each free node
@@ -60,7 +60,7 @@ IsTaken g s x = Taken g s.order.items s.is_placed.items (contains nat_cmp s.free
 abbrev pub IsLater : Graph → ℕ → Type 0
 IsLater g x = (node : Node) × NodeIs g x node × (node.is_arrival ≡ false)
 
--- that is free
+-- such a node that is free
 abbrev pub IsFreeLater : Graph → Placing → ℕ → Type 0
 IsFreeLater g s x = IsLater g x × IsFree g s.order.items x
 

@@ -1,4 +1,5 @@
 ghost use Rattle.std.specs.Prelude.{◌≡◌, ◌↔◌, ◌<◌, ◌++◌, ◌∷◌, [], length, IsTrue, IfOk, OnOk};
+ghost use Rattle.event_order.specs.Cycle.{IsLeast, IsUnmarked};
 ghost use Rattle.event_order.specs.Order.{IsEventGraph, IsOrder};
 ghost use Rattle.event_order.specs.Standing.{IsStanding, IsCovering, IsSettled, IsTaken, IsFreeLater, Grows, Offers, OffersLog};
 
@@ -116,6 +117,13 @@ impl Placing {
         self.offer(graph, x + 1)?;
         self.offer_log(graph, x)?;
         self.advance(graph)
+    }
+
+    /// The least node that is not placed.
+    pub fn least_left(&self) -> Option<usize>
+        ensures { IsLeast (IsUnmarked self.now.is_placed.items) result }
+    {
+        self.is_placed.iter().position(|&placed| !placed)
     }
 }
 

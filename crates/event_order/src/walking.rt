@@ -1,5 +1,5 @@
 ghost use Rattle.std.specs.Prelude.{◌≡◌, ◌<◌, ◌≤◌, true, length, slice_index, slice_index_or, All, IfOk};
-ghost use Rattle.event_order.specs.Cycle.{IsLeast, IsLeft, HoldsBack, IsRotated, FindsCycle, considered};
+ghost use Rattle.event_order.specs.Cycle.{IsLeast, HoldsBack, IsRotated, FindsCycle, considered};
 ghost use Rattle.event_order.specs.Order.{IsEventGraph, has};
 ghost use Rattle.event_order.specs.Standing.{IsStanding};
 ghost use Rattle.event_order.specs.Thin.{IsThin};
@@ -50,14 +50,7 @@ fn least_before(
     }
 }
 
-/// The least node that is not placed.
-fn least_left(placing: &Placing, graph: &Graph) -> Option<usize>
-    requires { IsStanding graph.now placing.now }
-    ensures { IsLeast (IsLeft graph.now placing.now.order.items) result }
-{
-    placing.is_placed.iter().position(|&placed| !placed)
-}
-
+/// The place of x in the walk.
 fn place_of(walk: &[usize], x: usize) -> usize
     requires { has walk.now x ≡ true }
     ensures inside { result < length walk.now }
@@ -71,6 +64,7 @@ fn place_of(walk: &[usize], x: usize) -> usize
     unreachable!()
 }
 
+/// The place of the least number.
 fn place_of_least(xs: &[usize]) -> usize
     requires { 0 < length xs.now }
     ensures inside { result < length xs.now }
@@ -107,7 +101,7 @@ pub fn find_cycle(
     requires holds { IsStanding graph.now placing.now }
     ensures { IfOk result (FindsCycle graph.now placing.now.order.items) }
 {
-    let mut next = least_left(placing, graph);
+    let mut next = placing.least_left();
     if next.is_none() {
         return Ok(None);
     }

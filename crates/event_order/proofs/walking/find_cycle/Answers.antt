@@ -1,6 +1,7 @@
 use Rattle.std.proofs.Common.{◌≡◌, ℕ, ◌<◌, ◌++◌, length, drop, take, reverse, replicate, get_or, List, false, sym, ◌∙◌, ap, subst, arith, rules}
 use Rattle.event_order.specs.Order.{has}
 use Rattle.event_order.proofs.Paces.{Walking, next_left, next_inside, seen_read, paces_to, paces_closer, ends_nowhere, closes, starts}
+use Rattle.event_order.proofs.Walks.{unmarked_left}
 use Rattle.event_order.proofs.walking.find_cycle.Goals as goal
 
 pub loop-next-init : goal.loop-next-init
@@ -11,7 +12,8 @@ loop-next-init c =
     let none : c.in_ok-seen.seen.items ≡ replicate (length g.nodes.items) false =
     c.in_ok-seen.ensures.items_if_clones_equal (λ y h. h) ∙ ap (λ (n : ℕ). replicate n false) n in
     subst (λ (w : List ℕ). Walking g xs w c.in_ok-seen.seen.items c.least_left-next.result) (sym c.new-walk.ensures.items)
-    (starts g xs c.in_ok-seen.seen.items c.least_left-next.result none c.least_left-next.ensures)
+    (starts g xs c.in_ok-seen.seen.items c.least_left-next.result none
+    (unmarked_left g _ _ _ _ c.requires.holds c.least_left-next.result c.least_left-next.ensures))
 
 pub index-requires : goal.index-requires
 index-requires c =

@@ -1,0 +1,9 @@
+pub mod Ascending
+pub mod Departing
+pub mod EdgeSteps
+pub mod Frontier
+pub mod Greatest
+pub mod Precedence
+pub mod Replaced
+pub mod Sources
+pub mod Walked

@@ -1,0 +1,5 @@
+pub mod Departures
+pub mod EdgeLists
+pub mod Edges
+pub mod Paths
+pub mod Since

@@ -1,0 +1,10 @@
+pub mod Carried
+pub mod CountFacts
+pub mod EntryFacts
+pub mod EntryTests
+pub mod Finding
+pub mod Firsts
+pub mod GroupFacts
+pub mod ObjectFacts
+pub mod Tables
+pub mod Tests

@@ -1,0 +1,10 @@
+pub mod Built
+pub mod Cycles
+pub mod Gets
+pub mod Images
+pub mod Links
+pub mod Numbered
+pub mod Offsets
+pub mod Orders
+pub mod Shown
+pub mod Whole

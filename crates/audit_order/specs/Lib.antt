@@ -1,0 +1,5 @@
+pub mod Built
+pub mod Links
+pub mod Mirrors
+pub mod Numbers
+pub mod Shows

@@ -1,0 +1,69 @@
+//! What the checks of a report and the order of its events come to.
+ghost use Rattle.std.specs.Prelude.{IfOk};
+ghost use Rattle.script_tree.specs.Traces.{IsBalanced};
+
+use anyhow::bail;
+use audit_meaning::node::Nodes;
+use audit_meaning::reason::Reason;
+use audit_order::{Ordered, order_events};
+use basis::OrMemory;
+use log_checker::{check_groups, check_logs};
+use object_set::ObjectSet;
+use report::Report;
+use std::alloc::{AllocError, Global};
+use trace_format::balance::first_unbalanced;
+use trace_format::trace_file::TraceFile;
+use trace_index::IndexedTrace;
+
+/// The order of events, or what is wrong with the report.
+#[derive(Drop)]
+pub enum Answer {
+    Rejected(Reason),
+    Order(Nodes),
+}
+
+impl Answer {
+    /// How many nodes it names.
+    pub fn length(&self) -> usize {
+        match self {
+            Answer::Order(nodes) | Answer::Rejected(Reason::Cycle(nodes)) => nodes.len(),
+            Answer::Rejected(_) => 0,
+        }
+    }
+}
+
+/// The trace with its table, where it is balanced.
+pub fn indexed<'a>(alloc: Global, trace: &'a TraceFile) -> anyhow::Result<IndexedTrace<'a>>
+    ensures { IfOk result IsBalanced }
+{
+    if let Some(rid) = first_unbalanced(alloc, trace)? {
+        bail!("not balanced at request {rid}");
+    }
+    Ok(IndexedTrace::new(alloc, trace)?)
+}
+
+/// What a report comes to without its groups' runs, where the program declares nothing and nothing is
+/// stored.
+pub fn answer_of(
+    alloc: Global,
+    trace: &IndexedTrace<'_>,
+    report: &Report,
+) -> Result<Answer, AllocError>
+    requires { IsBalanced trace.now }
+{
+    let start = ObjectSet::new(alloc, &[])?;
+    let map = match check_logs(alloc, &start, trace, report) {
+        Ok(map) => map,
+        Err(OrMemory::Memory) => return Err(AllocError),
+        Err(OrMemory::Other(reason)) => return Ok(Answer::Rejected(reason)),
+    };
+    let nodes = match order_events(alloc, trace, report, &map)? {
+        Ordered::Order(nodes) => nodes,
+        Ordered::Cycle(nodes) => return Ok(Answer::Rejected(Reason::Cycle(nodes))),
+    };
+    match check_groups(alloc, trace, report) {
+        Ok(()) => Ok(Answer::Order(nodes)),
+        Err(OrMemory::Memory) => Err(AllocError),
+        Err(OrMemory::Other(reason)) => Ok(Answer::Rejected(reason)),
+    }
+}

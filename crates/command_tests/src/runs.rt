@@ -1,7 +1,7 @@
 //! Runs of the commands over files in memory.
 
+use command_words::Words;
 use commands::run::run;
-use commands::words::Words;
 use outside::{Clock, FixedClock, MemHouse, MemShelf, MemSink, OpenGate};
 use std::alloc::{AllocError, Global};
 

@@ -4,10 +4,10 @@ use Rattle.outside.specs.Files.{Files}
 use Rattle.command_inputs.specs.declared.fault.InputError.{InputError}
 use Rattle.command_inputs.specs.declared.fault.InputError.TheVariants as error
 use Rattle.command_inputs.specs.declared.fault.InputFault.{InputFault}
+use Rattle.command_words.specs.RecordWords.{RecordWords, record_words}
+use Rattle.command_words.specs.Words.{ReplayNames, check_name, replay_names}
 use Rattle.commands.specs.Outcome.{IfFound, IsCheckedFile, IsOutcome, IsOutcomeOf, IsRecording, IsReplayed}
 use Rattle.commands.specs.Outputs.{Outcome, says}
-use Rattle.commands.specs.RecordWords.{RecordWords, record_words}
-use Rattle.commands.specs.Words.{ReplayNames, check_name, replay_names}
 use Rattle.commands.specs.declared.answer.Answer.TheVariants.{Input}
 
 pub by_replay : (words : List (List ℕ)) (reading : Option ℕ) (files : Files) (names : ReplayNames) (outcome : Outcome) → replay_names words ≡ Some names

@@ -19,9 +19,9 @@ use Rattle.command_inputs.specs.Program.{program_input}
 use Rattle.command_inputs.specs.Requests.{requests_input}
 use Rattle.command_inputs.specs.State.{state_input}
 use Rattle.command_inputs.specs.declared.fault.InputError.{InputError}
+use Rattle.command_words.specs.RecordWords.{RecordWords}
 use Rattle.commands.specs.Outcome.{IfFound, IfTurns, IsOfJobs, IsRecording, WithJobs, WithPages, WithStart, WithTurns, written}
 use Rattle.commands.specs.Outputs.{Outcome, says}
-use Rattle.commands.specs.RecordWords.{RecordWords}
 use Rattle.commands.specs.declared.answer.Answer.TheVariants.{TooLong}
 use Rattle.commands.proofs.Steps.{goes_on, ends}
 

@@ -15,12 +15,12 @@ use Rattle.history.specs.declared.happening.Happening.{Happening}
 use Rattle.turns.specs.Run.{IsRunOf}
 use Rattle.trace_and_report.specs.Recorded.{IsTraceFile, IsReportFile, AreFilesOf}
 use Rattle.trace_and_report.specs.declared.recorded.Recorded.{Recorded as TraceAndReport}
+use Rattle.command_words.proofs.RecordWordsRead.{other_names}
+use Rattle.command_words.specs.RecordWords.{RecordWords, record_words}
+use Rattle.command_words.specs.Words.{check_name, replay_names}
 use Rattle.commands.specs.Outcome.{IsOfJobs, IsOutcome, IsOutcomeOf, WithInput, WithJobs, WithPages, WithStart, WithTurns, written}
 use Rattle.commands.specs.Outputs.{Outcome, with_puts}
-use Rattle.commands.specs.RecordWords.{RecordWords, record_words}
 use Rattle.commands.specs.Recorded.{AskRecord, AreTurnsOf, HasRecording}
-use Rattle.commands.specs.Words.{check_name, replay_names}
-use Rattle.commands.proofs.RecordWordsRead.{other_names}
 use Rattle.commands.proofs.Verdicts.{status, goes_on}
 
 -- ---- two files that are put

@@ -13,11 +13,11 @@ use Rattle.replayer.specs.Differences.{verdict}
 use Rattle.replayer.specs.Laws.{AgreesExactly, ExplainsIfRead}
 use Rattle.command_inputs.specs.Inputs.{Input, IsInput}
 use Rattle.command_inputs.specs.Trace.{trace_input}
-use Rattle.commands.specs.Words.{ReplayNames, check_name, replay_names}
+use Rattle.command_words.specs.RecordWords.{RecordWords, record_words}
+use Rattle.command_words.specs.Words.{ReplayNames, check_name, replay_names}
 use Rattle.commands.specs.Lines.{finding_of, status_of}
 use Rattle.commands.specs.Outcome.{WithInput, WithTurns, IsCounted, IsFound, IsOfJobs, IsOutcome, IsOutcomeOf, IsRecording, WithProgram, WithState, WithTrace, WithJobs, WithPages, WithStart}
 use Rattle.commands.specs.Outputs.{Outcome}
-use Rattle.commands.specs.RecordWords.{RecordWords, record_words}
 use Rattle.commands.specs.Explained.{AskCheck, AskReplay, AreSpelled, IsExplained, IsProgramFile, IsUnexplained}
 use Rattle.commands.specs.declared.answer.Answer.TheVariants.{Replay}
 

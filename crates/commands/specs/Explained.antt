@@ -14,7 +14,7 @@ use Rattle.command_inputs.specs.Program.{program_input}
 use Rattle.command_inputs.specs.Schedule.{schedule_input}
 use Rattle.command_inputs.specs.State.{state_input}
 use Rattle.command_inputs.specs.Trace.{trace_input}
-use Rattle.commands.specs.Words.{ReplayNames, check_name, replay_names}
+use Rattle.command_words.specs.Words.{ReplayNames, check_name, replay_names}
 
 -- The words ask for a replay, or for a check.
 abbrev pub AskReplay : List (List ℕ) → Type 0

@@ -1,11 +1,7 @@
 pub mod Explained
 pub mod Lines
-pub mod NamesView
 pub mod Outcome
 pub mod Outputs
 pub mod Printing
-pub mod RecordWords
 pub mod Recorded
 pub mod Runs
-pub mod Words
-pub mod WordsApp

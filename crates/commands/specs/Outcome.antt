@@ -27,10 +27,10 @@ use Rattle.command_inputs.specs.Turns.{turns_input}
 use Rattle.command_inputs.specs.declared.fault.InputError.{InputError}
 use Rattle.command_inputs.specs.declared.fault.InputError.TheVariants as error
 use Rattle.command_inputs.specs.declared.fault.InputFault.{InputFault}
+use Rattle.command_words.specs.RecordWords.{RecordWords, record_words}
+use Rattle.command_words.specs.Words.{ReplayNames, check_name, replay_names}
 use Rattle.commands.specs.Lines.{finding_of}
 use Rattle.commands.specs.Outputs.{Outcome, says}
-use Rattle.commands.specs.RecordWords.{RecordWords, record_words}
-use Rattle.commands.specs.Words.{ReplayNames, check_name, replay_names}
 use Rattle.commands.specs.declared.answer.Answer.{Answer}
 use Rattle.commands.specs.declared.answer.Finding.{Finding}
 use Rattle.commands.specs.declared.answer.Answer.TheVariants.{Usage, Input as InputAnswer, Checked, Replay, Recorded, TooLong}

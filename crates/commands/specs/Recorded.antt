@@ -14,8 +14,8 @@ use Rattle.command_inputs.specs.Program.{program_input}
 use Rattle.command_inputs.specs.Requests.{requests_input}
 use Rattle.command_inputs.specs.State.{state_input}
 use Rattle.command_inputs.specs.Turns.{turns_input}
-use Rattle.commands.specs.RecordWords.{RecordWords, record_words}
-use Rattle.commands.specs.Words.{check_name, replay_names}
+use Rattle.command_words.specs.RecordWords.{RecordWords, record_words}
+use Rattle.command_words.specs.Words.{check_name, replay_names}
 
 abbrev pub AskRecord : List (List ℕ) → Type 0
 AskRecord words =

@@ -6,7 +6,5 @@ pub mod check;
 pub mod outcome;
 pub mod print;
 pub mod record;
-pub mod record_words;
 pub mod replay;
 pub mod run;
-pub mod words;

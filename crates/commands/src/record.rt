@@ -1,14 +1,14 @@
 ghost use Rattle.std.specs.Prelude.{◌≡◌, IfOk, option_map};
 ghost use Rattle.std.specs.Option.{ForSome};
 ghost use Rattle.command_inputs.specs.Faults.{UsesToRead};
-ghost use Rattle.commands.specs.NamesView.{record_words_of};
+ghost use Rattle.command_words.specs.NamesView.{record_words_of};
 ghost use Rattle.commands.specs.Outcome.{IfRecorded, IfTurns, SaysAbsent, written};
 
 use crate::answer::Answer;
 use crate::outcome::{Outcome, Output};
-use crate::record_words::RecordWords;
 use basis::OrMemory;
 use command_inputs::{Halt, InputError, read_program, read_requests, read_state, read_turns};
+use command_words::RecordWords;
 use outside::{Clock, Shelf};
 use script_check::program::Program;
 use std::alloc::{AllocError, Global};

@@ -1,11 +1,11 @@
 ghost use Rattle.std.specs.Option.{ForSome};
 ghost use Rattle.command_inputs.specs.Faults.{UsesToRead};
-ghost use Rattle.commands.specs.NamesView.{names_of};
+ghost use Rattle.command_words.specs.NamesView.{names_of};
 ghost use Rattle.commands.specs.Outcome.{IfReplayed};
 
 use crate::answer::Finding;
-use crate::words::ReplayNames;
 use command_inputs::{InputError, read_program, read_schedule, read_state, read_trace};
+use command_words::ReplayNames;
 use outside::Shelf;
 use replayer::replay::replay;
 use std::alloc::Global;

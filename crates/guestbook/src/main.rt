@@ -2,8 +2,8 @@
 //! the status and the line.
 #![tactic(auto)]
 
+use command_words::Words;
 use commands::run::run;
-use commands::words::Words;
 use outside::{FixedClock, MemHouse, MemShelf, MemSink, OpenGate};
 use std::alloc::{AllocError, Global};
 use std::fs;

@@ -4,8 +4,8 @@
 ghost use Rattle.std.specs.Prelude.{◌≡◌, IfOk, OnErr};
 ghost use Rattle.orochi.specs.declared.TheConstants.{NOT_BEGUN};
 
+use command_words::Words;
 use commands::run::run;
-use commands::words::Words;
 use outside::{MemHouse, OpenGate};
 use outside_os::{FileShelf, StdSink, SystemClock};
 use std::io::ErrorKind;

@@ -1,8 +1,8 @@
 //! The run of a row.
 use crate::row::{Row, text_of};
 use crate::spelled::{schedule_of, trace_of};
+use command_words::Words;
 use commands::run::run;
-use commands::words::Words;
 use outside::{FixedClock, MemHouse, MemShelf, MemSink, OpenGate};
 use std::alloc::{AllocError, Global};
 

@@ -1,6 +1,6 @@
 use Rattle.std.proofs.Common.{◌∙◌}
 use Rattle.object_set.specs.ObjectSets.{objects_of}
-use Rattle.commands.specs.NamesView.{record_words_of}
+use Rattle.command_words.specs.NamesView.{record_words_of}
 use Rattle.commands.proofs.RecordSteps.{begun, jobs_fail, turns_fail, recorded, of_files, of_limit, by_slice}
 use Rattle.commands.proofs.record.record_files.Goals as goal
 

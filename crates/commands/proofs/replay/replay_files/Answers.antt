@@ -1,7 +1,7 @@
 use Rattle.std.proofs.Common.{◌∙◌, ap, inr}
 use Rattle.object_set.specs.ObjectSets.{objects_of}
+use Rattle.command_words.specs.NamesView.{names_of}
 use Rattle.commands.specs.Lines.{finding_of}
-use Rattle.commands.specs.NamesView.{names_of}
 use Rattle.commands.specs.Outcome.{IsFound, WithProgram, WithState, WithTrace}
 use Rattle.commands.proofs.Steps.{goes_on, ends, replay_says}
 use Rattle.commands.proofs.replay.replay_files.Goals as goal

@@ -1,5 +1,5 @@
 use Rattle.std.proofs.Common.{◌≡◌, ◌∙◌, option_map, ap, sym, subst}
-use Rattle.commands.specs.NamesView.{names_of, record_words_of}
+use Rattle.command_words.specs.NamesView.{names_of, record_words_of}
 use Rattle.commands.specs.Outcome.{IsRecording, IsReplayed}
 use Rattle.commands.proofs.Outcomes.{by_replay, by_record, by_fault}
 use Rattle.commands.proofs.Steps.{replay_says}

@@ -1,6 +1,6 @@
 use Rattle.std.proofs.Common.{◌∙◌}
-use Rattle.commands.proofs.WordsRead.{takes_names, refuses_others, is_simple_app}
-use Rattle.commands.proofs.words.four_names.Goals as goal
+use Rattle.command_words.proofs.WordsRead.{takes_names, refuses_others, is_simple_app}
+use Rattle.command_words.proofs.words.four_names.Goals as goal
 
 pub returns-in-Ok : goal.returns-in-Ok
 returns-in-Ok c =

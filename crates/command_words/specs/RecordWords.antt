@@ -1,5 +1,5 @@
 -- What the words of a command line ask `record` to do: five names and three options, read as the command-line library reads a simple command.
-use Rattle.std.specs.Prelude.{ℕ, ◌+◌, ◌<◌, ◌^◌, Bool, true, ◌&&◌, not, nat_lt, if◌then◌else◌, List, [], ◌∷◌, fold, codes, Option, Some, None}
+use Rattle.std.specs.Prelude.{ℕ, ◌+◌, ◌^◌, Bool, true, ◌&&◌, not, nat_lt, if◌then◌else◌, List, [], ◌∷◌, fold, codes, Option, Some, None}
 use Rattle.std.specs.Fmt.{decimal}
 use Rattle.std.specs.Str.{bytes_eq}
 use Rattle.std.specs.Str.Parse.{digits_value}
@@ -7,8 +7,8 @@ use Rattle.basis.specs.Options.{◌>>=◌}
 use Rattle.clap.specs.Faults.{fault_of}
 use Rattle.clap.specs.Simple.{App, matches_of, new_app, new_rule, on_top, with_rule}
 use Rattle.clap.specs.Walk.{Rule, first_of, is_empty}
-use Rattle.commands.specs.WordsApp.{name_rule}
-use Rattle.commands.specs.declared.record_words.TheConstants.{MOST_WORKERS}
+use Rattle.command_words.specs.WordsApp.{name_rule}
+use Rattle.command_words.specs.declared.record_words.TheConstants.{MOST_WORKERS}
 
 -- the names of the files, with that of the turns where there is one, how many workers there are, and the seed
 pub record RecordWords : Type 0 where

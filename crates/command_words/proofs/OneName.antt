@@ -1,7 +1,7 @@
 -- More than two words are never one name.
 use Rattle.std.proofs.Common.{◌≡◌, ℕ, List, [], ◌∷◌, Option, Some, None, option_map, Bool, true, false, if◌then◌else◌, codes, refl, sym, map, length, ◌≤◌, arith}
 use Rattle.std.specs.Str.{bytes_eq}
-use Rattle.commands.specs.Words.{is_option, names_in, in_one}
+use Rattle.command_words.specs.Words.{is_option, names_in, in_one}
 
 two_before : (a b : List ℕ) (o : Option (List (List ℕ))) → in_one (option_map (λ n. a ∷ n) (option_map (λ n. b ∷ n) o)) ≡ None
 two_before a b None = refl

@@ -2,8 +2,8 @@ use Rattle.std.proofs.Common.{◌≡◌, ◌∙◌, ap, ap₂, rules, codes, tru
 use Rattle.std.proofs.lemmas.Result.{IfOk-weaker}
 use Rattle.clap.specs.Walk.{rule_of}
 use Rattle.clap.specs.Simple.{app_of, app_of_fields, new_app, on_top, with_rule}
-use Rattle.commands.specs.WordsApp.{name_rule}
-use Rattle.commands.proofs.words.replay_command.Goals as goal
+use Rattle.command_words.specs.WordsApp.{name_rule}
+use Rattle.command_words.proofs.words.replay_command.Goals as goal
 
 pub returns : goal.returns
 returns c =

@@ -1,9 +1,9 @@
 -- The names that are lent, by their bytes.
 use Rattle.std.specs.Prelude.{option_map}
-use Rattle.commands.specs.RecordWords as meant_record
-use Rattle.commands.specs.Words as meant
-use Rattle.commands.specs.declared.record_words.RecordWords.{RecordWords}
-use Rattle.commands.specs.declared.words.ReplayNames.{ReplayNames}
+use Rattle.command_words.specs.RecordWords as meant_record
+use Rattle.command_words.specs.Words as meant
+use Rattle.command_words.specs.declared.record_words.RecordWords.{RecordWords}
+use Rattle.command_words.specs.declared.words.ReplayNames.{ReplayNames}
 
 abbrev pub names_of : ReplayNames → meant.ReplayNames
 names_of n = record { program = n.program.now; state = n.state.now; trace = n.trace.now; schedule = n.schedule.now }

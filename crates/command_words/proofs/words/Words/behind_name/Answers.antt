@@ -1,7 +1,7 @@
 use Rattle.std.proofs.Common.{◌≡◌, ◌∙◌, ap, map, Ok, string_bytes}
 use Rattle.std.proofs.lemmas.Iterator.Adapters.{YieldsList-from_skip, YieldsList-from_vec, fact_from_collect}
 use Rattle.std.specs.Vec.Iter.{into_iter_items, into_iter_len}
-use Rattle.commands.proofs.words.Words.behind_name.Goals as goal
+use Rattle.command_words.proofs.words.Words.behind_name.Goals as goal
 
 -- what is collected is what the arguments yield behind their first
 pub returns : goal.returns

@@ -1,5 +1,5 @@
 -- What the words of `record` say, where `clap` takes them.
-use Rattle.std.proofs.Common.{◌≡◌, ◌≢◌, ◌∙◌, ℕ, ◌<◌, ◌^◌, Bool, true, false, cond, not, ◌&&◌, Result, Ok, Err, IfOk, ap₂, List, [], ◌∷◌, map, length, Option, Some, None, codes, String, Global, string_bytes, ◌⊎◌, inl, inr, refl, ap, sym, subst, arith}
+use Rattle.std.proofs.Common.{◌≡◌, ◌≢◌, ◌∙◌, ℕ, ◌<◌, ◌^◌, Bool, true, false, cond, not, ◌&&◌, Result, Ok, Err, IfOk, ap₂, List, [], ◌∷◌, map, length, Option, Some, None, codes, String, Global, string_bytes, inl, inr, refl, ap, sym, subst, arith}
 use Rattle.std.proofs.lemmas.Bool.{ltb-true, lt-ltb, ne_eqb}
 use Rattle.std.proofs.lemmas.Fmt.{decimal_is_IsNumeral, parse-decimal}
 use Rattle.std.proofs.lemmas.Slice.Eq.{bytes_eq-Decides}
@@ -22,8 +22,8 @@ use Rattle.clap.specs.declared.error.kind.ErrorKind.TheVariants.{OutOfMemory}
 use Rattle.clap.specs.declared.parser.matches.ArgMatches.{ArgMatches}
 use Rattle.clap.specs.declared.parser.matches.Found.{Found}
 use Rattle.clap.proofs.WalkLemmas.{first_value-rows}
-use Rattle.commands.specs.RecordWords.{RecordWords, if_sound, is_sound, number_of, number_or, option_rule, record_app, record_words, taken_words, words_in}
-use Rattle.commands.specs.WordsApp.{name_rule}
+use Rattle.command_words.specs.RecordWords.{RecordWords, if_sound, is_sound, number_of, number_or, option_rule, record_app, record_words, taken_words, words_in}
+use Rattle.command_words.specs.WordsApp.{name_rule}
 
 -- ---- arguments
 

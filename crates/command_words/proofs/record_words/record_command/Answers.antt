@@ -1,8 +1,8 @@
 use Rattle.std.proofs.Common.{◌≡◌, ◌∙◌, ap, ap₂, rules, codes, refl, true}
 use Rattle.std.proofs.lemmas.Result.{IfOk-weaker}
-use Rattle.commands.proofs.RecordWordsRead.{name_argument, name_local, option_argument}
+use Rattle.command_words.proofs.RecordWordsRead.{name_argument, name_local, option_argument}
 use Rattle.clap.specs.Simple.{app_of, app_of_fields, new_app, on_top, with_rule}
-use Rattle.commands.proofs.record_words.record_command.Goals as goal
+use Rattle.command_words.proofs.record_words.record_command.Goals as goal
 
 pub returns : goal.returns
 returns c =

@@ -16,8 +16,8 @@ use Rattle.clap.specs.declared.error.kind.ErrorKind.{ErrorKind}
 use Rattle.clap.specs.Faults.{bundle_step_fault, check_fault, defaults_fault, entered_fault, fault_of, flags_fault, is_simple_and_free, settle_fault, short_fault, long_fault, step_fault, turn_fault, walk_fault, word_fault}
 use Rattle.clap.specs.declared.parser.matches.Found.{Found}
 use Rattle.clap.proofs.WalkLemmas.{first_value-rows}
-use Rattle.commands.specs.Words.{ReplayNames, in_four, four_names, is_option, names_in}
-use Rattle.commands.specs.WordsApp.{found_names, replay_app}
+use Rattle.command_words.specs.Words.{ReplayNames, in_four, four_names, is_option, names_in}
+use Rattle.command_words.specs.WordsApp.{found_names, replay_app}
 
 abbrev dashes : Text
 dashes = 45 ∷ 45 ∷ []

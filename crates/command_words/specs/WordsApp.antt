@@ -5,7 +5,7 @@ use Rattle.clap.specs.Walk.{Rule}
 use Rattle.clap.specs.declared.parser.matches.Found.{Found}
 use Rattle.clap.specs.Simple.{App, new_app, new_rule, on_top, with_rule}
 use Rattle.basis.specs.Options.{◌>>=◌}
-use Rattle.commands.specs.Words.{ReplayNames}
+use Rattle.command_words.specs.Words.{ReplayNames}
 
 -- a name that has to be there
 abbrev pub name_rule : List ℕ → Rule

@@ -1,8 +1,8 @@
 ghost use Rattle.std.specs.Prelude.{◌≡◌, ◌∷◌, [], map, option_map, IfOk, string_bytes};
 ghost use Rattle.clap.specs.Matches.{first_value, found_of};
 ghost use Rattle.clap.specs.Simple.{app_of};
-ghost use Rattle.commands.specs.RecordWords.{number_of, number_or, record_app, taken_words, words_in, words_of};
-ghost use Rattle.commands.specs.NamesView.{record_words_of};
+ghost use Rattle.command_words.specs.RecordWords.{number_of, number_or, record_app, taken_words, words_in, words_of};
+ghost use Rattle.command_words.specs.NamesView.{record_words_of};
 
 use clap::error::ErrorKind;
 use clap::{Arg, ArgMatches, Command};
@@ -83,7 +83,7 @@ fn sound_words<'a>(
 }
 
 impl RecordWords<'_> {
-    ghost use Rattle.commands.specs.RecordWords.{is_sound};
+    ghost use Rattle.command_words.specs.RecordWords.{is_sound};
 
     /// Whether the trace and the report have different names, and the workers are in their range.
     fn is_sound(&self) -> bool

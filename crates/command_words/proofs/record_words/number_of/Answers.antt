@@ -1,8 +1,8 @@
-use Rattle.std.proofs.Common.{rules, ◌≡◌, ◌∙◌, ap, sym, Ok, Err}
+use Rattle.std.proofs.Common.{rules, ◌≡◌, ◌∙◌, ap, sym}
 use Rattle.std.specs.Fmt.{decimal}
-use Rattle.commands.proofs.RecordWordsRead.{number_here, no_number, not_same}
-use Rattle.commands.proofs.record_words.number_of.Goals as goal
-use Rattle.commands.proofs.record_words.number_of.Goals.{then-eq, else-eq}
+use Rattle.command_words.proofs.RecordWordsRead.{number_here, no_number, not_same}
+use Rattle.command_words.proofs.record_words.number_of.Goals as goal
+use Rattle.command_words.proofs.record_words.number_of.Goals.{then-eq, else-eq}
 
 pub returns-after-eq : goal.returns-after-eq
 returns-after-eq c = elim c.if-eq.branch [

@@ -1,9 +1,9 @@
 use Rattle.std.proofs.Common.{◌≡◌, ◌∙◌, map, option_map, string_bytes}
 use Rattle.clap.specs.Matches.{first_value, found_of}
-use Rattle.commands.specs.NamesView.{record_words_of}
-use Rattle.commands.specs.RecordWords.{taken_words, words_in}
-use Rattle.commands.proofs.RecordWordsRead.{takes_found, takes_words, refuses_words, is_simple_record}
-use Rattle.commands.proofs.record_words.taken_words.Goals as goal
+use Rattle.command_words.specs.NamesView.{record_words_of}
+use Rattle.command_words.specs.RecordWords.{taken_words, words_in}
+use Rattle.command_words.proofs.RecordWordsRead.{takes_found, takes_words, refuses_words, is_simple_record}
+use Rattle.command_words.proofs.record_words.taken_words.Goals as goal
 
 pub returns-in-Ok : goal.returns-in-Ok
 returns-in-Ok c =

@@ -2,9 +2,9 @@ ghost use Rattle.std.specs.Prelude.{◌≡◌, ◌++◌, ◌∷◌, [], drop, ma
 ghost use Rattle.std.specs.Vec.Iter.{into_iter_items};
 ghost use Rattle.clap.specs.Matches.{found_of};
 ghost use Rattle.clap.specs.Simple.{app_of};
-ghost use Rattle.commands.specs.Words.{in_four, in_one, is_option, names_in};
-ghost use Rattle.commands.specs.WordsApp.{found_names, replay_app};
-ghost use Rattle.commands.specs.NamesView.{names_of, record_words_of};
+ghost use Rattle.command_words.specs.Words.{in_four, in_one, is_option, names_in};
+ghost use Rattle.command_words.specs.WordsApp.{found_names, replay_app};
+ghost use Rattle.command_words.specs.NamesView.{names_of, record_words_of};
 
 use crate::record_words::{RecordWords, taken_words};
 use clap::error::ErrorKind;
@@ -38,9 +38,10 @@ pub struct ReplayNames<'a> {
 }
 
 impl Words {
-    ghost use Rattle.commands.specs.RecordWords.{record_words};
-    ghost use Rattle.commands.specs.Words.{check_name, replay_names};
+    ghost use Rattle.command_words.specs.RecordWords.{record_words};
+    ghost use Rattle.command_words.specs.Words.{check_name, replay_names};
 
+    /// No words yet.
     pub fn new(alloc: Global) -> Words
         ensures { result ≡ [] }
     {

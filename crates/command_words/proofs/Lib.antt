@@ -1,0 +1,3 @@
+mod OneName
+pub mod RecordWordsRead
+mod WordsRead

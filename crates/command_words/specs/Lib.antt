@@ -1,0 +1,4 @@
+pub mod NamesView
+pub mod RecordWords
+pub mod Words
+pub mod WordsApp

@@ -1,0 +1,8 @@
+//! The words of a command line, and what they ask for: docs/formats.md, "Commands".
+#![tactic(auto)]
+
+mod record_words;
+mod words;
+
+pub use record_words::{MOST_WORKERS, RecordWords, workers_in_digits};
+pub use words::{ReplayNames, Words};

@@ -6,5 +6,6 @@ pub mod check;
 pub mod outcome;
 pub mod print;
 pub mod record;
+pub mod recording;
 pub mod replay;
 pub mod run;

@@ -6,6 +6,7 @@ ghost use Rattle.commands.specs.Outcome.{IfRecorded, IfTurns, SaysAbsent, writte
 
 use crate::answer::Answer;
 use crate::outcome::{Outcome, Output};
+use crate::recording::record_jobs;
 use basis::OrMemory;
 use command_inputs::{Halt, InputError, read_program, read_requests, read_state, read_turns};
 use command_words::RecordWords;
@@ -13,7 +14,7 @@ use outside::{Clock, Shelf};
 use script_check::program::Program;
 use std::alloc::{AllocError, Global};
 use std::sync::Arc;
-use trace_and_report::{Recorded, record_jobs};
+use trace_and_report::Recorded;
 use wire::limits::MOST_FILE_BYTES;
 use workload::Turns;
 

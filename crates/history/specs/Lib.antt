@@ -1,3 +1,4 @@
+pub mod Arrivals
 pub mod Balanced
 pub mod Histories
 pub mod Journals

@@ -8,7 +8,7 @@ use script_check::program::Program;
 use script_code::translate::translate;
 use std::alloc::{AllocError, Global};
 use std::sync::Arc;
-use trace_and_report::record_jobs;
+use trace_and_report::{FileJournal, Recorded};
 use turns::run_turns;
 use workload::{Requests, read_requests};
 
@@ -87,20 +87,37 @@ fn two_jobs_go_by_turns(rt: HostRuntime) {
     assert!(rt; happens(rt.alloc(), &lines).unwrap_or(false));
 }
 
+/// The files of these jobs of a program, where no turns are listed.
+fn recorded(alloc: Global, source: &[u8], file: &[u8]) -> Result<Recorded, AllocError> {
+    let program = shared(alloc, source)?;
+    let code = translate(alloc, &program)?;
+    let objects = ObjectSet::new(alloc, program.declarations())?;
+    let jobs = jobs(alloc, file)?;
+    let journal = FileJournal::new(alloc)?;
+    let clock = FixedClock(5);
+    let journal = run_turns(
+        alloc,
+        &program,
+        &code,
+        objects,
+        jobs,
+        &[],
+        0,
+        &clock,
+        journal,
+    )?;
+    journal.finish()
+}
+
 /// Whether the files of one job of a page that echoes 3 are those.
 fn records_three(alloc: Global) -> Result<bool, AllocError> {
-    let program = shared(alloc, b"page \"/e\" { echo 3; }")?;
-    let objects = ObjectSet::new(alloc, program.declarations())?;
-    let jobs = jobs(alloc, b"[{\"path\":\"/e\"}]")?;
-    match record_jobs(alloc, &program, objects, jobs, &[], 0, &FixedClock(5)) {
-        Ok(recorded) => Ok(
-            recorded.trace.as_slice() == TRACE
-                && recorded.report.as_slice() == REPORT
-                && recorded.requests == 1
-                && recorded.groups == 1,
-        ),
-        Err(_) => Err(AllocError),
-    }
+    let recorded = recorded(alloc, b"page \"/e\" { echo 3; }", b"[{\"path\":\"/e\"}]")?;
+    Ok(
+        recorded.trace.as_slice() == TRACE
+            && recorded.report.as_slice() == REPORT
+            && recorded.requests == 1
+            && recorded.groups == 1,
+    )
 }
 
 #[test]

@@ -1,7 +1,7 @@
 mod Alike
 mod Allowed
 mod Drafts
-mod Files
+pub mod Files
 mod Groupings
 mod Groups
 mod Journals

@@ -1,6 +1,7 @@
 -- How many requests a history has.
 use Rattle.std.proofs.Common.{◌≡◌, List, [], ◌∷◌, length, refl, arith}
 use Rattle.std.specs.Prelude.{filter_map}
+use Rattle.history.specs.Arrivals.{arrivals}
 use Rattle.history.specs.Names.{names_from, rid_at}
 use Rattle.history.specs.Rooms.{Room, onward}
 use Rattle.history.specs.TraceOf.{trace_in}
@@ -8,7 +9,6 @@ use Rattle.history.specs.declared.happening.Happening.{Happening}
 use Rattle.history.specs.declared.happening.Happening.TheVariants.{Arrive, Act, Depart}
 use Rattle.script_tree.specs.declared.trace.TraceEvent.TheVariants.{Asked, Answered}
 use Rattle.trace_format.specs.Events.{request_count}
-use Rattle.turns.specs.ByTurns.{arrivals}
 use Rattle.trace_and_report.specs.Draft.{arrival_in}
 use Rattle.trace_and_report.proofs.TraceFollows.{count_split}
 

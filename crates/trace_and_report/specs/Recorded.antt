@@ -8,10 +8,10 @@ use Rattle.wire.specs.Files.{Format, Spells, IsFileWithin, file_spelling}
 use Rattle.wire.specs.declared.limits.TheConstants.{MOST_FILE_BYTES}
 use Rattle.trace_format.specs.Events.{trace_format}
 use Rattle.report_format.specs.Reports.{report_format, records_of}
+use Rattle.history.specs.Arrivals.{arrivals}
 use Rattle.history.specs.TraceOf.{trace_of}
 use Rattle.history.specs.ReportOf.{report_of}
 use Rattle.history.specs.declared.happening.Happening.{Happening}
-use Rattle.turns.specs.ByTurns.{arrivals}
 use Rattle.trace_and_report.specs.declared.recorded.Recorded.{Recorded}
 use Rattle.trace_and_report.specs.declared.recorded.TooLong.{TooLong}
 use Rattle.trace_and_report.specs.declared.recorded.TooLong.TheVariants as past

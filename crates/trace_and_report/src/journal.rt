@@ -12,16 +12,17 @@ use crate::recorded::Recorded;
 use history::{Happening, Journal};
 use std::alloc::{AllocError, Global};
 
-/// A journal that writes the files of a history while it goes on.
+/// A journal that writes the files of a history while it goes on: of the trace it keeps the bytes,
+/// of the report what its records are made of.
 #[derive(Drop)]
-pub(crate) struct FileJournal {
+pub struct FileJournal {
     naming: Naming,
     draft: Draft,
 }
 
 impl FileJournal {
     /// Before anything has happened.
-    pub(crate) fn new(alloc: Global) -> Result<FileJournal, AllocError>
+    pub fn new(alloc: Global) -> Result<FileJournal, AllocError>
         ensures { IfOk result (Keeps []) }
     {
         Ok(FileJournal {
@@ -30,8 +31,9 @@ impl FileJournal {
         })
     }
 
-    /// The files of the history.
-    pub(crate) fn finish(self) -> Result<Recorded, AllocError>
+    /// The files of the history, however long they are: `Recorded::too_long` tells whether they may be
+    /// written.
+    pub fn finish(self) -> Result<Recorded, AllocError>
         requires { (history : List Happened) × Keeps history self }
         ensures { (start : Objects) (history : List Happened) → Keeps history self
             → IfOk result (AreFiles (names_from (empty_room start) history)) }

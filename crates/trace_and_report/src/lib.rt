@@ -1,4 +1,4 @@
-//! From jobs to the files of a recording: the trace and the report of what happened.
+//! The files of a recording: the trace and the report of what happened, written while it happens.
 #![tactic(auto)]
 
 mod draft;
@@ -6,10 +6,9 @@ mod grouped;
 mod journal;
 mod logs;
 mod naming;
-pub mod record;
 pub mod recorded;
 mod widths;
 mod writing;
 
-pub use record::record_jobs;
+pub use journal::FileJournal;
 pub use recorded::{Recorded, TooLong};

@@ -21,8 +21,9 @@ pub enum TooLong {
 }
 
 impl Recorded {
-    /// The first file that is longer than a file may be.
-    pub(crate) fn too_long(&self) -> Option<TooLong>
+    /// The first file that is longer than a file may be, if one is. Only where none is, the files are
+    /// read again.
+    pub fn too_long(&self) -> Option<TooLong>
         ensures { TellsTooLong self.now result }
     {
         if self.trace.len() > MOST_FILE_BYTES {

@@ -10,6 +10,7 @@ use Rattle.dice.specs.Rolls.{dice_of}
 use Rattle.script_tree.specs.Objects.{Objects}
 use Rattle.script_tree.specs.Programs.{Program}
 use Rattle.script_tree.specs.Requests.{Request}
+use Rattle.history.specs.Arrivals.{arrivals}
 use Rattle.history.specs.Recordings.{Recorded, room_of}
 use Rattle.history.specs.Rooms.{Room, AreSteps, IsStep, empty_room, onward, room_after}
 use Rattle.history.specs.Seats.{at_seat}
@@ -17,7 +18,7 @@ use Rattle.history.specs.Visits.{Visit}
 use Rattle.machine.specs.declared.machine.Machine.{Machine}
 use Rattle.history.specs.declared.happening.Happening.{Happening}
 use Rattle.history.specs.declared.happening.Happening.TheVariants.{Arrive, Act, Depart}
-use Rattle.turns.specs.ByTurns.{seat_of_turn, seat_in, arrivals, GoesByTurns, over, idle, acts}
+use Rattle.turns.specs.ByTurns.{seat_of_turn, seat_in, GoesByTurns, over, idle, acts}
 use Rattle.turns.specs.Offers.{rolled, roll_at, rolls_at, AreRolled, AreReadings}
 use Rattle.turns.specs.Seated.{IsSeated, IsLaid}
 use Rattle.turns.specs.Drawn.{IsThrown}

@@ -1,7 +1,6 @@
 -- The rule of turns: whose turn it is, and what happens then.
-use Rattle.std.specs.Prelude.{◌≡◌, ℕ, zero, suc, ◌%◌, List, [], ◌∷◌, filter_map, Option, Some, None}
+use Rattle.std.specs.Prelude.{◌≡◌, ℕ, zero, suc, ◌%◌, List, [], ◌∷◌, None}
 use Rattle.script_tree.specs.Objects.{Objects}
-use Rattle.script_tree.specs.Requests.{Request}
 use Rattle.workload.specs.declared.limits.TheConstants.{SEATS}
 use Rattle.history.specs.Rooms.{Room, onward, empty_room}
 use Rattle.history.specs.declared.happening.Happening.{Happening}
@@ -20,17 +19,6 @@ abbrev pub seat_in : Happening → ℕ
 seat_in (Arrive seat request) = seat
 seat_in (Act seat op choice) = seat
 seat_in (Depart seat response path) = seat
-
--- ---- jobs
-
-abbrev pub arrival_in : Happening → Option Request
-arrival_in (Arrive seat request) = Some request.value
-arrival_in (Act seat op choice) = None
-arrival_in (Depart seat response path) = None
-
--- the requests that arrive, in order
-abbrev pub arrivals : List Happening → List Request
-arrivals history = filter_map arrival_in history
 
 -- ---- turns
 

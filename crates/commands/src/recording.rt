@@ -2,8 +2,6 @@ ghost use Rattle.object_set.specs.ObjectSets.{IsSetOf, objects_of};
 ghost use Rattle.turns.specs.Run.{IsRunOf};
 ghost use Rattle.trace_and_report.specs.Recorded.{IsRecorded};
 
-use crate::journal::FileJournal;
-use crate::recorded::{Recorded, TooLong};
 use basis::OrMemory;
 use object_set::ObjectSet;
 use outside::Clock;
@@ -11,6 +9,7 @@ use script_check::program::Program;
 use script_code::translate::translate;
 use std::alloc::Global;
 use std::sync::Arc;
+use trace_and_report::{FileJournal, Recorded, TooLong};
 use turns::run_turns;
 use workload::{Requests, Turn};
 

@@ -2,7 +2,7 @@ use Rattle.std.proofs.Common.{subst}
 use Rattle.object_set.specs.ObjectSets.{objects_of}
 use Rattle.trace_and_report.specs.Written.{TellsTooLong}
 use Rattle.trace_and_report.proofs.Files.{are_files, too_long}
-use Rattle.trace_and_report.proofs.record.record_jobs.Goals as goal
+use Rattle.commands.proofs.recording.record_jobs.Goals as goal
 
 pub finish-requires : goal.finish-requires
 finish-requires g c = (c.in_ok-journal-2.ensures.0, c.in_ok-journal-2.ensures.2)

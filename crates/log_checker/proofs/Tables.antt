@@ -1,12 +1,8 @@
 -- Tables with one key more.
-use Rattle.std.proofs.Common.{◌≡◌, ◌∙◌, ℕ, suc, ◌+◌, List, [], ◌∷◌, take, length, Option, Some, None, Bool, true, false, ◌||◌, ◌&&◌, cond, nat_eq, refl, ap, sym, arith}
+use Rattle.std.proofs.Common.{◌≡◌, ◌∙◌, ℕ, suc, ◌+◌, List, [], ◌∷◌, take, length, Option, Some, None, Bool, true, false, ◌||◌, cond, nat_eq, refl, ap, sym, arith}
 use Rattle.std.specs.Prelude.{is_some}
 use Rattle.std.specs.List.{list_any}
-use Rattle.std.specs.BTreeMap.{BTreeMap, Updates, IsEmpty, get, is_at}
-use Rattle.std.specs.Map.{lookup}
-use Rattle.std.specs.Ordering.{nat_cmp, ordering_then, is_eq}
-use Rattle.std.specs.declared.cmp.Ordering.{Ordering}
-use Rattle.std.specs.declared.cmp.Ordering.TheVariants.{Less, Equal, Greater}
+use Rattle.std.specs.Ordering.{nat_cmp, is_eq}
 use Rattle.std.proofs.lemmas.Bool.Decides.{nat_tests}
 use Rattle.std.proofs.lemmas.Bool.{eqb-true}
 use Rattle.std.proofs.lemmas.List.{take_all}
@@ -16,21 +12,11 @@ use Rattle.audit_meaning.specs.Spots.{operations_in}
 use Rattle.audit_meaning.proofs.Filters.{take_more}
 use Rattle.id_table.specs.Tables.{number_of, Puts}
 use Rattle.id_table.specs.declared.table.IdTable.{IdTable}
-use Rattle.log_checker.specs.OpMaps.{by_operation}
 use Rattle.log_checker.proofs.Firsts.{first_more}
 use Rattle.log_checker.proofs.Tests.{eq_sym}
 
 pub is_at_eq : (a b : ℕ) → is_eq (nat_cmp a b) ≡ nat_eq a b
 is_at_eq a b = grind (arith, nat_tests)
-
-then_eq : (x y : Ordering) → is_eq (ordering_then x y) ≡ (is_eq x && is_eq y)
-then_eq Less y = refl
-then_eq Equal y = refl
-then_eq Greater y = refl
-
--- the key of an operation is that of another one where both numbers are the same
-pub same_operation : (r k a b : ℕ) → is_at (by_operation (r, k)) (a, b) ≡ (nat_eq r a && nat_eq k b)
-same_operation r k a b = then_eq (nat_cmp r a) (nat_cmp k b) ∙ ap (λ x. x && is_eq (nat_cmp k b)) (is_at_eq r a) ∙ ap (λ x. nat_eq r a && x) (is_at_eq k b)
 
 -- ---- counts
 

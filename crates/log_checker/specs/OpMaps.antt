@@ -1,9 +1,7 @@
 -- Where operations stand, as the code keeps it.
 use Rattle.std.specs.Prelude.{◌≡◌, ℕ, ◌+◌, ◌<◌, false, ◌&&◌, List, take, Option, Some, None, is_none, nat_eq, unwrap_or, if◌then◌else◌}
-use Rattle.std.specs.BTreeMap.{get}
-use Rattle.std.specs.Ordering.{nat_cmp, ordering_then}
-use Rattle.std.specs.declared.cmp.Ordering.{Ordering}
 use Rattle.basis.specs.Lists.{nth, first_answer}
+use Rattle.operation_table.specs.Tables.{place_of}
 use Rattle.report.specs.declared.Log.{Log}
 use Rattle.report.specs.declared.LogEntry.{LogEntry}
 use Rattle.report.specs.declared.Report.{Report}
@@ -11,13 +9,9 @@ use Rattle.audit_meaning.specs.Spots.{Spot, if_named, spot_of}
 use Rattle.log_checker.specs.Counting.{IsCounted, operations_of}
 use Rattle.log_checker.specs.declared.op_map.OpMap.{OpMap}
 
--- the order of the map's keys: by request, then by number
-abbrev pub by_operation : ℕ × ℕ → ℕ × ℕ → Ordering
-by_operation x y = ordering_then (nat_cmp x.0 y.0) (nat_cmp x.1 y.1)
-
 -- the number of the log, and the position in it, of an operation of a request
 abbrev pub place_in : OpMap → ℕ → ℕ → Option (ℕ × ℕ)
-place_in map r k = get by_operation map.places (r, k)
+place_in map r k = place_of map.places r k
 
 -- how many operations a request issued; 0 where it has no count
 abbrev pub count_in : OpMap → ℕ → ℕ

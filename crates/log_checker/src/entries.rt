@@ -139,7 +139,7 @@ impl EntryChecker<'_, '_> {
             (faulty_entry program (objects_of self.now.start.now) self.now.trace.now report.now)
             (Knows report.now (spots report.now.logs)) result }
     {
-        let mut map = OpMap::new(alloc, counts);
+        let mut map = OpMap::new(alloc, counts, report.counts.len())?;
         for (number, log) in report.logs.as_slice().iter().enumerate() {
             self.read_log(&mut map, number, log)?;
         }

@@ -1,27 +1,29 @@
-ghost use Rattle.std.specs.Prelude.{◌≡◌, ℕ, None, is_none, IfOk, OnOk};
+ghost use Rattle.std.specs.Prelude.{◌≡◌, ℕ, None, is_none, IfOk, IsTrue};
 ghost use Rattle.log_checker.specs.OpMaps.{place_in, count_in, PutsPlace, IsFirstMissing};
 
 use crate::counting::OperationCounts;
+use operation_table::OperationTable;
 use std::alloc::{AllocError, Global};
-use std::collections::BTreeMap;
 
 /// How many operations each request of a report issued, and where each of them stands in the logs.
 #[derive(Drop)]
 pub struct OpMap {
     counts: OperationCounts,
-    places: BTreeMap<(u32, u32), (u32, u32)>,
+    places: OperationTable,
 }
 
 impl OpMap {
-    /// No operation has a place.
-    pub(crate) fn new(alloc: Global, counts: OperationCounts) -> OpMap
-        ensures counts { result.counts ≡ counts }
-        ensures empty { (r k : ℕ) → place_in result r k ≡ None }
+    /// No operation has a place; those of so many ids are found at once.
+    pub(crate) fn new(
+        alloc: Global,
+        counts: OperationCounts,
+        ids: usize,
+    ) -> Result<OpMap, AllocError>
+        ensures counts { IfOk result (λ map. map.counts ≡ counts) }
+        ensures empty { IfOk result (λ map. (r k : ℕ) → place_in map r k ≡ None) }
     {
-        OpMap {
-            counts,
-            places: BTreeMap::new(alloc),
-        }
+        let places = OperationTable::new(alloc, ids)?;
+        Ok(OpMap { counts, places })
     }
 
     /// How many operations a request issued; 0 where it has no count.
@@ -35,10 +37,10 @@ impl OpMap {
     pub fn find(&self, rid: u32, number: u32) -> Option<(u32, u32)>
         ensures { result ≡ place_in self.now rid number }
     {
-        self.places.get(&(rid, number)).copied()
+        self.places.get(rid, number)
     }
 
-    /// Puts an operation there, and tells whether it had no place.
+    /// Puts an operation there, and tells whether it had no place. Where it had one, it keeps that.
     pub(crate) fn put(
         &mut self,
         rid: u32,
@@ -46,11 +48,11 @@ impl OpMap {
         place: (u32, u32),
     ) -> Result<bool, AllocError>
         ensures new { IfOk result (λ new. new ≡ is_none (place_in self.old rid number)) }
-        ensures put { OnOk result (PutsPlace rid number place self.old self.new) }
+        ensures put { IfOk result (λ new. IsTrue new
+            → PutsPlace rid number place self.old self.new) }
         ensures counts { self.new.counts ≡ self.old.counts }
     {
-        let old = self.places.insert((rid, number), place)?;
-        Ok(old.is_none())
+        self.places.insert(rid, number, place)
     }
 
     /// The first operation of a request that has no place.

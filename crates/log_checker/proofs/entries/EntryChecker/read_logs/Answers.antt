@@ -9,8 +9,8 @@ use Rattle.log_checker.proofs.Firsts.{some_at}
 use Rattle.log_checker.proofs.entries.EntryChecker.read_logs.Goals as goal
 
 pub loop-number-init : goal.loop-number-init
-loop-number-init c = λ program of. logs_start program _ c.args.self.now.trace.now c.args.report.now c.new-map.result
-    (subst (IsCounted c.args.report.now) (sym c.new-map.ensures.counts) c.requires) c.new-map.ensures.empty
+loop-number-init c = λ program of. logs_start program _ c.args.self.now.trace.now c.args.report.now c.in_ok-map.map
+    (subst (IsCounted c.args.report.now) (sym c.in_ok-map.ensures.counts) c.requires) c.in_ok-map.ensures.empty
 
 pub returns-in_err-read_log : goal.returns-in_err-read_log
 returns-in_err-read_log c = λ program of.
@@ -20,7 +20,7 @@ returns-in_err-read_log c = λ program of.
     let log = c.log-item.result in
     let at : nth report.logs i ≡ Some log =
     sym (ap (λ xs. nth xs i) c.as_slice-log-items.ensures) ∙ some_at c.as_slice-log-items.result.now i log (omega arith) c.log-item.is in
-    carried _ _ _ c.in_err-read_log.field-0.0 c.from_residual.result c.from_residual.ensures.1
+    carried _ _ _ c.in_err-read_log.field-0.0 c.from_residual-in_err-read_log.result c.from_residual-in_err-read_log.ensures.1
     (c.in_err-read_log.ensures program report (spots (take i report.logs)) of h.knows at)
     (λ r wrong. logs_wrong program (objects_of c.args.self.now.start.now) c.args.self.now.trace.now report i log c.loop-number.map r h at wrong)
 

@@ -1,6 +1,6 @@
 -- Nodes and places, one after another.
-use Rattle.std.proofs.Common.{◌≡◌, ◌∙◌, ℕ, suc, ◌<◌, ◌≤◌, ◌+◌, List, [], ◌∷◌, ◌++◌, length, take, map, flat_map, max, Option, Some, None, inl, inr, refl, ap, sym, subst, arith, append_assoc}
-use Rattle.std.proofs.lemmas.Bool.{cases_eq, cases_lt}
+use Rattle.std.proofs.Common.{◌≡◌, ◌∙◌, ℕ, suc, ◌<◌, ◌≤◌, ◌+◌, List, [], ◌∷◌, ◌++◌, length, take, map, flat_map, Some, None, inl, inr, refl, ap, sym, subst, arith, append_assoc}
+use Rattle.std.proofs.lemmas.Bool.{cases_eq}
 use Rattle.basis.specs.Lists.{nth}
 use Rattle.audit_meaning.proofs.Filters.{numbers_more}
 use Rattle.audit_meaning.proofs.Places.{first_none}

@@ -1,5 +1,5 @@
 -- A graph that shows the events of a report, node by node and event by event.
-use Rattle.std.specs.Prelude.{◌≡◌, ℕ, suc, ◌+◌, ◌<◌, ◌≤◌, ◌⊎◌, true, false, List, length, take, flat_map, Some, None}
+use Rattle.std.specs.Prelude.{◌≡◌, ℕ, suc, ◌+◌, ◌<◌, true, false, List, length, take, flat_map, Some, None}
 use Rattle.basis.specs.Lists.{nth}
 use Rattle.script_tree.specs.Requests.{Request}
 use Rattle.script_tree.specs.Traces.{IsBalanced}

@@ -31,12 +31,12 @@ fn node_at(names: &[Node], number: usize) -> Node
 }
 
 /// The nodes of these numbers.
-fn named(alloc: Global, names: &[Node], numbers: &[usize]) -> Result<Nodes, AllocError>
+fn named(alloc: Global, names: &[Node], numbers: &[u32]) -> Result<Nodes, AllocError>
     ensures { IfOk result (λ found. found ≡ named names.now numbers.now) }
 {
     let mut found = Vec::with_capacity(alloc, numbers.len())?;
     for number in numbers {
-        found.push(node_at(names, *number))?;
+        found.push(node_at(names, *number as usize))?;
     }
     Ok(Items::from_vec(found))
 }

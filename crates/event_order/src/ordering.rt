@@ -12,10 +12,10 @@ use std::alloc::{AllocError, Global};
 #[derive(Drop)]
 pub enum Outcome {
     /// All nodes, at each place the least that may stand there.
-    Order(Vec<usize>),
+    Order(Vec<u32>),
     /// Nodes that can't be ordered, each with an edge to the next and the last with one to the
     /// first, the least node first.
-    Cycle(Vec<usize>),
+    Cycle(Vec<u32>),
 }
 
 /// Orders the nodes. It takes n log n steps, for n nodes and events of the trace, and where it ends

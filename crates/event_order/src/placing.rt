@@ -7,14 +7,21 @@ use crate::graph::{Event, Graph};
 use std::alloc::{AllocError, Global};
 use std::collections::BTreeSet;
 
+/// A node in 32 bits. One that they don't hold is answered as want of memory.
+pub(crate) fn narrow(node: usize) -> Result<u32, AllocError>
+    ensures { IfOk result (λ narrowed. narrowed ≡ node) }
+{
+    u32::try_from(node).map_err(|_| AllocError)
+}
+
 /// The order as far as it goes, and the nodes that are free.
 #[derive(Drop)]
 pub struct Placing {
     /// The nodes that are placed, in order.
-    pub order: Vec<usize>,
+    pub order: Vec<u32>,
     /// Whether a node is in the order.
     pub is_placed: Vec<bool>,
-    free: BTreeSet<usize>,
+    free: BTreeSet<u32>,
     /// The place in the trace below which each departure is placed, and each arrival has been free.
     passed: usize,
 }
@@ -61,7 +68,7 @@ impl Placing {
         ensures offers { OnOk result (Offers graph.now self.new x) }
     {
         if self.is_free(graph, x) {
-            self.free.insert(x)?;
+            self.free.insert(narrow(x)?)?;
         }
         Ok(())
     }
@@ -92,7 +99,7 @@ impl Placing {
         while self.passed < graph.trace.len() {
             match graph.trace[self.passed] {
                 Event::Arrival(x) => {
-                    self.free.insert(x as usize)?;
+                    self.free.insert(x)?;
                 }
                 Event::Departure(y) => {
                     if !self.is_placed[y as usize] {
@@ -106,16 +113,17 @@ impl Placing {
     }
 
     /// Places the least free node, which has been taken out of the set.
-    fn place(&mut self, graph: &Graph, x: usize) -> Result<(), AllocError>
+    fn place(&mut self, graph: &Graph, x: u32) -> Result<(), AllocError>
         requires graph { IsEventGraph graph.now }
         requires taken { IsTaken graph.now self.old x }
         ensures order { OnOk result (self.new.order.items ≡ self.old.order.items ++ x ∷ []) }
         ensures settled { OnOk result (IsSettled graph.now self.new) }
     {
+        let place = x as usize;
         self.order.push(x)?;
-        self.is_placed[x] = true;
-        self.offer(graph, x + 1)?;
-        self.offer_log(graph, x)?;
+        self.is_placed[place] = true;
+        self.offer(graph, place + 1)?;
+        self.offer_log(graph, place)?;
         self.advance(graph)
     }
 

@@ -6,7 +6,7 @@ ghost use Rattle.event_order.specs.Thin.{IsThin};
 ghost use Rattle.event_order.specs.Window.{AreLeastDeparted};
 
 use crate::graph::Graph;
-use crate::placing::Placing;
+use crate::placing::{Placing, narrow};
 use crate::window::least_departed;
 use std::alloc::{AllocError, Global};
 
@@ -51,13 +51,13 @@ fn least_before(
 }
 
 /// The place of x in the walk.
-fn place_of(walk: &[usize], x: usize) -> usize
+fn place_of(walk: &[u32], x: usize) -> usize
     requires { has walk.now x ≡ true }
     ensures inside { result < length walk.now }
     ensures there { slice_index walk.now result ≡ x }
 {
     for i in 0..walk.len() {
-        if walk[i] == x {
+        if walk[i] as usize == x {
             return i;
         }
     }
@@ -65,7 +65,7 @@ fn place_of(walk: &[usize], x: usize) -> usize
 }
 
 /// The place of the least number.
-fn place_of_least(xs: &[usize]) -> usize
+fn place_of_least(xs: &[u32]) -> usize
     requires { 0 < length xs.now }
     ensures inside { result < length xs.now }
     ensures least { All (λ y. slice_index xs.now result ≤ y) xs.now }
@@ -80,7 +80,7 @@ fn place_of_least(xs: &[usize]) -> usize
 }
 
 /// Turns the list so that its least number stands first.
-fn turn(cycle: &mut Vec<usize>)
+fn turn(cycle: &mut Vec<u32>)
     requires { 0 < length cycle.old.items }
     ensures turned { IsRotated cycle.old.items cycle.new.items }
     ensures least { All (λ y. slice_index cycle.new.items 0 ≤ y) cycle.new.items }
@@ -95,7 +95,7 @@ pub fn find_cycle(
     alloc: Global,
     placing: &Placing,
     graph: &Graph,
-) -> Result<Option<Vec<usize>>, AllocError>
+) -> Result<Option<Vec<u32>>, AllocError>
     requires graph { IsEventGraph graph.now }
     requires thin { IsThin graph.now }
     requires holds { IsStanding graph.now placing.now }
@@ -117,7 +117,7 @@ pub fn find_cycle(
             return Ok(Some(cycle));
         }
         seen[x] = true;
-        walk.push(x)?;
+        walk.push(narrow(x)?)?;
         next = least_before(placing, graph, &departed, x);
     }
     Ok(None)

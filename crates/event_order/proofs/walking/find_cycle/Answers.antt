@@ -1,4 +1,4 @@
-use Rattle.std.proofs.Common.{◌≡◌, ℕ, ◌<◌, ◌++◌, length, drop, take, reverse, replicate, get_or, List, false, sym, ◌∙◌, ap, subst, arith, rules}
+use Rattle.std.proofs.Common.{◌≡◌, ℕ, ◌<◌, ◌++◌, ◌∷◌, [], length, drop, take, reverse, replicate, get_or, List, false, sym, ◌∙◌, ap, subst, arith, rules}
 use Rattle.event_order.specs.Order.{has}
 use Rattle.event_order.proofs.Paces.{Walking, next_left, next_inside, seen_read, paces_to, paces_closer, ends_nowhere, closes, starts}
 use Rattle.event_order.proofs.Walks.{unmarked_left}
@@ -53,11 +53,11 @@ loop-next-preserved c =
     let g = c.args.graph.now in
     let x = c.in-Some.x in
     let out = seen_read g _ _ _ _ c.loop-next.invariant c.requires.graph x _ c.in-Some.is c.index.ensures ∙ c.if-index.false in
-    paces_to g _ _ _ _ c.loop-next.invariant c.requires.graph x _ _ c.in_ok-push.ensures.items c.in-Some.is out c.least_before-next.ensures
+    paces_to g _ _ _ _ c.loop-next.invariant c.requires.graph x _ _ (c.in_ok-push.ensures.items ∙ ap (λ (n : ℕ). c.loop-next.walk.items ++ n ∷ []) c.in_ok-narrow.ensures) c.in-Some.is out c.least_before-next.ensures
 
 pub loop-next-smaller : goal.loop-next-smaller
 loop-next-smaller c =
-    paces_closer c.args.graph.now _ _ _ _ c.loop-next.invariant c.in-Some.x _ _ _ c.in_ok-push.ensures.items (loop-next-preserved c)
+    paces_closer c.args.graph.now _ _ _ _ c.loop-next.invariant c.in-Some.x _ _ _ (c.in_ok-push.ensures.items ∙ ap (λ (n : ℕ). c.loop-next.walk.items ++ n ∷ []) c.in_ok-narrow.ensures) (loop-next-preserved c)
 
 pub returns : goal.returns
 returns c = ends_nowhere c.args.graph.now _ _ _ _ c.loop-next.invariant c.in_default.is

@@ -1,6 +1,5 @@
-use Rattle.std.proofs.Common.{◌∙◌, ap, false, None, refl, sym, subst, IfOk}
+use Rattle.std.proofs.Common.{false, None, refl, sym, subst}
 use Rattle.event_order.specs.declared.graph.Node.{Node as GraphNode}
-use Rattle.audit_meaning.specs.declared.node.Node.TheVariants.{Number as step}
 use Rattle.audit_order.specs.Built.{IsNodeOf}
 use Rattle.audit_order.proofs.Built.{end_linked}
 use Rattle.audit_order.proofs.linking.Sound.graph_node.Goals as goal

@@ -5,7 +5,7 @@ use crate::value::{Value, Values};
 use basis::Items;
 
 /// A test of a `where`: the row's value in a column, compared with a value.
-#[derive(Drop)]
+#[derive(PartialEq, Eq, PartialOrd, Ord, Drop)]
 pub struct Test {
     pub column: u32,
     pub comparison: Comparison,
@@ -16,7 +16,7 @@ pub struct Test {
 pub type Tests = Items<Test>;
 
 /// An assignment of an `update`: a column gets a value.
-#[derive(Drop)]
+#[derive(PartialEq, Eq, PartialOrd, Ord, Drop)]
 pub struct Change {
     pub column: u32,
     pub value: Value,
@@ -29,7 +29,7 @@ pub type Changes = Items<Change>;
 pub type Columns = Items<u32>;
 
 /// A statement of a transaction. Tables and columns are numbered from 0 as the program declares them.
-#[derive(Drop)]
+#[derive(PartialEq, Eq, PartialOrd, Ord, Drop)]
 pub enum Statement {
     Insert {
         table: u32,

@@ -337,6 +337,67 @@ impl Values {
     }
 }
 
+impl PartialEq for Values {
+    ghost use Rattle.std.specs.Cmp.{partial_equiv_from_equiv};
+    ghost use Rattle.std.specs.Cmp.Lexicographic.{pointwise, lists_per};
+    ghost use Rattle.std.specs.Ordering.{eq_by_cmp};
+    ghost use Rattle.std.proofs.lemmas.Cmp.{eq_by_cmp_equiv};
+    ghost use Rattle.script_tree.specs.Order.{compare};
+    ghost use Rattle.script_tree.specs.OrderLaws.{compare_total};
+
+    ghost eq = { pointwise (eq_by_cmp compare) };
+
+    ghost laws = { lists_per (partial_equiv_from_equiv (eq_by_cmp_equiv compare_total)) };
+
+    fn eq(&self, other: &Values) -> bool {
+        self.as_slice() == other.as_slice()
+    }
+}
+
+impl Eq for Values {
+    ghost use Rattle.std.specs.Cmp.Lexicographic.{lists_equiv};
+    ghost use Rattle.std.proofs.lemmas.Cmp.{eq_by_cmp_equiv};
+    ghost use Rattle.script_tree.specs.OrderLaws.{compare_total};
+
+    ghost laws = { lists_equiv (eq_by_cmp_equiv compare_total) };
+}
+
+impl PartialOrd for Values {
+    ghost use Rattle.std.proofs.Common.{refl};
+    ghost use Rattle.std.specs.Cmp.{partial_order_from_agreeing_total};
+    ghost use Rattle.std.specs.Cmp.Lexicographic.{slice_partial_cmp, lists_po};
+    ghost use Rattle.std.specs.Ordering.{as_partial_cmp};
+    ghost use Rattle.script_tree.specs.Order.{compare};
+    ghost use Rattle.script_tree.specs.OrderLaws.{compare_total};
+
+    ghost partial_cmp = { slice_partial_cmp (as_partial_cmp compare) };
+
+    ghost laws = { lists_po (partial_order_from_agreeing_total compare compare_total (λ x y. refl) (λ x y. refl)) };
+
+    fn partial_cmp(&self, other: &Values) -> Option<Ordering> {
+        self.as_slice().partial_cmp(other.as_slice())
+    }
+}
+
+impl Ord for Values {
+    ghost use Rattle.std.proofs.Common.{refl};
+    ghost use Rattle.std.specs.Cmp.Lexicographic.{slice_cmp, lists_total, lists_agrees, lists_ties};
+    ghost use Rattle.script_tree.specs.Order.{compare};
+    ghost use Rattle.script_tree.specs.OrderLaws.{compare_total};
+
+    ghost cmp = { slice_cmp compare };
+
+    ghost total = { lists_total compare_total };
+
+    ghost matches_partial_cmp = { lists_agrees (λ x y. refl) };
+
+    ghost matches_eq = { lists_ties compare (λ x y. refl) };
+
+    fn cmp(&self, other: &Values) -> Ordering {
+        self.as_slice().cmp(other.as_slice())
+    }
+}
+
 impl Members {
     fn into_items(self) -> Vec<Value>
         ensures { result.items ≡ self }

@@ -18,7 +18,8 @@ use Rattle.report.specs.declared.LogEntry.{LogEntry}
 use Rattle.report.specs.declared.Count.{Count}
 use Rattle.report.specs.declared.Report.{Report}
 use Rattle.script_tree.specs.Objects.{Objects, Cell, is_same, plausible}
-use Rattle.audit_meaning.specs.Spots.{left_by, Spot, spots, spot_of, count_of}
+use Rattle.audit_meaning.specs.Spots.{Spot, spots, spot_of, count_of}
+use Rattle.report.specs.LeftBy.{left_by}
 use Rattle.script_tree.specs.Traces.{request_of}
 use Rattle.audit_meaning.specs.declared.reason.Reason.TheVariants.{ForeignEntry, EntryOfNoRequest, UncountedEntry, SecondEntry, EntryOutOfOrder}
 use Rattle.audit_meaning.specs.LogFaults.{is_named, faulty_entry, is_of_no_request, is_foreign, is_uncounted, is_second, is_implausible, is_out_of_order, at_entry, entry_fault, second_log, second_count, count_of_no_request, request_without_count, operation_without_entry, if_without_count, if_without_entry, log_fault}

@@ -17,7 +17,7 @@ use Rattle.script_tree.specs.declared.trace.TraceEvent.TheVariants.{Asked}
 use Rattle.script_tree.specs.declared.request.Response.{Response}
 use Rattle.report.specs.declared.LogEntry.{LogEntry}
 use Rattle.script_tree.specs.Objects.{Objects, Cell, acted, plausible, holding, is_same}
-use Rattle.audit_meaning.specs.Spots.{left_by}
+use Rattle.report.specs.LeftBy.{left_by}
 use Rattle.script_meaning.specs.Replay.{ending_of}
 use Rattle.history.specs.Names.{Named, came, did, went}
 use Rattle.history.specs.ReportOf.{did_in, entry_in, log_in}

@@ -12,7 +12,8 @@ use Rattle.report.specs.declared.LogEntry.{LogEntry}
 use Rattle.report.specs.declared.Log.{Log}
 use Rattle.report.specs.declared.Report.{Report}
 use Rattle.script_tree.specs.Objects.{Objects, is_same, plausible}
-use Rattle.audit_meaning.specs.Spots.{left_by, Spot, spots, count_of}
+use Rattle.audit_meaning.specs.Spots.{Spot, spots, count_of}
+use Rattle.report.specs.LeftBy.{left_by}
 use Rattle.script_tree.specs.Traces.{request_of}
 use Rattle.audit_meaning.specs.declared.reason.Reason.TheVariants.{SecondLog, ForeignEntry, EntryOfNoRequest, UncountedEntry, SecondEntry, EntryOutOfOrder}
 use Rattle.audit_meaning.specs.LogFaults.{is_foreign, is_of_no_request, is_uncounted, is_second, is_implausible, is_out_of_order, at_entry, entry_fault, faulty_entry, second_log, second_count, count_of_no_request, request_without_count, log_fault}

@@ -19,7 +19,8 @@ use Rattle.script_tree.specs.declared.operation.Choice.{Choice}
 use Rattle.script_tree.specs.declared.schedule.Moment.{Moment}
 use Rattle.script_tree.specs.declared.schedule.Moment.TheVariants.{Arrive, Act as Acts, Depart}
 use Rattle.script_tree.specs.Objects.{Cell, Objects, acted, plausible, is_same, holding}
-use Rattle.audit_meaning.specs.Spots.{left_by, Spot, spot_of, count_of}
+use Rattle.audit_meaning.specs.Spots.{Spot, spot_of, count_of}
+use Rattle.report.specs.LeftBy.{left_by}
 use Rattle.script_tree.specs.Traces.{request_of, response_of, Precedes}
 use Rattle.script_meaning.specs.Replay.{Scene, opening, ending_of, ending_with, next_of, IsAllowed, IsAsTraced, after, after_act, and_answer, with_request, Plays}
 use Rattle.script_meaning.specs.Explains.{rid_of, IsWhole, Explains}

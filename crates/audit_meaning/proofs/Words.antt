@@ -9,7 +9,7 @@ use Rattle.basis.specs.Lists.{nth}
 use Rattle.basis.proofs.Options.{some_is, none_is_not}
 use Rattle.report.specs.declared.LogEntry.{LogEntry}
 use Rattle.script_tree.specs.Objects.{Cell, Objects, acted, is_same, holding}
-use Rattle.audit_meaning.specs.Spots.{left_by}
+use Rattle.report.specs.LeftBy.{left_by}
 use Rattle.script_meaning.specs.Replay.{with_request}
 use Rattle.audit_meaning.specs.Nodes.{Node, step, close, node_at}
 

@@ -12,7 +12,8 @@ use Rattle.script_fit.specs.OfProgram.{is_of_program, choice_is_of}
 use Rattle.report.specs.declared.LogEntry.{LogEntry}
 use Rattle.report.specs.declared.Report.{Report}
 use Rattle.audit_meaning.specs.Lists.{answer_if, numbers, befores, last}
-use Rattle.audit_meaning.specs.Spots.{Spot, spots, spot_of, operations_in, count_of, left_by}
+use Rattle.audit_meaning.specs.Spots.{Spot, spots, spot_of, operations_in, count_of}
+use Rattle.report.specs.LeftBy.{left_by}
 use Rattle.audit_meaning.specs.declared.reason.Reason.{Reason}
 use Rattle.audit_meaning.specs.declared.reason.Reason.TheVariants.{SecondLog, SecondCount, CountOfNoRequest, RequestWithoutCount, ForeignEntry, EntryOfNoRequest, UncountedEntry, SecondEntry, OperationWithoutEntry, EntryOutOfOrder, ImplausibleEntry}
 

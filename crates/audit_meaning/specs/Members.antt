@@ -16,7 +16,8 @@ use Rattle.script_meaning.specs.declared.run.Mark.{Mark}
 use Rattle.script_meaning.specs.declared.run.Mark.TheVariants.{Decided, Issued}
 use Rattle.script_tree.specs.Paths.{same_page, same_decision}
 use Rattle.script_tree.specs.Alike.{same_act}
-use Rattle.audit_meaning.specs.Spots.{Spot, spot_of, count_of, left_by}
+use Rattle.audit_meaning.specs.Spots.{Spot, spot_of, count_of}
+use Rattle.report.specs.LeftBy.{left_by}
 
 -- ---- answers
 

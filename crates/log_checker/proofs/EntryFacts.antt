@@ -22,7 +22,8 @@ use Rattle.report.specs.declared.Report.{Report}
 use Rattle.trace_index.specs.Places.{request_place}
 use Rattle.audit_meaning.specs.Lists.{befores, befores_from, answer_if, numbers}
 use Rattle.audit_meaning.specs.LogFaults.{at_entry, is_foreign, is_of_no_request, is_named, is_second, is_implausible, entry_fault, faulty_entry, if_without_entry, operation_without_entry}
-use Rattle.audit_meaning.specs.Spots.{Spot, spots, spots_in, spot_of, if_named, left_by, count_of}
+use Rattle.audit_meaning.specs.Spots.{Spot, spots, spots_in, spot_of, if_named, count_of}
+use Rattle.report.specs.LeftBy.{left_by}
 use Rattle.audit_meaning.specs.declared.reason.Reason.{Reason}
 use Rattle.audit_meaning.specs.declared.reason.Reason.TheVariants.{ForeignEntry, EntryOfNoRequest, UncountedEntry, SecondEntry, EntryOutOfOrder, ImplausibleEntry, OperationWithoutEntry}
 use Rattle.audit_meaning.proofs.Words.{map_nth, folded_more}

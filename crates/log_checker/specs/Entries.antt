@@ -17,7 +17,8 @@ use Rattle.report.specs.declared.LogEntry.{LogEntry}
 use Rattle.report.specs.declared.Report.{Report}
 use Rattle.audit_meaning.specs.Lists.{last, befores_from}
 use Rattle.audit_meaning.specs.LogFaults.{entry_fault}
-use Rattle.audit_meaning.specs.Spots.{Spot, spots_in, left_by}
+use Rattle.audit_meaning.specs.Spots.{Spot, spots_in}
+use Rattle.report.specs.LeftBy.{left_by}
 use Rattle.audit_meaning.specs.declared.reason.Reason.{Reason}
 use Rattle.log_checker.specs.Counting.{IsCounted}
 use Rattle.log_checker.specs.EntryFaults.{first_wrong}

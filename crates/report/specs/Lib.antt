@@ -1,2 +1,3 @@
 pub mod GroupView
 pub mod Groups
+pub mod LeftBy

@@ -1,4 +1,5 @@
 ghost use Rattle.std.specs.Prelude.{◌≡◌, [], Some, None, is_some, IfOk, OnOk, OnErr};
+ghost use Rattle.std.specs.Option.{option_copied};
 ghost use Rattle.std.specs.List.Sorted.{IsStrictlySortedBy};
 ghost use Rattle.std.specs.Map.{keys_of};
 ghost use Rattle.std.specs.Ordering.{nat_cmp};
@@ -59,6 +60,13 @@ impl Cells {
             Some(value) => value.clone(),
             None => Ok(Value::null()),
         }
+    }
+
+    /// The value of a key, where it has one. It takes no memory.
+    pub fn find(&self, key: &Text) -> Option<&Value>
+        ensures { option_copied result ≡ held self.now key.now }
+    {
+        self.values.get(key)
     }
 
     /// Gives a key its value, and tells whether it had one.

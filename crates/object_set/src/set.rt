@@ -12,14 +12,13 @@ ghost use Rattle.script_fit.specs.FitsOperation.{FitsRegister, FitsStore, FitsTa
 ghost use Rattle.script_fit.specs.FitsTransaction.{FitsRow};
 ghost use Rattle.object_cells.specs.Cells.{held};
 ghost use Rattle.object_cells.specs.Stores.{has_store, held_in, store_of};
-ghost use Rattle.object_tables.specs.Outcomes.{answer_of};
 ghost use Rattle.object_set.specs.Applied.{FitsSet, Does, DoesTimes, IsApplied, IsAppliedTimes, answer_now, op_of, takes, told};
 ghost use Rattle.object_set.specs.ObjectSets.{IsSetOf, IsEmptySet, objects_of};
 ghost use Rattle.object_set.specs.Stored.{PutsRegister, PutsCell, InsertsRow};
 
 use basis::OrMemory;
 use object_cells::{Registers, Store, Stores};
-use object_tables::tables::{Outcome, Tables};
+use object_tables::tables::Tables;
 use script_tree::operation::{Act, Choice, Object, Op};
 use script_tree::syntax::declaration::Declaration;
 use script_tree::text::Text;
@@ -312,7 +311,7 @@ impl ObjectSet {
         match act {
             Act::Transact(statements) => {
                 let outcome = self.tables.transact(self.alloc, statements)?;
-                Ok(answer_of(outcome))
+                Ok(outcome.into_answer())
             }
             Act::Read
             | Act::Write(_)
@@ -400,16 +399,6 @@ impl ObjectSet {
             Choice::Number(number) => Value::number(number),
             Choice::Nothing => unreachable!(),
         }
-    }
-}
-
-/// The answer of a transaction: those of its statements, or null where one aborted.
-fn answer_of(outcome: Outcome) -> Value
-    ensures { result ≡ answer_of outcome }
-{
-    match outcome {
-        Outcome::Committed(answers) => Value::list(answers),
-        Outcome::Aborted(_) => Value::null(),
     }
 }
 

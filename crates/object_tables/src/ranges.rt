@@ -5,7 +5,7 @@ ghost use Rattle.script_tree.specs.Datum.{text};
 ghost use Rattle.script_tree.specs.Order.{compares};
 ghost use Rattle.script_tree.specs.Transactions.{key, column, meets};
 ghost use Rattle.object_tables.specs.Slots.{by_bytes, IsFiled};
-ghost use Rattle.object_tables.specs.Ranges.{IsOfKey, spans, IsLower, IsUpper, HasAll};
+ghost use Rattle.object_tables.specs.Ranges.{IsOfKey, spans, IsLower, IsUpper, HasAll, HasRange};
 
 use crate::table::Slot;
 use script_tree::comparison::Comparison;
@@ -100,21 +100,29 @@ fn has_room(from: Bound<&Text>, to: Bound<&Text>) -> bool
     }
 }
 
-/// Entries among which are all whose rows pass all tests: those of the range that the tests of the
-/// key give.
-pub fn candidates<'a>(slots: &'a BTreeMap<Text, Slot>, tests: &[Test]) -> Range<'a, Text, Slot>
-    requires { IsFiled slots.now.entries }
-    ensures all { HasAll tests.now slots.now.entries result }
+/// The entries of a map by row key among which are all whose rows pass all tests: those of the range
+/// that the tests of the key give.
+pub fn in_range<'a, V>(map: &'a BTreeMap<Text, V>, tests: &[Test]) -> Range<'a, Text, V>
+    ensures all { HasRange tests.now map.now.entries result }
     ensures fits { length result < 2 ^ 63 }
 {
     let lower = lower_bound(tests);
     let upper = upper_bound(tests);
     if has_room(lower, upper) {
-        return slots.range((lower, upper));
+        return map.range((lower, upper));
     }
     match lower {
-        Bound::Included(text) => slots.range(text..text),
-        Bound::Excluded(text) => slots.range(text..text),
-        Bound::Unbounded => slots.range(..),
+        Bound::Included(text) => map.range(text..text),
+        Bound::Excluded(text) => map.range(text..text),
+        Bound::Unbounded => map.range(..),
     }
+}
+
+/// The same of slots.
+pub fn candidates<'a>(slots: &'a BTreeMap<Text, Slot>, tests: &[Test]) -> Range<'a, Text, Slot>
+    requires { IsFiled slots.now.entries }
+    ensures all { HasAll tests.now slots.now.entries result }
+    ensures fits { length result < 2 ^ 63 }
+{
+    in_range(slots, tests)
 }

@@ -1,6 +1,6 @@
 ghost use Rattle.std.specs.Prelude.{◌≡◌, ◌<◌, map, IfOk, OnOk, OnErr, Ok, false, Some, None, vec_len, slice_set, if◌then◌else◌, pos, length};
 ghost use Rattle.std.specs.Option.{option_map};
-ghost use Rattle.script_tree.specs.Datum.{text, list, data_of};
+ghost use Rattle.script_tree.specs.Datum.{list, data_of};
 ghost use Rattle.basis.specs.Lists.{with_nth};
 ghost use Rattle.script_tree.specs.Transactions.{key, table_at, with_row, row_count, updated_rows, other_rows, selected_columns, meeting_rows, after_statement};
 ghost use Rattle.object_tables.specs.Slots.{rows_of, with_puts, IsText, KeepKeys, IsRunnable};
@@ -10,33 +10,12 @@ ghost use Rattle.object_tables.specs.Outcomes.{IsInserted};
 ghost use Rattle.script_tree.specs.declared.transaction.Statement.TheVariants.{Select, Update, Delete};
 
 use crate::journal::{Storage, put, put_in, replace};
+use crate::keys::key_of;
 use crate::table::{Slot, Slots};
 use script_tree::text::Text;
 use script_tree::transaction::{Change, Statement, Test};
-use script_tree::value::{Node, Value, Values};
+use script_tree::value::{Value, Values};
 use std::alloc::{AllocError, Global};
-
-/// A copy of the key of a row.
-fn key_of(row: &Values) -> Result<Text, AllocError>
-    requires { IsText (key row.now) }
-    ensures { IfOk result (λ bytes. key row.now ≡ text bytes) }
-{
-    match row.as_slice().first() {
-        Some(value) => text_of(value),
-        None => unreachable!(),
-    }
-}
-
-/// A copy of a text.
-fn text_of(value: &Value) -> Result<Text, AllocError>
-    requires { IsText value.now }
-    ensures { IfOk result (λ bytes. value.now ≡ text bytes) }
-{
-    match &value.node {
-        Node::Text(text) => text.as_ref().clone(),
-        Node::Null | Node::Bool(_) | Node::Number(_) | Node::List(_) => unreachable!(),
-    }
-}
 
 /// Inserts a row, unless its key is there.
 pub fn insert(storage: &mut Storage, table: usize, row: &Values) -> Result<bool, AllocError>

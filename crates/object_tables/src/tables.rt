@@ -8,7 +8,9 @@ ghost use Rattle.object_tables.specs.Storages.{slots_in, rows_in, before};
 ghost use Rattle.script_tree.specs.Fit.{AreTables, table_widths};
 ghost use Rattle.script_fit.specs.FitsTransaction.{FitsRow, FitsTransaction};
 ghost use Rattle.object_tables.specs.Answered.{Gives, RunsTo, ComesTo};
+ghost use Rattle.object_tables.specs.Keys.{row_at};
 ghost use Rattle.object_tables.specs.TableSets.{no_rows};
+ghost use Rattle.std.specs.Option.{option_copied};
 ghost use Rattle.object_tables.specs.Outcomes.{IsOutcome, IsAnswer, IsInserted, IsRun, answer_of};
 
 use crate::fitting::{fits_row, fits_transaction};
@@ -17,6 +19,7 @@ use crate::rows::Rows;
 use crate::statements::{self, insert_in};
 use crate::table::Slots;
 use script_tree::syntax::declaration::Declaration;
+use script_tree::text::Text;
 use script_tree::transaction::{Statement, Statements};
 use script_tree::value::{Value, Values};
 use std::alloc::{AllocError, Global};
@@ -28,6 +31,18 @@ use std::marker::Model;
 pub enum Outcome {
     Committed(Values),
     Aborted(usize),
+}
+
+impl Outcome {
+    /// The answer of the transaction: those of its statements, or null where one aborted.
+    pub fn into_answer(self) -> Value
+        ensures { result ≡ answer_of self }
+    {
+        match self {
+            Outcome::Committed(answers) => Value::list(answers),
+            Outcome::Aborted(_) => Value::null(),
+        }
+    }
 }
 
 /// What a transaction came to, and copies of its answer.
@@ -154,7 +169,14 @@ impl Tables {
         ensures widths { IfOk result (λ tables. tables.widths ≡ table_widths declarations.now) }
         ensures rows { IfOk result (λ tables. tables.tables ≡ no_rows tables.widths) }
     {
-        let widths = declared_widths(alloc, declarations)?;
+        Tables::without_rows(alloc, declared_widths(alloc, declarations)?)
+    }
+
+    /// Tables of these widths, without rows.
+    pub fn without_rows(alloc: Global, widths: Vec<usize>) -> Result<Tables, AllocError>
+        ensures widths { IfOk result (λ tables. tables.widths ≡ widths.items) }
+        ensures rows { IfOk result (λ tables. tables.tables ≡ no_rows tables.widths) }
+    {
         let mut tables = Vec::with_capacity(alloc, widths.len())?;
         for _ in &widths {
             tables.push(Slots::new(alloc))?;
@@ -191,11 +213,19 @@ impl Tables {
     }
 
     /// The rows of a table, in the order of their keys.
-    pub fn rows(&self, table: u32) -> Rows<'_>
+    pub fn rows(&self, table: usize) -> Rows<'_>
         requires { table < length self.now.widths }
         ensures { result ≡ table_at table self.now.tables }
     {
-        self.storage.tables[table as usize].rows()
+        self.storage.tables[table].rows()
+    }
+
+    /// The row of a key of a table, where there is one.
+    pub fn row(&self, table: u32, key: &Text) -> Option<&Values>
+        requires { table < length self.now.widths }
+        ensures { option_copied result ≡ row_at key.now (table_at table self.now.tables) }
+    {
+        self.storage.tables[table as usize].row(key)
     }
 
     /// Adds a row to a table, outside any transaction; `false` where its key is there.

@@ -26,6 +26,6 @@ invariant_of-self-in-Transact-1 c =
 
 pub returns-clause-done : goal.returns-clause-done
 returns-clause-done c = λ choice.
-    rw (c.in-Transact.is, c.answer_of.ensures)
+    rw (c.in-Transact.is, c.into_answer.ensures)
     (subst (λ h. Does (op_of Tables (Transact c.in-Transact.statements)) choice h (held_objects c.self.inside.registers c.self.inside.stores c.transact.new.self c.self.inside.clock) (answer_of c.in_ok-outcome-in-Transact.outcome)) c.self.view_is
     (transact_does c.in-Transact.statements choice (objects_in c.self.inside) c.transact.new.self (answer_of c.in_ok-outcome-in-Transact.outcome) c.in_ok-outcome-in-Transact.ensures.answer c.transact.ensures.widths))

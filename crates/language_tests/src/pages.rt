@@ -1,4 +1,4 @@
-//! `page_walker`: a page with a loop, a call and an operation.
+//! `page_walker`: pages with a loop, a call and operations.
 
 use crate::programs::program;
 use page_walker::{Walker, WalkerStep};
@@ -14,9 +14,13 @@ use std::alloc::{AllocError, Global};
 const TEXT: &[u8; 121] = b"function more(x) { return x + 40; } \
     page \"/p\" { let i = 0; while i < 3 { set i = i + 1; } echo more(i); echo read(\"r\"); }";
 
-/// What the page does next after these answers.
-fn step(alloc: Global, answers: &[Value]) -> Result<WalkerStep, AllocError> {
-    match (program(alloc, TEXT), request(alloc)) {
+/// The example page of docs/language.md.
+const HIT: &[u8; 107] = b"page \"/p\" { let n = read(\"hits\"); if n == null { set n = 0; } \
+    set n = n + 1; do write(\"hits\", n); echo n; }";
+
+/// What the page of a program does next after these answers.
+fn step(alloc: Global, text: &[u8], answers: &[Value]) -> Result<WalkerStep, AllocError> {
+    match (program(alloc, text), request(alloc)) {
         (Ok(program), Some(request)) => next(alloc, &program, &request, answers),
         _ => Err(AllocError),
     }
@@ -50,24 +54,34 @@ fn is_read(op: &Op) -> bool {
 
 #[test]
 fn an_operation_is_wanted(rt: HostRuntime) {
-    match step(rt.alloc(), &[]) {
+    match step(rt.alloc(), TEXT, &[]) {
         Ok(WalkerStep::Wants(op)) => assert!(rt; is_read(&op)),
         Ok(WalkerStep::Ends(..)) | Err(_) => assert!(rt; false, "an operation"),
     }
 }
 
-fn is_whole(path: &Path) -> bool {
-    path.decisions.as_slice() == [true, true, true, false].as_slice()
-        && path.steps == 40
-        && path.end == End::Normal
+/// Whether a request that is answered so ends well by a path of these decisions and steps.
+fn ends(step: Result<WalkerStep, AllocError>, body: &[u8], decisions: &[bool], steps: u32) -> bool {
+    match step {
+        Ok(WalkerStep::Ends(response, path)) => {
+            response.body.as_bytes() == body && is_path(&path, decisions, steps)
+        }
+        Ok(WalkerStep::Wants(_)) | Err(_) => false,
+    }
+}
+
+fn is_path(path: &Path, decisions: &[bool], steps: u32) -> bool {
+    path.decisions.as_slice() == decisions && path.steps == steps && path.end == End::Normal
 }
 
 #[test]
 fn a_loop_a_call_and_a_read(rt: HostRuntime) {
-    match step(rt.alloc(), &[Value::number(7)]) {
-        Ok(WalkerStep::Ends(response, path)) => {
-            assert!(rt; response.body.as_bytes() == b"437".as_slice() && is_whole(&path));
-        }
-        Ok(WalkerStep::Wants(_)) | Err(_) => assert!(rt; false, "an end"),
-    }
+    let step = step(rt.alloc(), TEXT, &[Value::number(7)]);
+    assert!(rt; ends(step, b"437", &[true, true, true, false], 40));
+}
+
+#[test]
+fn the_first_hit(rt: HostRuntime) {
+    let step = step(rt.alloc(), HIT, &[Value::null(), Value::null()]);
+    assert!(rt; ends(step, b"1", &[true], 19));
 }

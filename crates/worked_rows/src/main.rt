@@ -2,16 +2,13 @@
 //! each over memory, and tells those that end in another way than the row says.
 #![tactic(auto)]
 
-mod both;
 mod row;
 mod runs;
-mod same;
 mod spelled;
 mod tally;
 
-use crate::both::agreement;
 use crate::row::Row;
-use crate::runs::{checked, recorded, replay_shelf, replayed};
+use crate::runs::{checked, recorded, replayed};
 use crate::tally::{Tally, told};
 use std::alloc::Global;
 use std::fs;
@@ -22,12 +19,6 @@ const CHECKS: &str = "checks.txt";
 const REPLAYS: &str = "replays.txt";
 
 const RECORDS: &str = "records.txt";
-
-/// How the end of a replay that agrees begins.
-const AGREES: &str = "0 agrees";
-
-/// What is said of one that agrees by the machine too.
-const AGREES_BY_BOTH: &str = "agrees by the machine";
 
 /// Runs the programs that are checked: a line each, with its end before the program.
 fn run_checks(rt: &HostRuntime, alloc: Global) -> anyhow::Result<()> {
@@ -42,39 +33,21 @@ fn run_checks(rt: &HostRuntime, alloc: Global) -> anyhow::Result<()> {
             tally.count(rt, program, ends, ended.as_str())?;
         }
     }
-    tally.tell(rt, CHECKS, "rows")
+    tally.tell(rt, CHECKS)
 }
 
-/// Runs the replays, and those that agree by the machine too.
+/// Runs the replays.
 fn run_replays(rt: &HostRuntime, alloc: Global) -> anyhow::Result<()> {
     let text = fs::read_to_string(rt, REPLAYS)?;
     let mut tally = Tally::new();
-    let mut by_machine = Tally::new();
     for paragraph in text.as_str().split("\n\n") {
         let row = Row::new(paragraph)?;
         if let Some(name) = row.field("row") {
-            let ends = row.said("ends");
             let ended = told(alloc, replayed(alloc, row))?;
-            tally.count(rt, name, ends, ended.as_str())?;
-            if ends.starts_with(AGREES) {
-                let ended = told(alloc, by_both(alloc, row))?;
-                by_machine.count(rt, name, AGREES_BY_BOTH, ended.as_str())?;
-            }
+            tally.count(rt, name, row.said("ends"), ended.as_str())?;
         }
     }
-    tally.tell(rt, REPLAYS, "rows")?;
-    by_machine.tell(rt, REPLAYS, "rows by the machine")
-}
-
-/// Whether the replay agrees by the machine too.
-fn by_both(alloc: Global, row: Row<'_>) -> anyhow::Result<String> {
-    let mut shelf = replay_shelf(alloc, row)?;
-    let told = match agreement(alloc, &mut shelf, row.said("path")) {
-        Some(true) => AGREES_BY_BOTH,
-        Some(false) => "differs by the machine",
-        None => "another run by the machine",
-    };
-    Ok(String::from_str(alloc, told)?)
+    tally.tell(rt, REPLAYS)
 }
 
 /// Runs the recordings.
@@ -88,7 +61,7 @@ fn run_records(rt: &HostRuntime, alloc: Global) -> anyhow::Result<()> {
             tally.count(rt, name, row.said("ends"), ended.as_str())?;
         }
     }
-    tally.tell(rt, RECORDS, "rows")
+    tally.tell(rt, RECORDS)
 }
 
 fn main(rt: HostRuntime) -> anyhow::Result<()> {

@@ -9,9 +9,9 @@ pub struct Row<'a> {
 }
 
 /// What a line may begin with. After `#` it says nothing.
-const KEYS: [&str; 15] = [
-    "#", "", "row", "program", "state", "schedule", "requests", "turns", "seed", "clock", "path",
-    "ends", "request", "response", "report",
+const KEYS: [&str; 14] = [
+    "#", "", "row", "program", "state", "schedule", "requests", "turns", "seed", "clock", "ends",
+    "request", "response", "report",
 ];
 
 /// The first word of a line, and the rest of it.

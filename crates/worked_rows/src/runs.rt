@@ -7,13 +7,13 @@ use outside::{FixedClock, MemHouse, MemShelf, MemSink, OpenGate};
 use std::alloc::{AllocError, Global};
 
 /// The names of the files of a run.
-pub const PROGRAM: &str = "program";
+const PROGRAM: &str = "program";
 
-pub const STATE: &str = "state";
+const STATE: &str = "state";
 
-pub const TRACE: &str = "trace";
+const TRACE: &str = "trace";
 
-pub const SCHEDULE: &str = "schedule";
+const SCHEDULE: &str = "schedule";
 
 const REQUESTS: &str = "requests";
 
@@ -69,17 +69,11 @@ pub fn checked(alloc: Global, program: &str) -> anyhow::Result<String> {
     Ok(ended(alloc, &["check", PROGRAM], &mut shelf, 0)?)
 }
 
-/// The files of a replay.
-pub fn replay_shelf(alloc: Global, row: Row<'_>) -> anyhow::Result<MemShelf> {
+/// How a replay ends.
+pub fn replayed(alloc: Global, row: Row<'_>) -> anyhow::Result<String> {
     let mut shelf = shelf_of(alloc, row)?;
     shelf.put(TRACE, &trace_of(alloc, row)?)?;
     shelf.put(SCHEDULE, &schedule_of(alloc, row.said(SCHEDULE))?)?;
-    Ok(shelf)
-}
-
-/// How a replay ends.
-pub fn replayed(alloc: Global, row: Row<'_>) -> anyhow::Result<String> {
-    let mut shelf = replay_shelf(alloc, row)?;
     let words = ["replay", PROGRAM, STATE, TRACE, SCHEDULE];
     Ok(ended(alloc, &words, &mut shelf, 0)?)
 }

@@ -38,8 +38,8 @@ impl Tally {
     }
 
     /// Prints the counts of a file.
-    pub fn tell(self, rt: &impl Print, file: &str, what: &str) -> anyhow::Result<()> {
-        println!(rt; "{file}: {} {what}, {} differ", self.rows, self.differ)?;
+    pub fn tell(self, rt: &impl Print, file: &str) -> anyhow::Result<()> {
+        println!(rt; "{file}: {} rows, {} differ", self.rows, self.differ)?;
         Ok(())
     }
 }

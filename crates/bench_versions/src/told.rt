@@ -1,0 +1,79 @@
+//! What the versions of a row's object tell.
+use crate::fold::start_of;
+use crate::words::{Row, log_of};
+use anyhow::{Context, bail};
+use script_tree::value::{Node, Value};
+use std::alloc::{AllocError, Global};
+use std::slice;
+use versioned_store::VersionedStore;
+use versioned_store::fitting::fit_logs;
+
+/// Writes a number in digits, and null as `-`.
+fn tell_number(alloc: Global, told: &mut String, value: &Value) -> Result<(), AllocError> {
+    match &value.node {
+        Node::Number(number) => told.push_str(format!(in alloc; "{number}")?.as_str()),
+        Node::Null | Node::Bool(_) | Node::Text(_) | Node::List(_) => told.push('-'),
+    }
+}
+
+/// Writes a row in brackets.
+fn tell_row(alloc: Global, told: &mut String, row: &Value) -> Result<(), AllocError> {
+    let Node::List(columns) = &row.node else {
+        return tell_number(alloc, told, row);
+    };
+    told.push('[')?;
+    for column in columns.as_slice() {
+        tell_number(alloc, told, column)?;
+    }
+    told.push(']')
+}
+
+/// Writes the answer of a statement: its rows in brackets.
+fn tell_rows(alloc: Global, told: &mut String, answer: &Value) -> Result<(), AllocError> {
+    let Node::List(rows) = &answer.node else {
+        return tell_number(alloc, told, answer);
+    };
+    told.push('[')?;
+    for row in rows.as_slice() {
+        tell_row(alloc, told, row)?;
+    }
+    told.push(']')
+}
+
+/// Writes an answer: those of the statements in brackets, or a number or null.
+pub fn tell(alloc: Global, told: &mut String, answer: &Value) -> Result<(), AllocError> {
+    let Node::List(answers) = &answer.node else {
+        return tell_number(alloc, told, answer);
+    };
+    told.push('[')?;
+    for answer in answers.as_slice() {
+        tell_rows(alloc, told, answer)?;
+    }
+    told.push(']')
+}
+
+/// The answers of a row's entries, a slash, and their sources.
+pub fn versioned(alloc: Global, words: &str) -> anyhow::Result<String> {
+    let row = Row::new(words).context("a row")?;
+    let start = start_of(alloc, row)?;
+    let log = log_of(alloc, row)?;
+    let logs = slice::from_ref(&log);
+    if !fit_logs(&start, logs) {
+        bail!("an entry that doesn't fit");
+    }
+    let store = VersionedStore::build(alloc, &start, logs)?;
+    let mut answers = String::new(alloc);
+    let mut sources = String::from_str(alloc, "/")?;
+    for place in 0..log.entries.len() {
+        let position = u32::try_from(place)?;
+        if !store.has_entry(0, position) {
+            bail!("an entry that isn't there");
+        }
+        tell(alloc, &mut answers, &store.answer_at(0, position)?)?;
+        answers.push(' ')?;
+        let source = store.select_source(0, position);
+        sources.push_str(format!(in alloc; " {source}")?.as_str())?;
+    }
+    answers.push_str(sources.as_str())?;
+    Ok(answers)
+}

@@ -1,0 +1,6 @@
+pub mod FirstMaps
+pub mod Firsts
+pub mod Kept
+pub mod Selecting
+pub mod Telling
+pub mod Told

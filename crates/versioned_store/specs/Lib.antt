@@ -1,0 +1,9 @@
+pub mod Alike
+pub mod Entries
+pub mod Firsts
+pub mod Logged
+pub mod LoggedView
+pub mod Sources
+pub mod StoreView
+pub mod Tables
+pub mod Tellings

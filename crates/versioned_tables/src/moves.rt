@@ -1,0 +1,56 @@
+ghost use Rattle.std.specs.Prelude.{◌≡◌, length, OnOk, IfOk};
+ghost use Rattle.script_fit.specs.FitsTransaction.{FitsTransaction};
+ghost use Rattle.versioned_tables.specs.Standing.{Stands, AreFrom, Advances, IsAnswerAt};
+
+use crate::keys::keys_of;
+use crate::notes::note_rows;
+use crate::part::part_at;
+use object_tables::tables::Outcome;
+use script_tree::transaction::Statements;
+use script_tree::value::{Value, Values};
+use std::alloc::{AllocError, Global};
+use versioned_cells::{Histories, next_position};
+
+/// The answer of a transaction on the rows that stand at a position: it is run on those that it may
+/// look at.
+pub fn answer_at(
+    alloc: Global,
+    widths: &[usize],
+    tables: &[Histories<Values>],
+    position: u32,
+    statements: &Statements,
+) -> Result<Value, AllocError>
+    requires fits { FitsTransaction widths.now statements.now }
+    requires stands { Stands widths.now position tables.now }
+    requires count { length tables.now ≡ length widths.now }
+    ensures { IfOk result (IsAnswerAt widths.now position tables.now statements.now) }
+{
+    let keys = keys_of(alloc, tables, statements.as_slice())?;
+    let mut part = part_at(alloc, widths, tables, position, keys.as_slice())?;
+    let outcome = part.transact(alloc, statements)?;
+    Ok(outcome.into_answer())
+}
+
+/// Notes what a transaction at a position makes of the rows.
+pub fn advance(
+    alloc: Global,
+    widths: &[usize],
+    tables: &mut Vec<Histories<Values>>,
+    position: u32,
+    statements: &Statements,
+) -> Result<(), AllocError>
+    requires fits { FitsTransaction widths.now statements.now }
+    requires stands { Stands widths.now position tables.old.items }
+    requires from { AreFrom position tables.old.items }
+    requires count { length tables.old.items ≡ length widths.now }
+    ensures { OnOk result
+        (Advances widths.now position statements.now tables.old.items tables.new.items) }
+{
+    let keys = keys_of(alloc, tables.as_slice(), statements.as_slice())?;
+    let mut part = part_at(alloc, widths, tables.as_slice(), position, keys.as_slice())?;
+    let since = next_position(position)?;
+    match part.transact(alloc, statements)? {
+        Outcome::Committed(_) => note_rows(alloc, tables, since, keys.as_slice(), &part),
+        Outcome::Aborted(_) => Ok(()),
+    }
+}

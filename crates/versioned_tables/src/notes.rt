@@ -1,0 +1,98 @@
+ghost use Rattle.std.specs.Prelude.{◌≡◌, ◌↔◌, ◌<◌, length, OnOk, IfOk, IsTrue, slice_index_or, [], ◌∷◌};
+ghost use Rattle.std.specs.Option.{option_copied};
+ghost use Rattle.script_tree.specs.Transactions.{table_at};
+ghost use Rattle.versioned_cells.specs.Versions.{AreAllUntil, Notes};
+ghost use Rattle.versioned_tables.specs.Standing.{AreFrom, NotesRows, NotesIn};
+
+use crate::keys::Key;
+use crate::part::row_at;
+use object_tables::tables::Tables;
+use script_tree::text::Text;
+use script_tree::value::{Value, Values};
+use std::alloc::{AllocError, Global};
+use versioned_cells::Histories;
+
+/// From a position on the rows of these keys are those of a part.
+pub fn note_rows(
+    alloc: Global,
+    tables: &mut Vec<Histories<Values>>,
+    since: u32,
+    keys: &[Key],
+    part: &Tables,
+) -> Result<(), AllocError>
+    requires from { AreFrom since tables.old.items }
+    requires widths { length part.now.widths ≡ length tables.old.items }
+    ensures { OnOk result
+        (NotesRows since keys.now part.now.tables tables.old.items tables.new.items) }
+{
+    for (i, key) in keys.iter().enumerate() {
+        note_row(alloc, tables, since, key, part)?;
+    }
+    Ok(())
+}
+
+fn note_row(
+    alloc: Global,
+    tables: &mut Vec<Histories<Values>>,
+    since: u32,
+    key: &Key,
+    part: &Tables,
+) -> Result<(), AllocError>
+    requires from { AreFrom since tables.old.items }
+    requires widths { length part.now.widths ≡ length tables.old.items }
+    ensures { OnOk result
+        (NotesRows since (key.now ∷ []) part.now.tables tables.old.items tables.new.items) }
+{
+    let i = key.0 as usize;
+    if i >= tables.len() {
+        return Ok(());
+    }
+    let row = part.row(key.0, &key.1);
+    if is_same(row_at(tables.as_slice(), since, key.0, &key.1), row) {
+        return Ok(());
+    }
+    note_in(alloc, tables, i, &key.1, since, copied(row)?)
+}
+
+/// Whether both are the same row, or no row.
+fn is_same(a: Option<&Values>, b: Option<&Values>) -> bool
+    ensures { IsTrue result ↔ (option_copied a.entry ≡ option_copied b.entry) }
+{
+    match (a, b) {
+        (Some(a), Some(b)) => are_equal(a.as_slice(), b.as_slice()),
+        (None, None) => true,
+        (Some(_), None) => false,
+        (None, Some(_)) => false,
+    }
+}
+
+fn are_equal(a: &[Value], b: &[Value]) -> bool
+    ensures { IsTrue result ↔ (a.now ≡ b.now) }
+{
+    a == b
+}
+
+fn copied(row: Option<&Values>) -> Result<Option<Values>, AllocError>
+    ensures { IfOk result (λ copy. copy ≡ option_copied row.entry) }
+{
+    match row {
+        Some(row) => Ok(Some(row.clone()?)),
+        None => Ok(None),
+    }
+}
+
+fn note_in(
+    alloc: Global,
+    tables: &mut Vec<Histories<Values>>,
+    i: usize,
+    key: &Text,
+    since: u32,
+    row: Option<Values>,
+) -> Result<(), AllocError>
+    requires within { i < length tables.old.items }
+    requires from { AreFrom since tables.old.items }
+    ensures { OnOk result (NotesIn i key.now since row tables.old.items tables.new.items) }
+{
+    tables[i].note(alloc, key, since, row)?;
+    Ok(())
+}

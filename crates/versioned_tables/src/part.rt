@@ -1,0 +1,69 @@
+ghost use Rattle.std.specs.Prelude.{◌≡◌, ◌<◌, length, OnOk, IfOk, Some, slice_index_or, []};
+ghost use Rattle.std.specs.Option.{option_copied};
+ghost use Rattle.script_tree.specs.Transactions.{Row as AnyRow};
+ghost use Rattle.script_fit.specs.FitsTransaction.{FitsRow};
+ghost use Rattle.versioned_tables.specs.Standing.{row_then, Stands, IsPartAt, AddsRow};
+
+use crate::keys::Key;
+use object_tables::tables::Tables;
+use script_tree::text::Text;
+use script_tree::value::Values;
+use std::alloc::{AllocError, Global};
+use versioned_cells::Histories;
+
+/// The row of a key of a table at a position. It takes no memory.
+pub fn row_at<'a>(
+    tables: &'a [Histories<Values>],
+    position: u32,
+    table: u32,
+    key: &Text,
+) -> Option<&'a Values>
+    ensures { option_copied result ≡ row_then position tables.now table key.now }
+{
+    let i = table as usize;
+    if i < tables.len() {
+        tables[i].at(position, key)
+    } else {
+        None
+    }
+}
+
+/// The rows of these keys at a position, as tables of their own.
+pub fn part_at(
+    alloc: Global,
+    widths: &[usize],
+    tables: &[Histories<Values>],
+    position: u32,
+    keys: &[Key],
+) -> Result<Tables, AllocError>
+    requires { Stands widths.now position tables.now }
+    ensures { IfOk result (IsPartAt position tables.now keys.now widths.now) }
+{
+    let mut part = Tables::without_rows(alloc, Vec::from_slice(alloc, widths)?)?;
+    for (i, key) in keys.iter().enumerate() {
+        add_row(&mut part, tables, position, key)?;
+    }
+    Ok(part)
+}
+
+fn add_row(
+    part: &mut Tables,
+    tables: &[Histories<Values>],
+    position: u32,
+    key: &Key,
+) -> Result<(), AllocError>
+    requires { (row : AnyRow) → row_then position tables.now key.now.0 key.now.1 ≡ Some row →
+        FitsRow part.old.widths key.now.0 row }
+    ensures added { OnOk result (AddsRow key.now.0
+        (row_then position tables.now key.now.0 key.now.1) part.old.tables part.new.tables) }
+    ensures widths { part.new.widths ≡ part.old.widths }
+{
+    match row_at(tables, position, key.0, &key.1) {
+        Some(row) => {
+            let copy = row.clone()?;
+            part.insert_row(key.0, copy)?;
+            Ok(())
+        }
+        None => Ok(()),
+    }
+}

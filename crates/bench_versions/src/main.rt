@@ -16,12 +16,18 @@ use crate::random::random_row;
 use crate::shape::{Shape, logs_of, start_of};
 use crate::told::versioned;
 use anyhow::{Context, bail};
+use object_set::ObjectSet;
 use report::Log;
-use std::alloc::Global;
+use std::alloc::{AllocError, Global};
 use std::time::Instant;
-use std::{env, fs};
+use std::{env, fs, io};
 use versioned_store::VersionedStore;
 use versioned_store::fitting::fit_logs;
+
+/// Tells that the words come to something else than is wanted.
+fn tell(rt: &impl Print, words: &str, told: &str, wanted: &str) -> io::Result<()> {
+    println!(rt; "{words}: {told}, not {wanted}")
+}
 
 /// Runs the rows of a file, each a line: what it comes to, a bar and its words.
 fn run_rows(rt: &HostRuntime, file: &str) -> anyhow::Result<()> {
@@ -35,7 +41,7 @@ fn run_rows(rt: &HostRuntime, file: &str) -> anyhow::Result<()> {
             rows = rows.saturating_add(1);
             if told.as_str() != wanted {
                 differ = differ.saturating_add(1);
-                println!(rt; "{words}: {told}, not {wanted}")?;
+                tell(rt, words, told.as_str(), wanted)?;
             }
         }
     }
@@ -52,7 +58,7 @@ fn run_random(rt: &HostRuntime, seed: u64, logs: u64) -> anyhow::Result<()> {
         let wanted = folded(rt.alloc(), row.as_str())?;
         if !told.as_str().starts_with(wanted.as_str()) {
             differ = differ.saturating_add(1);
-            println!(rt; "{row}: {told}, not {wanted}")?;
+            tell(rt, row.as_str(), told.as_str(), wanted.as_str())?;
         }
     }
     println!(rt; "{logs} logs at random, {differ} differ")?;
@@ -60,38 +66,39 @@ fn run_random(rt: &HostRuntime, seed: u64, logs: u64) -> anyhow::Result<()> {
 }
 
 /// Answers each entry of some logs.
-fn answer_all(store: &VersionedStore<'_>, logs: &[Log]) -> anyhow::Result<()> {
-    for (number, log) in logs.iter().enumerate() {
-        let number = u32::try_from(number)?;
-        for place in 0..log.entries.len() {
-            let position = u32::try_from(place)?;
-            if store.has_entry(number, position) {
-                let _ = store.answer_at(number, position)?;
+fn answer_all(store: &VersionedStore<'_>, logs: u32) -> Result<(), AllocError> {
+    for log in 0..logs {
+        for position in 0..u32::MAX {
+            if !store.has_entry(log, position) {
+                break;
             }
+            let _ = store.answer_at(log, position)?;
         }
     }
     Ok(())
 }
 
-/// Builds the versions of a made log and answers all of its entries, so many times.
-fn run_bench(rt: &HostRuntime, shape: Shape, entries: u32, times: u32) -> anyhow::Result<()> {
-    let alloc = rt.alloc();
-    let start = start_of(alloc, shape)?;
-    let logs = logs_of(alloc, shape, entries)?;
-    if !fit_logs(&start, logs.as_slice()) {
+/// Builds the versions of some logs and answers all entries, and tells how long that took.
+fn run_once(rt: &HostRuntime, start: &ObjectSet, logs: &[Log]) -> anyhow::Result<()> {
+    if !fit_logs(start, logs) {
         bail!("an entry that doesn't fit");
     }
+    let count = u32::try_from(logs.len())?;
+    let began = Instant::now(rt)?;
+    let store = VersionedStore::build(rt.alloc(), start, logs)?;
+    let built = began.elapsed(rt)?.as_nanos();
+    answer_all(&store, count)?;
+    let all = began.elapsed(rt)?.as_nanos();
+    eprintln!(rt; "nanoseconds {built} built, {all} in all")?;
+    Ok(())
+}
+
+/// Makes a log, and answers all of its entries so many times.
+fn run_bench(rt: &HostRuntime, shape: Shape, entries: u32, times: u32) -> anyhow::Result<()> {
+    let start = start_of(rt.alloc(), shape)?;
+    let logs = logs_of(rt.alloc(), shape, entries)?;
     for _ in 0..times {
-        let began = Instant::now(rt)?;
-        let store = VersionedStore::build(alloc, &start, logs.as_slice())?;
-        let built = began.elapsed(rt)?;
-        answer_all(&store, logs.as_slice())?;
-        let all = began.elapsed(rt)?;
-        eprintln!(rt;
-            "nanoseconds {} built, {} in all",
-            built.as_nanos(),
-            all.as_nanos()
-        )?;
+        run_once(rt, &start, logs.as_slice())?;
     }
     println!(rt; "entries {entries}, times {times}")?;
     Ok(())

@@ -42,7 +42,8 @@ pub fn random_row(alloc: Global, seed: u64, number: u64) -> Result<String, Alloc
     for _ in 0..dice.roll(MOST_ENTRIES) {
         words.push(' ')?;
         push_word(&mut words, &mut dice, letters)?;
-        while object == "tables" && dice.roll(2) == 0 {
+        let more = if object == "tables" { dice.roll(3) } else { 0 };
+        for _ in 0..more {
             words.push('+')?;
             push_word(&mut words, &mut dice, letters)?;
         }

@@ -2,6 +2,8 @@
 use crate::fold::start_of;
 use crate::words::{Row, log_of};
 use anyhow::{Context, bail};
+use object_set::ObjectSet;
+use report::Log;
 use script_tree::value::{Node, Value};
 use std::alloc::{AllocError, Global};
 use std::slice;
@@ -52,28 +54,39 @@ pub fn tell(alloc: Global, told: &mut String, answer: &Value) -> Result<(), Allo
     told.push(']')
 }
 
-/// The answers of a row's entries, a slash, and their sources.
+/// The answers of a log's entries, a slash, and their sources.
+fn answers_of(alloc: Global, store: &VersionedStore<'_>) -> Result<String, AllocError> {
+    let mut told = String::new(alloc);
+    for position in 0..u32::MAX {
+        if !store.has_entry(0, position) {
+            break;
+        }
+        tell(alloc, &mut told, &store.answer_at(0, position)?)?;
+        told.push(' ')?;
+    }
+    told.push('/')?;
+    for position in 0..u32::MAX {
+        if !store.has_entry(0, position) {
+            break;
+        }
+        let source = store.select_source(0, position);
+        told.push_str(format!(in alloc; " {source}")?.as_str())?;
+    }
+    Ok(told)
+}
+
+fn told_by(alloc: Global, start: &ObjectSet, logs: &[Log]) -> anyhow::Result<String> {
+    if !fit_logs(start, logs) {
+        bail!("an entry that doesn't fit");
+    }
+    let store = VersionedStore::build(alloc, start, logs)?;
+    Ok(answers_of(alloc, &store)?)
+}
+
+/// What the versions of a row's object tell of its entries.
 pub fn versioned(alloc: Global, words: &str) -> anyhow::Result<String> {
     let row = Row::new(words).context("a row")?;
     let start = start_of(alloc, row)?;
     let log = log_of(alloc, row)?;
-    let logs = slice::from_ref(&log);
-    if !fit_logs(&start, logs) {
-        bail!("an entry that doesn't fit");
-    }
-    let store = VersionedStore::build(alloc, &start, logs)?;
-    let mut answers = String::new(alloc);
-    let mut sources = String::from_str(alloc, "/")?;
-    for place in 0..log.entries.len() {
-        let position = u32::try_from(place)?;
-        if !store.has_entry(0, position) {
-            bail!("an entry that isn't there");
-        }
-        tell(alloc, &mut answers, &store.answer_at(0, position)?)?;
-        answers.push(' ')?;
-        let source = store.select_source(0, position);
-        sources.push_str(format!(in alloc; " {source}")?.as_str())?;
-    }
-    answers.push_str(sources.as_str())?;
-    Ok(answers)
+    told_by(alloc, &start, slice::from_ref(&log))
 }

@@ -10,7 +10,8 @@ use Rattle.script_tree.specs.declared.transaction.Statement.TheVariants.{Insert,
 use Rattle.script_tree.proofs.Equals.{act_is, act_itself}
 use Rattle.report.specs.declared.LogEntry.{LogEntry}
 use Rattle.versioned_store.specs.Firsts.{Firsts, source_by, with_entry}
-use Rattle.versioned_store.specs.Sources.{are_selects, only_read, selects_alone, keeps_tables, IsCalm, IsLike, IsSource}
+use Rattle.versioned_tables.specs.Reads.{only_read, keeps_tables}
+use Rattle.versioned_store.specs.Sources.{are_selects, selects_alone, IsCalm, IsLike, IsSource}
 use Rattle.versioned_store.proofs.Telling.{last_or, place, within}
 
 abbrev pub HasAct : List LogEntry → ℕ → Act → Type 0

@@ -1,54 +1,26 @@
 -- Sources of selects.
-use Rattle.std.proofs.Common.{◌≡◌, ◌∙◌, ℕ, zero, suc, ◌≤◌, Bool, true, false, cond, List, [], ◌∷◌, ◌++◌, take, Option, Some, None, refl, sym, ap, arith, ⊎_elim}
-use Rattle.std.specs.Prelude.{option_and_then}
-use Rattle.std.specs.Option.{option_map, option_map_or}
-use Rattle.std.specs.Ordering.{int_eq}
+use Rattle.std.proofs.Common.{◌≡◌, ◌∙◌, ℕ, zero, suc, ◌≤◌, true, List, [], ◌∷◌, ◌++◌, take, Option, Some, None, refl, sym, ap, arith, ⊎_elim}
 use Rattle.std.proofs.lemmas.Bool.{cases_eq}
 use Rattle.basis.specs.Lists.{nth}
 use Rattle.basis.proofs.Options.{some_is, none_is_not}
-use Rattle.script_tree.specs.Datum.{Datum, null, list, data_of}
 use Rattle.script_tree.specs.Objects.{rows, acted}
-use Rattle.script_tree.specs.Transactions.{Table, row_count, table_at, after_statements, after_transaction}
+use Rattle.script_tree.specs.Transactions.{Table, after_transaction}
 use Rattle.script_tree.specs.declared.operation.Act.{Act}
 use Rattle.script_tree.specs.declared.operation.Act.TheVariants.{Read, Write, Get, Put, Remove, Transact, Now, Roll}
 use Rattle.script_tree.specs.declared.operation.Choice.{Choice}
 use Rattle.script_tree.specs.declared.operation.Choice.TheVariants.{Nothing, Number}
 use Rattle.script_tree.specs.declared.operation.Object.TheVariants.{Tables}
-use Rattle.script_tree.specs.declared.transaction.Statement.{Statement}
-use Rattle.script_tree.specs.declared.transaction.Statement.TheVariants.{Insert, Select, Update, Delete, Expect}
 use Rattle.report.specs.declared.LogEntry.{LogEntry}
 use Rattle.object_set.specs.ObjectSets.{objects_of}
 use Rattle.report.specs.LeftBy.{left_by}
 use Rattle.versioned_cells.proofs.LogFacts.{left-one}
+use Rattle.versioned_tables.proofs.Reading.{reads_keep}
 use Rattle.versioned_store.specs.Alike.{AlikeAnswers}
 use Rattle.versioned_store.specs.Logged.{Logged, answer_there}
-use Rattle.versioned_store.specs.Sources.{only_read, keeps_tables, IsCalm, IsLike}
+use Rattle.versioned_tables.specs.Reads.{keeps_tables}
+use Rattle.versioned_store.specs.Sources.{IsCalm, IsLike}
 
 -- ---- reads keep the tables
-
-abbrev Keeps : List Table → Option (List Table × List Datum) → Type 0
-Keeps ts None = Unit {0}
-Keeps ts (Some r) = r.0 ≡ ts
-
-in_front : (ts : List Table) (d : Datum) (o : Option (List Table × List Datum)) → Keeps ts o → Keeps ts (option_map (λ rest. (rest.0, d ∷ rest.1)) o)
-in_front ts d None k = tt
-in_front ts d (Some r) k = k
-
-reads_keep : (ss : List Statement) → only_read ss ≡ true → (ts : List Table) → Keeps ts (after_statements ss ts)
-reads_keep [] e ts = refl
-reads_keep (Insert t row ∷ ss) e ts = cc
-reads_keep (Select t columns tests ∷ ss) e ts = in_front ts _ (after_statements ss ts) (reads_keep ss e ts)
-reads_keep (Update t changes tests ∷ ss) e ts = cc
-reads_keep (Delete t tests ∷ ss) e ts = cc
-reads_keep (Expect n t tests ∷ ss) e ts = by (int_eq n (row_count tests (table_at t ts))) (reads_keep ss e ts) where
-  by : (b : Bool) → Keeps ts (after_statements ss ts)
-      → Keeps ts (option_and_then {T = List Table × Datum} (λ r. option_map (λ rest. (rest.0, r.1 ∷ rest.1)) (after_statements ss r.0)) (cond b (Some (ts, null)) None))
-  by true k = in_front ts null (after_statements ss ts) k
-  by false k = tt
-
-kept : (ts : List Table) (o : Option (List Table × List Datum)) → Keeps ts o → (option_map_or {U = List Table × Datum} (λ r. (r.0, list (data_of r.1))) o (ts, null)).0 ≡ ts
-kept ts None k = refl
-kept ts (Some r) k = k
 
 acted_kept : (a : Act) (c : Choice) (ts : List Table) → keeps_tables a ≡ true → (acted a c (rows ts)).0 ≡ rows ts
 unfolding acted
@@ -57,7 +29,7 @@ acted_kept (Write d) c ts e = refl
 acted_kept (Get k) c ts e = refl
 acted_kept (Put k d) c ts e = refl
 acted_kept (Remove k) c ts e = refl
-acted_kept (Transact ss) c ts e = ap rows (kept ts (after_statements ss ts) (reads_keep ss e ts))
+acted_kept (Transact ss) c ts e = ap rows (reads_keep ss e ts)
 acted_kept Now Nothing ts e = refl
 acted_kept Now (Number n) ts e = refl
 acted_kept (Roll b) Nothing ts e = refl

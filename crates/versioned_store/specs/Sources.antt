@@ -6,6 +6,7 @@ use Rattle.script_tree.specs.declared.operation.Act.TheVariants.{Read, Write, Ge
 use Rattle.script_tree.specs.declared.transaction.Statement.{Statement}
 use Rattle.script_tree.specs.declared.transaction.Statement.TheVariants.{Insert, Select, Update, Delete, Expect}
 use Rattle.report.specs.declared.LogEntry.{LogEntry}
+use Rattle.versioned_tables.specs.Reads.{keeps_tables}
 
 -- all are selects
 abbrev pub are_selects : List Statement → Bool
@@ -15,15 +16,6 @@ are_selects (Select t columns tests ∷ ss) = are_selects ss
 are_selects (Update t changes tests ∷ ss) = false
 are_selects (Delete t tests ∷ ss) = false
 are_selects (Expect n t tests ∷ ss) = false
-
--- none inserts, updates or deletes
-abbrev pub only_read : List Statement → Bool
-only_read [] = true
-only_read (Insert t row ∷ ss) = false
-only_read (Select t columns tests ∷ ss) = only_read ss
-only_read (Update t changes tests ∷ ss) = false
-only_read (Delete t tests ∷ ss) = false
-only_read (Expect n t tests ∷ ss) = only_read ss
 
 -- a transaction of selects alone
 abbrev pub selects_alone : Act → Bool
@@ -35,17 +27,6 @@ selects_alone (Remove k) = false
 selects_alone (Transact ss) = are_selects ss
 selects_alone Now = false
 selects_alone (Roll bound) = false
-
--- it changes no tables
-abbrev pub keeps_tables : Act → Bool
-keeps_tables Read = true
-keeps_tables (Write d) = true
-keeps_tables (Get k) = true
-keeps_tables (Put k d) = true
-keeps_tables (Remove k) = true
-keeps_tables (Transact ss) = only_read ss
-keeps_tables Now = true
-keeps_tables (Roll bound) = true
 
 -- From q on, up to before p, no entry changes the tables.
 abbrev pub IsCalm : List LogEntry → ℕ → ℕ → Type 0

@@ -1,5 +1,5 @@
 ghost use Rattle.std.specs.Prelude.{◌≡◌};
-ghost use Rattle.versioned_store.specs.Sources.{are_selects, only_read, selects_alone, keeps_tables};
+ghost use Rattle.versioned_store.specs.Sources.{are_selects, selects_alone};
 
 use script_tree::operation::Act;
 use script_tree::transaction::Statement;
@@ -20,22 +20,6 @@ pub fn selects_alone(act: &Act) -> bool
     }
 }
 
-/// Whether it changes no tables, whatever they hold.
-pub fn keeps_tables(act: &Act) -> bool
-    ensures { result ≡ keeps_tables act.now }
-{
-    match act {
-        Act::Transact(statements) => only_read(statements.as_slice()),
-        Act::Read
-        | Act::Write(_)
-        | Act::Get(_)
-        | Act::Put(_, _)
-        | Act::Remove(_)
-        | Act::Now
-        | Act::Roll(_) => true,
-    }
-}
-
 fn are_selects(statements: &[Statement]) -> bool
     ensures { result ≡ are_selects statements.now }
 {
@@ -46,20 +30,6 @@ fn are_selects(statements: &[Statement]) -> bool
             | Statement::Update { .. }
             | Statement::Delete { .. }
             | Statement::Expect { .. } => return false,
-        }
-    }
-    true
-}
-
-fn only_read(statements: &[Statement]) -> bool
-    ensures { result ≡ only_read statements.now }
-{
-    for statement in statements {
-        match statement {
-            Statement::Select { .. } | Statement::Expect { .. } => {}
-            Statement::Insert { .. } | Statement::Update { .. } | Statement::Delete { .. } => {
-                return false;
-            }
         }
     }
     true

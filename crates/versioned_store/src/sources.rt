@@ -1,13 +1,15 @@
 ghost use Rattle.std.specs.Prelude.{◌≡◌, [], IfOk, OnOk, if◌then◌else◌};
 ghost use Rattle.versioned_store.specs.Firsts.{firsts_in, source_by, with_entry};
-ghost use Rattle.versioned_store.specs.Sources.{AreSources, keeps_tables};
+ghost use Rattle.versioned_tables.specs.Reads.{keeps_tables};
+ghost use Rattle.versioned_store.specs.Sources.{AreSources};
 
-use crate::acts::{keeps_tables, selects_alone};
+use crate::acts::selects_alone;
 use report::LogEntry;
 use script_tree::operation::Act;
 use std::alloc::{AllocError, Global};
 use std::collections::BTreeMap;
 use versioned_cells::next_position;
+use versioned_tables::reads::keeps_tables;
 
 /// The acts that came since the tables last changed, with the positions at which they came first.
 type Firsts<'a> = BTreeMap<&'a Act, u32>;

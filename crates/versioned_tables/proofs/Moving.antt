@@ -168,7 +168,7 @@ none_past (w ∷ ws) [] t a h = absurd a
 none_past (w ∷ ws) (x ∷ xs) zero a h = absurd (omega arith)
 none_past (w ∷ ws) (x ∷ xs) (suc t) a h = none_past ws xs t a.1 (omega arith)
 
-later : (p q : ℕ) (hs : RowsOverTime) (t : ℕ) (k : List ℕ) → AreFrom p hs → p ≤ q → row_then q hs t k ≡ row_then p hs t k
+pub later : (p q : ℕ) (hs : RowsOverTime) (t : ℕ) (k : List ℕ) → AreFrom p hs → p ≤ q → row_then q hs t k ≡ row_then p hs t k
 later p q hs t k from l = stands_on p q None (history_at k (slice_index_or hs t [])) l (from t k)
 
 row_past : (p : ℕ) (hs : RowsOverTime) (t : ℕ) (k : List ℕ) → length hs ≤ t → row_then p hs t k ≡ None

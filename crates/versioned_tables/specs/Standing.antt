@@ -79,6 +79,18 @@ Reaches hs keys (Update t changes tests) = Finds keys t tests (slice_index_or hs
 Reaches hs keys (Delete t tests) = Finds keys t tests (slice_index_or hs t [])
 Reaches hs keys (Expect n t tests) = Finds keys t tests (slice_index_or hs t [])
 
+-- the table and the tests of the rows that a statement looks at, where it isn't an insert
+abbrev pub range_in : Statement → Option (ℕ × List Test)
+range_in (Insert t row) = None
+range_in (Select t columns tests) = Some (t, tests)
+range_in (Update t changes tests) = Some (t, tests)
+range_in (Delete t tests) = Some (t, tests)
+range_in (Expect n t tests) = Some (t, tests)
+
+-- What has the keys of one has those of the other.
+abbrev pub LookAlike : Statement → Statement → Type 0
+LookAlike a b = (hs : RowsOverTime) (keys : Keys) → Reaches hs keys a → Reaches hs keys b
+
 abbrev pub AllReached : RowsOverTime → Keys → List Statement → Type 0
 AllReached hs keys [] = Unit {0}
 AllReached hs keys (s ∷ ss) = Reaches hs keys s × AllReached hs keys ss

@@ -1,8 +1,9 @@
-ghost use Rattle.std.specs.Prelude.{◌≡◌, ◌<◌, length, OnOk, IfOk, slice_index_or, []};
+ghost use Rattle.std.specs.Prelude.{◌≡◌, ◌<◌, ◌+◌, length, take, OnOk, IfOk, IsTrue, slice_index_or, []};
+ghost use Rattle.std.specs.Option.{option_map};
 ghost use Rattle.script_tree.specs.Transactions.{key};
 ghost use Rattle.script_tree.specs.declared.transaction.Statement.TheVariants.{Insert};
 ghost use Rattle.object_tables.specs.Slots.{IsText, IsRunnable, AreRunnable};
-ghost use Rattle.versioned_tables.specs.Standing.{Reaches, AllReached, Finds, Grows};
+ghost use Rattle.versioned_tables.specs.Standing.{Reaches, AllReached, Finds, Grows, range_in, LookAlike};
 
 use object_tables::keys::key_of;
 use object_tables::ranges::in_range;
@@ -25,10 +26,59 @@ pub fn keys_of(
     ensures { IfOk result (λ keys. AllReached tables.now keys.items statements.now) }
 {
     let mut keys = Vec::new(alloc);
-    for (i, statement) in statements.iter().enumerate() {
-        add_keys(&mut keys, tables, statement)?;
+    for i in 0..statements.len() {
+        add_keys_at(&mut keys, tables, statements, i)?;
     }
     Ok(keys)
+}
+
+/// Adds the keys of a statement. Where the one before looks at the same rows, they are there.
+fn add_keys_at(
+    keys: &mut Vec<Key>,
+    tables: &[Histories<Values>],
+    statements: &[Statement],
+    i: usize,
+) -> Result<(), AllocError>
+    requires within { i < length statements.now }
+    requires runs { AreRunnable (length tables.now) statements.now }
+    requires reached { AllReached tables.now keys.old.items (take i statements.now) }
+    ensures { OnOk result
+        (AllReached tables.now keys.new.items (take (i + 1) statements.now)) }
+{
+    if i > 0 && look_alike(&statements[i - 1], &statements[i]) {
+        return Ok(());
+    }
+    add_keys(keys, tables, &statements[i])?;
+    Ok(())
+}
+
+/// Whether both look at the rows of one table that pass the same tests.
+fn look_alike(a: &Statement, b: &Statement) -> bool
+    ensures { IsTrue result → LookAlike a.now b.now }
+{
+    match (range_of(a), range_of(b)) {
+        (Some((t, some)), Some((u, others))) => t == u && are_same(some, others),
+        (Some(_), None) | (None, Some(_)) | (None, None) => false,
+    }
+}
+
+fn are_same(some: &[Test], others: &[Test]) -> bool
+    ensures { IsTrue result → some.now ≡ others.now }
+{
+    some == others
+}
+
+/// The table and the tests of the rows that a statement looks at, where it isn't an insert.
+fn range_of(statement: &Statement) -> Option<(u32, &[Test])>
+    ensures { option_map (λ r. (r.0, r.1.now)) result ≡ range_in statement.now }
+{
+    match statement {
+        Statement::Insert { .. } => None,
+        Statement::Select { table, tests, .. }
+        | Statement::Update { table, tests, .. }
+        | Statement::Delete { table, tests }
+        | Statement::Expect { table, tests, .. } => Some((*table, tests.as_slice())),
+    }
 }
 
 fn add_keys(

@@ -5,6 +5,7 @@ ghost use Rattle.versioned_tables.specs.Standing.{Stands, AreFrom, AllChange};
 ghost use Rattle.versioned_tables.specs.OverTime.{TellsTables, IsAnswerThen, FitEntries, BeginsTables, BeginsTable, AdvancesBy, over_time};
 
 use crate::moves;
+use crate::reads::only_read;
 use object_tables::keys::key_of;
 use object_tables::rows::Rows;
 use object_tables::tables::Tables;
@@ -145,7 +146,12 @@ fn note_act(
         (AdvancesBy widths.now position act.now tables.old.items tables.new.items) }
 {
     match act {
-        Act::Transact(statements) => moves::advance(alloc, widths, tables, position, statements),
+        Act::Transact(statements) => {
+            if only_read(statements.as_slice()) {
+                return Ok(());
+            }
+            moves::advance(alloc, widths, tables, position, statements)
+        }
         Act::Read
         | Act::Write(_)
         | Act::Get(_)

@@ -6,8 +6,6 @@ use Rattle.std.proofs.lemmas.Bool.{leb-true, le-leb, eqb-true, false_from_ne_tru
 use Rattle.std.proofs.lemmas.List.Elements.{All-head, All-tail}
 use Rattle.std.proofs.lemmas.List.{take_more}
 use Rattle.std.proofs.lemmas.Slice.Eq.{bytes_eq-Decides}
-use Rattle.std.specs.declared.cmp.Ordering.{Ordering}
-use Rattle.std.specs.declared.cmp.Ordering.TheVariants.{Less, Equal, Greater}
 use Rattle.std.specs.Ordering.{is_eq}
 use Rattle.std.specs.Cmp.Lexicographic.{pointwise}
 use Rattle.std.proofs.lemmas.Bool.{and_parts}
@@ -20,7 +18,7 @@ use Rattle.object_tables.specs.Keys.{row_at}
 use Rattle.versioned_cells.specs.Versions.{Versions, VersionsByKey, as_of, held_at, history_at, AreUntil, AreAllUntil, AreChanges}
 use Rattle.versioned_cells.proofs.HistoryFacts.{notes_at, notes_until, bytes_eq-sym, stands_on, until_later}
 use Rattle.versioned_tables.specs.Standing.{RowsOverTime, row_then, AreFrom, AllChange, Keys, is_in, NotesIn, NotesRows}
-use Rattle.versioned_tables.proofs.KeyFacts.{in_more}
+use Rattle.versioned_tables.proofs.KeyFacts.{in_more, equal}
 
 pub there : (hs : RowsOverTime) (t : ℕ) (es : VersionsByKey Row) → t < length hs → es ≡ slice_index_or hs t es → es ≡ slice_index_or hs t []
 there [] t es h e = absurd (omega arith)
@@ -155,11 +153,6 @@ noted_same since x part hs from is = record {
   at p t k false e b f c g = rw e refl
 
 -- ---- equal rows
-
-pub equal : (o : Ordering) → is_eq o ≡ true → o ≡ Equal
-equal Less e = cc
-equal Equal e = refl
-equal Greater e = cc
 
 pub values_equal : (xs ys : List Datum) → pointwise (λ a b. is_eq (compare a b)) xs ys ≡ true → xs ≡ ys
 values_equal [] [] e = refl

@@ -15,7 +15,7 @@ use Rattle.script_tree.specs.declared.transaction.Statement.TheVariants.{Insert,
 use Rattle.script_tree.specs.contracts.comparison.ComparisonPartialEq.TheImpl as comparison_eq
 use Rattle.script_tree.specs.contracts.transaction.TestPartialEq.TheImpl as test_eq
 use Rattle.versioned_tables.specs.Standing.{RowsOverTime, Keys, Finds, Reaches, AllReached, range_in, LookAlike}
-use Rattle.versioned_tables.proofs.Noting.{equal}
+use Rattle.versioned_tables.proofs.KeyFacts.{equal}
 
 -- ---- equal tests
 

@@ -8,7 +8,8 @@ use Rattle.std.specs.Ordering.{nat_cmp}
 use Rattle.std.specs.Str.{bytes_eq}
 use Rattle.script_tree.specs.Datum.{Datum, text}
 use Rattle.script_tree.specs.Fit.{AreTables}
-use Rattle.script_tree.specs.Transactions.{Row, Table, key, meets, table_at, after_transaction}
+use Rattle.script_tree.specs.Order.{compares}
+use Rattle.script_tree.specs.Transactions.{Row, Table, key, column, meets, table_at, after_transaction}
 use Rattle.script_tree.specs.declared.transaction.Test.{Test}
 use Rattle.script_tree.specs.declared.transaction.Statement.{Statement}
 use Rattle.script_tree.specs.declared.transaction.Statement.TheVariants.{Insert, Select, Update, Delete, Expect}
@@ -70,6 +71,13 @@ has_history k es = is_some (lookup (is_at (slice_cmp nat_cmp k)) es)
 -- Among them is the key of each row of a table that ever stood and passes.
 abbrev pub Finds : Keys → ℕ → List Test → VersionsByKey Row → Type 0
 Finds keys t tests es = (row : Row) (k : List ℕ) → key row ≡ text k → meets tests row ≡ true → has_history k es ≡ true → is_in keys t k ≡ true
+
+-- Each row that passes the test, or all of them, has this key.
+abbrev pub IsTestedKey : Test → List ℕ → Type 0
+IsTestedKey test only = (row : Row) (k : List ℕ) → key row ≡ text k → compares test.comparison (column test.column row) test.value ≡ true → k ≡ only
+
+abbrev pub IsOnlyKey : List Test → List ℕ → Type 0
+IsOnlyKey tests only = (row : Row) (k : List ℕ) → key row ≡ text k → meets tests row ≡ true → k ≡ only
 
 -- Among them is each key that a statement looks at.
 abbrev pub Reaches : RowsOverTime → Keys → Statement → Type 0

@@ -1,15 +1,17 @@
-ghost use Rattle.std.specs.Prelude.{◌≡◌, ◌<◌, ◌+◌, length, take, OnOk, IfOk, IsTrue, slice_index_or, []};
+ghost use Rattle.std.specs.Prelude.{◌≡◌, ◌<◌, ◌+◌, length, take, OnOk, IfOk, IfSome, IsTrue, slice_index_or, []};
 ghost use Rattle.std.specs.Option.{option_map};
+ghost use Rattle.script_tree.specs.Datum.{text};
 ghost use Rattle.script_tree.specs.Transactions.{key};
 ghost use Rattle.script_tree.specs.declared.transaction.Statement.TheVariants.{Insert};
 ghost use Rattle.object_tables.specs.Slots.{IsText, IsRunnable, AreRunnable};
-ghost use Rattle.versioned_tables.specs.Standing.{Reaches, AllReached, Finds, Grows, range_in, LookAlike};
+ghost use Rattle.versioned_tables.specs.Standing.{Reaches, AllReached, Finds, Grows, IsOnlyKey, IsTestedKey, range_in, LookAlike};
 
 use object_tables::keys::key_of;
 use object_tables::ranges::in_range;
+use script_tree::comparison::Comparison;
 use script_tree::text::Text;
 use script_tree::transaction::{Statement, Test};
-use script_tree::value::Values;
+use script_tree::value::{Node, Value, Values};
 use std::alloc::{AllocError, Global};
 use versioned_cells::Histories;
 
@@ -93,16 +95,16 @@ fn add_keys(
     match statement {
         Statement::Insert { table, row } => add_key(keys, *table, row),
         Statement::Select { table, tests, .. } => {
-            add_range(keys, *table, &tables[*table as usize], tests.as_slice())
+            add_tested(keys, *table, &tables[*table as usize], tests.as_slice())
         }
         Statement::Update { table, tests, .. } => {
-            add_range(keys, *table, &tables[*table as usize], tests.as_slice())
+            add_tested(keys, *table, &tables[*table as usize], tests.as_slice())
         }
         Statement::Delete { table, tests } => {
-            add_range(keys, *table, &tables[*table as usize], tests.as_slice())
+            add_tested(keys, *table, &tables[*table as usize], tests.as_slice())
         }
         Statement::Expect { table, tests, .. } => {
-            add_range(keys, *table, &tables[*table as usize], tests.as_slice())
+            add_tested(keys, *table, &tables[*table as usize], tests.as_slice())
         }
     }
 }
@@ -117,7 +119,7 @@ fn add_key(keys: &mut Vec<Key>, table: u32, row: &Values) -> Result<(), AllocErr
     Ok(())
 }
 
-/// The keys of a table that the tests leave in question.
+/// The keys of a table in the range that the tests leave in question.
 fn add_range(
     keys: &mut Vec<Key>,
     table: u32,
@@ -131,4 +133,62 @@ fn add_range(
         keys.push((table, key.clone()?))?;
     }
     Ok(())
+}
+
+/// The keys of a table that the tests leave in question: one, where a test says which.
+fn add_tested(
+    keys: &mut Vec<Key>,
+    table: u32,
+    histories: &Histories<Values>,
+    tests: &[Test],
+) -> Result<(), AllocError>
+    ensures finds { OnOk result (Finds keys.new.items table tests.now histories.now) }
+    ensures grows { OnOk result (Grows keys.old.items keys.new.items) }
+{
+    match only_key(tests) {
+        Some(key) => {
+            keys.push((table, key.clone()?))?;
+            Ok(())
+        }
+        None => add_range(keys, table, histories, tests),
+    }
+}
+
+/// The key of each row that passes the tests, where one of them says it.
+fn only_key(tests: &[Test]) -> Option<&Text>
+    ensures { IfSome result (λ only. IsOnlyKey tests.now only.now) }
+{
+    for test in tests {
+        if let Some(key) = tested_key(test) {
+            return Some(key);
+        }
+    }
+    None
+}
+
+/// The key of each row that passes a test, where it says it.
+fn tested_key(test: &Test) -> Option<&Text>
+    ensures { IfSome result (λ only. IsTestedKey test.now only.now) }
+{
+    if test.column != 0 {
+        return None;
+    }
+    match test.comparison {
+        Comparison::Equal => text_in(&test.value),
+        Comparison::Unequal
+        | Comparison::Less
+        | Comparison::AtMost
+        | Comparison::Greater
+        | Comparison::AtLeast => None,
+    }
+}
+
+/// The text that a value is.
+fn text_in(value: &Value) -> Option<&Text>
+    ensures { IfSome result (λ bytes. value.now ≡ text bytes.now) }
+{
+    match &value.node {
+        Node::Text(text) => Some(text.as_ref()),
+        Node::Null | Node::Bool(_) | Node::Number(_) | Node::List(_) => None,
+    }
 }

@@ -16,8 +16,10 @@ pub enum Shape {
     Register,
     /// A write and a read of each of many registers, each with a log of its own.
     Registers,
-    /// Transactions, each a select and an update of one row by its key.
+    /// Transactions, each a select and an update of one row by its key, in the order of the keys.
     Rows,
+    /// The same in no order.
+    RowsAtRandom,
     /// Selects of the same rows, between a few updates.
     Same,
     /// Selects of a row each, and no update.
@@ -30,6 +32,7 @@ impl Shape {
             "register" => Some(Shape::Register),
             "registers" => Some(Shape::Registers),
             "rows" => Some(Shape::Rows),
+            "rows_at_random" => Some(Shape::RowsAtRandom),
             "same" => Some(Shape::Same),
             "different" => Some(Shape::Different),
             _ => None,
@@ -40,21 +43,25 @@ impl Shape {
     fn rows(self) -> u32 {
         match self {
             Shape::Register | Shape::Registers => 0,
-            Shape::Rows | Shape::Different => 100_000,
+            Shape::Rows | Shape::RowsAtRandom | Shape::Different => 100_000,
             Shape::Same => 1_000,
         }
     }
 }
 
-/// The key of a row. Rows come in no order of their numbers.
-fn key_of(alloc: Global, number: u32) -> Result<String, AllocError> {
-    format!(in alloc; "{:08x}", number.wrapping_mul(0x9e37_79b1))
+/// The key of a row: its number, or one that tells nothing of the number's order.
+fn key_of(alloc: Global, shape: Shape, number: u32) -> Result<String, AllocError> {
+    let key = match shape {
+        Shape::Register | Shape::Registers | Shape::Rows | Shape::Same => number,
+        Shape::RowsAtRandom | Shape::Different => number.wrapping_mul(0x9e37_79b1),
+    };
+    format!(in alloc; "{key:08x}")
 }
 
 pub fn start_of(alloc: Global, shape: Shape) -> anyhow::Result<ObjectSet> {
     let mut objects = empty_objects(alloc)?;
     for number in 0..shape.rows() {
-        let key = key_of(alloc, number)?;
+        let key = key_of(alloc, shape, number)?;
         add_row(&mut objects, alloc, key.as_str(), i64::from(number))?;
     }
     Ok(objects)
@@ -77,13 +84,13 @@ fn transact(
 
 /// The act of an entry of so many.
 fn act_of(alloc: Global, shape: Shape, number: u32, count: u32) -> Result<Act, AllocError> {
-    let key = key_of(alloc, number % shape.rows().max(1))?;
+    let key = key_of(alloc, shape, number % shape.rows().max(1))?;
     match shape {
         Shape::Register | Shape::Registers if number % 2 == 0 => Ok(Act::Write(Value::number(
             i64::from(number),
         ))),
         Shape::Register | Shape::Registers => Ok(Act::Read),
-        Shape::Rows => transact(
+        Shape::Rows | Shape::RowsAtRandom => transact(
             alloc,
             Some(select(alloc, key.as_str())?),
             Some(update(alloc, key.as_str(), i64::from(number))?),
@@ -114,7 +121,7 @@ pub fn logs_of(alloc: Global, shape: Shape, count: u32) -> Result<Vec<Log>, Allo
     for number in 0..count {
         entries.push(entry_of(act_of(alloc, shape, number, count)?))?;
         if shape == Shape::Registers && number % 2 == 1 {
-            let name = key_of(alloc, number)?;
+            let name = key_of(alloc, shape, number)?;
             let object = Object::Register(text_of(alloc, name.as_str())?);
             logs.push(log_of(alloc, object, entries))?;
             entries = Vec::new(alloc);
@@ -122,7 +129,7 @@ pub fn logs_of(alloc: Global, shape: Shape, count: u32) -> Result<Vec<Log>, Allo
     }
     let object = match shape {
         Shape::Register | Shape::Registers => Object::Register(text_of(alloc, "r")?),
-        Shape::Rows | Shape::Same | Shape::Different => Object::Tables,
+        Shape::Rows | Shape::RowsAtRandom | Shape::Same | Shape::Different => Object::Tables,
     };
     logs.push(log_of(alloc, object, entries))?;
     Ok(logs)

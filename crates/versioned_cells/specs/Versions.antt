@@ -1,10 +1,11 @@
 -- What stood somewhere over time.
-use Rattle.std.specs.Prelude.{◌≡◌, ◌≢◌, ◌≤◌, ℕ, nat_le, List, [], ◌∷◌, ◌++◌, if◌then◌else◌, Option, None, unwrap_or}
+use Rattle.std.specs.Prelude.{◌≡◌, ◌≢◌, ◌≤◌, ℕ, nat_le, List, [], ◌∷◌, ◌++◌, if◌then◌else◌, Bool, Option, None, unwrap_or}
 use Rattle.std.specs.BTreeMap.{is_at}
 use Rattle.std.specs.Cmp.Lexicographic.{slice_cmp}
 use Rattle.std.specs.List.{All}
 use Rattle.std.specs.List.Sorted.{IsNonDecreasingBy}
 use Rattle.std.specs.Map.{lookup}
+use Rattle.std.specs.Option.{option_eq}
 use Rattle.std.specs.Ordering.{nat_cmp}
 use Rattle.std.specs.Str.{bytes_eq}
 
@@ -49,3 +50,14 @@ AreAllUntil p es = (k : List ℕ) → AreUntil p (history_at k es)
 abbrev pub Notes : {X : Type 0} → ℕ → List ℕ → Option X → VersionsByKey X → VersionsByKey X → Type 0
 Notes since key value old new =
     (k : List ℕ) → history_at k new ≡ (if bytes_eq k key then history_at k old ++ (since, value) ∷ [] else history_at k old)
+
+-- ---- a value that may stand already, by a test of equal values
+
+-- the versions of a cell, and one more where another value stands
+abbrev pub changed : {X : Type 0} → (X → X → Bool) → ℕ → Option X → Versions X → Versions X
+changed eq since value vs = if option_eq eq (as_of since None vs) value then vs else vs ++ (since, value) ∷ []
+
+-- This key has changed so, and every other one has the versions it had.
+abbrev pub Changes : {X : Type 0} → (X → X → Bool) → ℕ → List ℕ → Option X → VersionsByKey X → VersionsByKey X → Type 0
+Changes eq since key value old new =
+    (k : List ℕ) → history_at k new ≡ (if bytes_eq k key then changed eq since value (history_at k old) else history_at k old)

@@ -1,6 +1,6 @@
 ghost use Rattle.std.specs.Prelude.{◌≡◌, ◌≤◌, [], None, OnOk, OnErr};
 ghost use Rattle.std.specs.Option.{option_copied};
-ghost use Rattle.versioned_cells.specs.Versions.{as_of, history_at, held_at, AreAllUntil, Notes};
+ghost use Rattle.versioned_cells.specs.Versions.{as_of, history_at, held_at, AreAllUntil, Notes, Changes};
 
 use crate::history::History;
 use script_tree::text::Text;
@@ -66,6 +66,41 @@ impl<T: Drop> Histories<T> {
         ensures { OnOk result (Notes since key.now value self.old self.new) }
     {
         note_in(&mut self.by_key, alloc, key, since, value)
+    }
+}
+
+impl<T: Drop + PartialEq> Histories<T> {
+    /// From this position on this stands under a key. Where it does already, no version is made.
+    pub fn change(
+        &mut self,
+        alloc: Global,
+        key: &Text,
+        since: u32,
+        value: Option<T>,
+    ) -> Result<(), AllocError>
+        requires { AreAllUntil since self.old }
+        ensures { OnOk result (Changes T.eq since key.now value self.old self.new) }
+    {
+        change_in(&mut self.by_key, alloc, key, since, value)
+    }
+}
+
+fn change_in<T: Drop + PartialEq>(
+    by_key: &mut BTreeMap<Text, History<T>>,
+    alloc: Global,
+    key: &Text,
+    since: u32,
+    value: Option<T>,
+) -> Result<(), AllocError>
+    requires { AreAllUntil since by_key.old.entries }
+    ensures { OnOk result (Changes T.eq since key.now value by_key.old.entries by_key.new.entries) }
+{
+    match by_key.get_mut(key) {
+        Some(history) => history.change(since, value),
+        None => match value {
+            Some(value) => add(by_key, alloc, key, since, Some(value)),
+            None => Ok(()),
+        },
     }
 }
 

@@ -1,6 +1,6 @@
 ghost use Rattle.std.specs.Prelude.{◌≡◌, ◌≤◌, ◌++◌, ◌∷◌, [], None, OnOk, OnErr};
 ghost use Rattle.std.specs.Option.{option_copied};
-ghost use Rattle.versioned_cells.specs.Versions.{as_of, AreUntil, IsRising};
+ghost use Rattle.versioned_cells.specs.Versions.{as_of, AreUntil, IsRising, changed};
 
 use std::alloc::{AllocError, Global};
 use std::marker::Model;
@@ -53,6 +53,19 @@ impl<T: Drop> History<T> {
     {
         self.versions.push((since, value))?;
         Ok(())
+    }
+}
+
+impl<T: Drop + PartialEq> History<T> {
+    /// From this position on the cell holds this. Where it does already, no version is made.
+    pub fn change(&mut self, since: u32, value: Option<T>) -> Result<(), AllocError>
+        requires { AreUntil since self.old }
+        ensures { OnOk result (self.new ≡ changed T.eq since value self.old) }
+    {
+        if self.at(since) == value.as_ref() {
+            return Ok(());
+        }
+        self.note(since, value)
     }
 }
 

@@ -4,11 +4,12 @@ use Rattle.std.specs.BTreeMap.{is_at}
 use Rattle.std.specs.Cmp.Lexicographic.{slice_cmp}
 use Rattle.std.specs.Map.{lookup}
 use Rattle.std.specs.Option.{is_some}
-use Rattle.std.specs.Ordering.{nat_cmp}
+use Rattle.std.specs.Cmp.Lexicographic.{pointwise}
+use Rattle.std.specs.Ordering.{nat_cmp, eq_by_cmp}
 use Rattle.std.specs.Str.{bytes_eq}
 use Rattle.script_tree.specs.Datum.{Datum, text}
 use Rattle.script_tree.specs.Fit.{AreTables}
-use Rattle.script_tree.specs.Order.{compares}
+use Rattle.script_tree.specs.Order.{compare, compares}
 use Rattle.script_tree.specs.Transactions.{Row, Table, key, column, meets, table_at, after_transaction}
 use Rattle.script_tree.specs.declared.transaction.Test.{Test}
 use Rattle.script_tree.specs.declared.transaction.Statement.{Statement}
@@ -16,7 +17,7 @@ use Rattle.script_tree.specs.declared.transaction.Statement.TheVariants.{Insert,
 use Rattle.object_tables.specs.Keys.{is_key, row_at}
 use Rattle.object_tables.specs.Outcomes.{IsInserted}
 use Rattle.object_tables.specs.TableSets.{TableSet}
-use Rattle.versioned_cells.specs.Versions.{VersionsByKey, history_at, held_at, AreAllUntil, AreChanges, Notes}
+use Rattle.versioned_cells.specs.Versions.{VersionsByKey, history_at, held_at, AreAllUntil, AreChanges, Changes}
 use Rattle.versioned_tables.specs.Parts.{kept}
 
 -- ---- rows over time
@@ -125,9 +126,13 @@ pub record NotesRows (since : ℕ) (keys : Keys) (part : List Table) (old new : 
   pub count : length new ≡ length old
   pub changes : AllChange old → AllChange new
 
--- In one table this key has a version more.
-pub record NotesIn (i : ℕ) (key : List ℕ) (since : ℕ) (row : Option Row) (old new : RowsOverTime) : Type 0 where
-  pub here : Notes since key row (slice_index_or old i []) (slice_index_or new i [])
+-- equal rows, as a test that computes
+abbrev pub same_rows : Row → Row → Bool
+same_rows a b = pointwise (eq_by_cmp compare) a b
+
+-- In one table this key has changed so.
+pub record ChangesIn (i : ℕ) (key : List ℕ) (since : ℕ) (row : Option Row) (old new : RowsOverTime) : Type 0 where
+  pub here : Changes same_rows since key row (slice_index_or old i []) (slice_index_or new i [])
   pub elsewhere : (t : ℕ) → nat_eq i t ≡ false → slice_index_or new t [] ≡ slice_index_or old t []
   pub count : length new ≡ length old
 

@@ -2,13 +2,12 @@ ghost use Rattle.std.specs.Prelude.{◌≡◌, ◌↔◌, ◌<◌, length, OnOk,
 ghost use Rattle.std.specs.Option.{option_copied};
 ghost use Rattle.script_tree.specs.Transactions.{table_at};
 ghost use Rattle.versioned_cells.specs.Versions.{AreAllUntil, Notes};
-ghost use Rattle.versioned_tables.specs.Standing.{AreFrom, NotesRows, NotesIn};
+ghost use Rattle.versioned_tables.specs.Standing.{AreFrom, NotesRows, ChangesIn};
 
 use crate::keys::Key;
-use crate::part::row_at;
 use object_tables::tables::Tables;
 use script_tree::text::Text;
-use script_tree::value::{Value, Values};
+use script_tree::value::Values;
 use std::alloc::{AllocError, Global};
 use versioned_cells::Histories;
 
@@ -47,29 +46,8 @@ fn note_row(
     if i >= tables.len() {
         return Ok(());
     }
-    let row = part.row(key.0, &key.1);
-    if is_same(row_at(tables.as_slice(), since, key.0, &key.1), row) {
-        return Ok(());
-    }
-    note_in(alloc, tables, i, &key.1, since, copied(row)?)
-}
-
-/// Whether both are the same row, or no row.
-fn is_same(a: Option<&Values>, b: Option<&Values>) -> bool
-    ensures { IsTrue result ↔ (option_copied a.entry ≡ option_copied b.entry) }
-{
-    match (a, b) {
-        (Some(a), Some(b)) => are_equal(a.as_slice(), b.as_slice()),
-        (None, None) => true,
-        (Some(_), None) => false,
-        (None, Some(_)) => false,
-    }
-}
-
-fn are_equal(a: &[Value], b: &[Value]) -> bool
-    ensures { IsTrue result ↔ (a.now ≡ b.now) }
-{
-    a == b
+    let row = copied(part.row(key.0, &key.1))?;
+    change_in(alloc, tables, i, &key.1, since, row)
 }
 
 fn copied(row: Option<&Values>) -> Result<Option<Values>, AllocError>
@@ -81,7 +59,7 @@ fn copied(row: Option<&Values>) -> Result<Option<Values>, AllocError>
     }
 }
 
-fn note_in(
+fn change_in(
     alloc: Global,
     tables: &mut Vec<Histories<Values>>,
     i: usize,
@@ -91,8 +69,8 @@ fn note_in(
 ) -> Result<(), AllocError>
     requires within { i < length tables.old.items }
     requires from { AreFrom since tables.old.items }
-    ensures { OnOk result (NotesIn i key.now since row tables.old.items tables.new.items) }
+    ensures { OnOk result (ChangesIn i key.now since row tables.old.items tables.new.items) }
 {
-    tables[i].note(alloc, key, since, row)?;
+    tables[i].change(alloc, key, since, row)?;
     Ok(())
 }

@@ -54,6 +54,20 @@ impl<T> Histories<T> {
 }
 
 impl<T: Drop> Histories<T> {
+    /// Begins the history of a key that has none: from this position on this stands there.
+    pub fn begin(
+        &mut self,
+        alloc: Global,
+        key: Text,
+        since: u32,
+        value: Option<T>,
+    ) -> Result<(), AllocError>
+        requires { history_at key self.old ≡ [] }
+        ensures { OnOk result (Notes since key value self.old self.new) }
+    {
+        add(&mut self.by_key, alloc, key, since, value)
+    }
+
     /// From this position on this stands under a key.
     pub fn note(
         &mut self,
@@ -98,7 +112,7 @@ fn change_in<T: Drop + PartialEq>(
     match by_key.get_mut(key) {
         Some(history) => history.change(since, value),
         None => match value {
-            Some(value) => add(by_key, alloc, key, since, Some(value)),
+            Some(value) => add(by_key, alloc, key.clone()?, since, Some(value)),
             None => Ok(()),
         },
     }
@@ -116,7 +130,7 @@ fn note_in<T: Drop>(
 {
     match by_key.get_mut(key) {
         Some(history) => history.note(since, value),
-        None => add(by_key, alloc, key, since, value),
+        None => add(by_key, alloc, key.clone()?, since, value),
     }
 }
 
@@ -124,15 +138,14 @@ fn note_in<T: Drop>(
 fn add<T: Drop>(
     by_key: &mut BTreeMap<Text, History<T>>,
     alloc: Global,
-    key: &Text,
+    key: Text,
     since: u32,
     value: Option<T>,
 ) -> Result<(), AllocError>
-    requires { history_at key.now by_key.old.entries ≡ [] }
-    ensures { OnOk result (Notes since key.now value by_key.old.entries by_key.new.entries) }
+    requires { history_at key by_key.old.entries ≡ [] }
+    ensures { OnOk result (Notes since key value by_key.old.entries by_key.new.entries) }
 {
-    let mut history = History::new(alloc);
-    history.note(since, value)?;
-    by_key.insert(key.clone()?, history)?;
+    let history = History::begun(alloc, since, value)?;
+    by_key.insert(key, history)?;
     Ok(())
 }

@@ -1,9 +1,12 @@
-ghost use Rattle.std.specs.Prelude.{◌≡◌, ◌≤◌, ◌++◌, ◌∷◌, [], None, OnOk, OnErr};
+ghost use Rattle.std.specs.Prelude.{◌≡◌, ◌≤◌, ◌++◌, ◌∷◌, [], None, IfOk, OnOk, OnErr};
 ghost use Rattle.std.specs.Option.{option_copied};
 ghost use Rattle.versioned_cells.specs.Versions.{as_of, AreUntil, IsRising, changed};
 
 use std::alloc::{AllocError, Global};
 use std::marker::Model;
+
+/// For how many versions there is room at first.
+const FIRST_ROOM: usize = 2;
 
 /// What a cell held over time: its versions, each with the position from which it stands, and
 /// nothing where the cell holds nothing from there on.
@@ -45,6 +48,15 @@ impl<T> History<T> {
 }
 
 impl<T: Drop> History<T> {
+    /// A cell that holds this from a position on.
+    pub fn begun(alloc: Global, since: u32, value: Option<T>) -> Result<History<T>, AllocError>
+        ensures { IfOk result (λ history. history ≡ (since, value) ∷ []) }
+    {
+        let mut versions = Vec::with_capacity(alloc, FIRST_ROOM)?;
+        versions.push((since, value))?;
+        Ok(History { versions })
+    }
+
     /// From this position on the cell holds this.
     pub fn note(&mut self, since: u32, value: Option<T>) -> Result<(), AllocError>
         requires { AreUntil since self.old }

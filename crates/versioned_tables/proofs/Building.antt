@@ -7,6 +7,7 @@ use Rattle.std.specs.Str.{bytes_eq}
 use Rattle.std.proofs.lemmas.Bool.{leb-true, leb-false, le-leb}
 use Rattle.std.proofs.lemmas.List.{take_all, take_more, take-append-le, length-take-le}
 use Rattle.std.proofs.lemmas.Map.Text.{is_eq-slice_cmp}
+use Rattle.std.proofs.lemmas.Slice.Eq.{bytes_eq-Decides}
 use Rattle.basis.specs.Lists.{or_else, nth}
 use Rattle.script_tree.specs.Datum.{Datum, text}
 use Rattle.script_tree.specs.Fit.{AreTables, IsTable}
@@ -225,6 +226,11 @@ row_changes x copy k0 rest old new is fresh notes c k = subst (AreChanges None) 
       let none : history_at k old ≡ [] = fresh k (rw here refl) in
       subst (λ vs. AreChanges None (vs ++ (0, Some copy) ∷ [])) (sym none) (λ f. none_is_not (sym f), tt)
   at false e = c k
+
+pub fresh_key : (x : Row) (k0 : List ℕ) (rest : Table) (es : VersionsByKey Row) → key x ≡ text k0 → IsFresh (x ∷ rest) es → history_at k0 es ≡ []
+fresh_key x k0 rest es is fresh =
+    let here : is_key k0 x ≡ true = is_key_of k0 k0 x is ∙ (bytes_eq-Decides k0 k0).1 refl in
+    fresh k0 (rw here refl)
 
 pub fresh_none : (all : Table) (es : VersionsByKey Row) → es ≡ [] → IsFresh all es
 fresh_none all es none k h = ap (history_at k) none

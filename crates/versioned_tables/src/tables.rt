@@ -124,8 +124,7 @@ fn histories_of(alloc: Global, rows: Rows<'_>) -> Result<Histories<Values>, Allo
 {
     let mut histories = Histories::new(alloc);
     for row in rows {
-        let key = key_of(row)?;
-        histories.note(alloc, &key, 0, Some(row.clone()?))?;
+        histories.begin(alloc, key_of(row)?, 0, Some(row.clone()?))?;
     }
     Ok(histories)
 }

@@ -1,6 +1,6 @@
-ghost use Rattle.std.specs.Prelude.{◌≡◌, ◌≤◌, [], None, OnOk, OnErr};
+ghost use Rattle.std.specs.Prelude.{◌≡◌, [], None, OnOk};
 ghost use Rattle.std.specs.Option.{option_copied};
-ghost use Rattle.versioned_cells.specs.Versions.{as_of, history_at, held_at, AreAllUntil, Notes, Changes};
+ghost use Rattle.versioned_cells.specs.Versions.{history_at, held_at, AreAllUntil, Notes, Changes};
 
 use crate::history::History;
 use script_tree::text::Text;

@@ -1,4 +1,4 @@
-ghost use Rattle.std.specs.Prelude.{◌≡◌, ◌<◌, ◌^◌, IfOk, OnOk, length, None};
+ghost use Rattle.std.specs.Prelude.{◌≡◌, IfOk, OnOk, None};
 ghost use Rattle.script_tree.specs.Objects.{acted, one};
 ghost use Rattle.script_tree.specs.declared.operation.Choice.{Choice as AnyChoice};
 ghost use Rattle.object_cells.specs.Cells.{held};

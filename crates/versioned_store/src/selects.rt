@@ -3,7 +3,7 @@ ghost use Rattle.std.specs.Option.{is_some, option_copied};
 ghost use Rattle.basis.specs.Lists.{nth};
 ghost use Rattle.script_fit.specs.FitsOperation.{FitsTables};
 ghost use Rattle.object_tables.specs.TableSets.{TableSet};
-ghost use Rattle.versioned_tables.specs.OverTime.{FitEntries, IsAnswerThen, TellsTables};
+ghost use Rattle.versioned_tables.specs.OverTime.{FitEntries, IsAnswerThen};
 ghost use Rattle.versioned_tables.specs.Standing.{Stands};
 ghost use Rattle.versioned_store.specs.Tables.{AreKept, TellsSelects, IsToldSelects, IsTablesAnswer, is_own};
 

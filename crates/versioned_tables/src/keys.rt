@@ -1,4 +1,4 @@
-ghost use Rattle.std.specs.Prelude.{◌≡◌, ◌<◌, ◌+◌, length, take, OnOk, IfOk, IfSome, IsTrue, slice_index_or, []};
+ghost use Rattle.std.specs.Prelude.{◌≡◌, ◌<◌, ◌+◌, length, take, OnOk, IfOk, IfSome, IsTrue, []};
 ghost use Rattle.std.specs.Option.{option_map};
 ghost use Rattle.script_tree.specs.Datum.{text};
 ghost use Rattle.script_tree.specs.Transactions.{key};
@@ -64,6 +64,7 @@ fn look_alike(a: &Statement, b: &Statement) -> bool
     }
 }
 
+/// Whether the tests are the same.
 fn are_same(some: &[Test], others: &[Test]) -> bool
     ensures { IsTrue result → some.now ≡ others.now }
 {
@@ -83,6 +84,7 @@ fn range_of(statement: &Statement) -> Option<(u32, &[Test])>
     }
 }
 
+/// Adds the keys of the rows that a statement may look at.
 fn add_keys(
     keys: &mut Vec<Key>,
     tables: &[Histories<Values>],
@@ -109,6 +111,7 @@ fn add_keys(
     }
 }
 
+/// Adds the key of a row.
 fn add_key(keys: &mut Vec<Key>, table: u32, row: &Values) -> Result<(), AllocError>
     requires { IsText (key row.now) }
     ensures reaches { OnOk result (Reaches [] keys.new.items (Insert table row.now)) }

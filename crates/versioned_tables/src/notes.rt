@@ -1,7 +1,5 @@
-ghost use Rattle.std.specs.Prelude.{◌≡◌, ◌↔◌, ◌<◌, length, OnOk, IfOk, IsTrue, slice_index_or, [], ◌∷◌};
+ghost use Rattle.std.specs.Prelude.{◌≡◌, ◌<◌, length, OnOk, IfOk, [], ◌∷◌};
 ghost use Rattle.std.specs.Option.{option_copied};
-ghost use Rattle.script_tree.specs.Transactions.{table_at};
-ghost use Rattle.versioned_cells.specs.Versions.{AreAllUntil, Notes};
 ghost use Rattle.versioned_tables.specs.Standing.{AreFrom, NotesRows, ChangesIn};
 
 use crate::keys::Key;
@@ -24,12 +22,13 @@ pub fn note_rows(
     ensures { OnOk result
         (NotesRows since keys.now part.now.tables tables.old.items tables.new.items) }
 {
-    for (i, key) in keys.iter().enumerate() {
+    for key in keys {
         note_row(alloc, tables, since, key, part)?;
     }
     Ok(())
 }
 
+/// The same of one key.
 fn note_row(
     alloc: Global,
     tables: &mut Vec<Histories<Values>>,
@@ -50,6 +49,7 @@ fn note_row(
     change_in(alloc, tables, i, &key.1, since, row)
 }
 
+/// A copy of a row, where there is one.
 fn copied(row: Option<&Values>) -> Result<Option<Values>, AllocError>
     ensures { IfOk result (λ copy. copy ≡ option_copied row.entry) }
 {
@@ -59,6 +59,7 @@ fn copied(row: Option<&Values>) -> Result<Option<Values>, AllocError>
     }
 }
 
+/// From a position on this row of one table stands there, where it didn't before.
 fn change_in(
     alloc: Global,
     tables: &mut Vec<Histories<Values>>,

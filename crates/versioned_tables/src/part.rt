@@ -1,4 +1,4 @@
-ghost use Rattle.std.specs.Prelude.{◌≡◌, ◌<◌, length, OnOk, IfOk, Some, slice_index_or, []};
+ghost use Rattle.std.specs.Prelude.{◌≡◌, OnOk, IfOk, Some};
 ghost use Rattle.std.specs.Option.{option_copied};
 ghost use Rattle.script_tree.specs.Transactions.{Row as AnyRow};
 ghost use Rattle.script_fit.specs.FitsTransaction.{FitsRow};
@@ -40,12 +40,13 @@ pub fn part_at(
     ensures { IfOk result (IsPartAt position tables.now keys.now widths.now) }
 {
     let mut part = Tables::without_rows(alloc, Vec::from_slice(alloc, widths)?)?;
-    for (i, key) in keys.iter().enumerate() {
+    for key in keys {
         add_row(&mut part, tables, position, key)?;
     }
     Ok(part)
 }
 
+/// Adds the row of a key, where one stands.
 fn add_row(
     part: &mut Tables,
     tables: &[Histories<Values>],

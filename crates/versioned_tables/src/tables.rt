@@ -1,4 +1,4 @@
-ghost use Rattle.std.specs.Prelude.{◌≡◌, ℕ, ◌<◌, ◌+◌, ◌^◌, length, OnOk, IfOk};
+ghost use Rattle.std.specs.Prelude.{◌≡◌, ℕ, length, OnOk, IfOk};
 ghost use Rattle.script_tree.specs.Fit.{IsTable};
 ghost use Rattle.script_fit.specs.FitsOperation.{FitsTables};
 ghost use Rattle.versioned_tables.specs.Standing.{Stands, AreFrom, AllChange};

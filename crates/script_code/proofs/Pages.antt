@@ -1,6 +1,6 @@
 -- The code of a program means the program.
 use Rattle.std.proofs.Common.{◌≡◌, ◌<◌, ◌+◌, ℕ, suc, Bool, true, false, cond, List, [], ◌∷◌, ◌++◌, length, Option, Some, None, refl, sym, ap, ◌∙◌, subst, arith, append_assoc, length-append}
-use Rattle.std.specs.Prelude.{slice_get}
+use Rattle.std.specs.Prelude.{slice_get, option_map}
 use Rattle.std.specs.Str.{bytes_eq}
 use Rattle.std.proofs.Math.Seq.{get_or-append_seam}
 use Rattle.std.proofs.lemmas.Option.{slice_get-get_or}
@@ -115,6 +115,15 @@ module _ (program : Program) (functions : List ℕ) (code : Instructions) where
       by true more = (refl, stands_here earlier place (Page at_ name body) ds h)
       by false more = more
 
+  same_number : (o : Option NumberedPage) (e : Option Entry) → IsEntryOf o e → option_map (λ entry. entry.number) e ≡ option_map (λ page. page.number) o
+  same_number None None h = refl
+  same_number None (Some entry) h = absurd h
+  same_number (Some page) None h = absurd h
+  same_number (Some page) (Some entry) h = ap Some h.0
+
+  numbered : code ≡ declarations_code program program.declarations → (path : List ℕ) → option_map (λ entry. entry.number) (entry_from program 0 0 path program.declarations) ≡ option_map (λ page. page.number) (page_in program path)
+  numbered is_code path = same_number _ _ (page_at path 0 program.declarations [] 0 (record { all = is_code; behind = refl }))
+
   module _ (valid : IsValid program.declarations) (is_code : code ≡ declarations_code program program.declarations) (are_places : functions ≡ places_from program 0 program.declarations) (request : Request) (answers : List Datum) where
     abbrev setting : Setting
     setting = record { program = program; request = request }
@@ -205,4 +214,5 @@ module _ (program : Program) (functions : List ℕ) (code : Instructions) where
     charges = λ request answers.
         let done = charged_so valid is_code are_places request answers in
         (done.0, λ k. ap (λ e. code_costs functions code e request answers (done.0 + k)) (are_pages request.path) ∙ done.1 k);
+    numbers = λ path. ap (option_map (λ entry. entry.number)) (are_pages path) ∙ numbered is_code path;
   }

@@ -1,6 +1,7 @@
 -- That code means its program.
-use Rattle.std.specs.Prelude.{◌≡◌, ℕ, ◌+◌, List, [], Option, Some, None}
+use Rattle.std.specs.Prelude.{◌≡◌, ℕ, ◌+◌, List, [], Option, Some, None, option_map}
 use Rattle.script_tree.specs.Datum.{Datum}
+use Rattle.script_tree.specs.Declarations.{page_in}
 use Rattle.script_tree.specs.Programs.{Program}
 use Rattle.script_tree.specs.Requests.{Request}
 use Rattle.script_meaning.specs.Conduct.{Conduct, conduct, ended, start, no_page}
@@ -26,3 +27,5 @@ pub record Means (program : Program) (functions : List ℕ) (code : Instructions
   -- and spends its steps on the same
   pub charges : (request : Request) (answers : List Datum)
       → (enough : ℕ) × ((k : ℕ) → code_costs functions code (pages request.path) request answers (enough + k) ≡ costs_of program request answers)
+  -- and numbers its pages so
+  pub numbers : (path : List ℕ) → option_map (λ entry. entry.number) (pages path) ≡ option_map (λ page. page.number) (page_in program path)

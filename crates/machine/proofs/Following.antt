@@ -1,5 +1,5 @@
 -- From the run of code to the conduct of a request.
-use Rattle.std.proofs.Common.{◌≡◌, ◌+◌, ℕ, true, false, List, [], ◌∷◌, ◌++◌, length, Some, None, Ok, Err, refl, sym, ap, subst, ◌∙◌, append-nil, append_assoc, arith}
+use Rattle.std.proofs.Common.{◌≡◌, ◌+◌, ℕ, true, false, List, [], ◌∷◌, ◌++◌, Some, None, Ok, Err, refl, sym, ap, subst, ◌∙◌, append-nil, append_assoc, arith}
 use Rattle.script_tree.specs.Datum.{Datum, is_within_limits}
 use Rattle.script_tree.specs.Programs.{Program}
 use Rattle.script_tree.specs.Requests.{Request}
@@ -21,18 +21,20 @@ use Rattle.script_code.specs.Means.{code_conduct}
 use Rattle.script_code.specs.Translated.{IsCodeOf, pages_of}
 use Rattle.script_code.specs.declared.translate.Code.{Code}
 use Rattle.machine.specs.Does.{onward, Stands}
-use Rattle.machine.specs.Follows.{Reaches, begun, Leads, going, wanting, refused, OnPage, StandsIn, IsFresh, Follows, WaitsAfter}
+use Rattle.machine.specs.Follows.{Reaches, begun, Leads, going, wanting, refused, HasTrail, OnPage, StandsIn, IsFresh, IsStopped, stopped_in, Follows, WaitsAfter}
 use Rattle.machine.specs.Told.{ending_of}
+use Rattle.machine.specs.Trail.{bare_trail}
 use Rattle.machine.specs.declared.ending.MachineStep.{MachineStep}
 use Rattle.machine.specs.declared.ending.MachineStep.TheVariants as code
 use Rattle.machine.specs.Gives.{progress_of, marks_of, IsNoted}
 use Rattle.machine.specs.declared.account.Account.{Account}
 use Rattle.machine.specs.declared.machine.Machine.{Machine}
-use Rattle.machine.specs.declared.machine.Phase.TheVariants.{Running, Waiting, Refused, NoPage, Over}
+use Rattle.machine.specs.declared.machine.Phase.{Phase}
+use Rattle.machine.specs.declared.machine.Phase.TheVariants.{Running, Waiting, Refused, NoPage, Over, Exhausted}
 use Rattle.machine.specs.declared.run.Run.{Run}
 use Rattle.machine.specs.declared.stopped.Stopped.TheVariants.{Wants, Fault}
 use Rattle.machine.proofs.Runs.{reaches_on}
-use Rattle.machine.proofs.Trails.{one_issued, marks_counted}
+use Rattle.machine.proofs.Trails.{one_issued, bare_marks}
 
 -- ---- how the conduct ends
 
@@ -47,12 +49,15 @@ module _ (program : Program) (q : Request) (answers : List Datum) (code : Code) 
       ∙ ap (λ p. code_conduct code.functions.items code.instructions.items p q answers (d.0 + r.0)) (sym found)
       ∙ d.1 r.0
 
-  pub ends_so : (o : Outcome Flow) → Reaches (begun q code entry answers) (λ k. o) → (ended entry.number o).ending ≡ (conduct program q answers).ending
-  ends_so o r = ap (λ w. w.ending) (conducts_so o r)
-
   -- where no more answers come
   pub none_more : (there : (ops : List Op) (more : List Datum) → ℕ → Outcome Flow) (l : Leads q code entry answers there) (g : ℕ → Outcome Flow) → Reaches (there l.ops []) g → Reaches (begun q code entry answers) g
   none_more there l g s = subst (λ as'. Reaches (begun q code entry as') g) (append-nil answers) (reaches_on (begun q code entry (answers ++ [])) (there l.ops []) g (l.leads []) s)
+
+-- ---- marks
+
+-- of a conduct whose marks are those of an account
+left_by : {w : meant.Conduct} {ending : meant.Ending} (a : Account) (ops : List Op) → record { trail = marks_of a.trail.items ops; ending = ending } ≡ w → a.trail.items ≡ bare_trail w.trail
+left_by a ops h = sym (bare_marks a.trail.items ops) ∙ ap (λ w. bare_trail w.trail) h
 
 -- ---- answers
 
@@ -100,7 +105,7 @@ begins program q m entry of same page phase fresh found = record {
   code = of;
   request = same;
   stands =
-      subst (λ p. StandsIn q m.code.now [] m.page m.run p) (sym phase) (
+      subst (λ p. StandsIn program q m.code.now [] m.page m.run p) (sym phase) (
         entry,
         found,
         sym page,
@@ -116,34 +121,52 @@ begins program q m entry of same page phase fresh found = record {
       );
 }
 
+-- where no page has its path
+pub begins_nowhere : (program : Program) (q : Request) (m : Machine) (place : ℕ) → IsCodeOf program m.code.now → m.request ≡ q → m.phase ≡ NoPage → IsFresh place m.run → pages_of m.code.now q.path ≡ None → Follows program q [] m
+begins_nowhere program q m place of same phase fresh none =
+    let marks : HasTrail [] m.run = sym (bare_marks m.run.state.account.trail.items []) ∙ ap (λ p. bare_trail p.trail) (fresh.account []) in
+    record {
+      code = of;
+      request = same;
+      stands = subst (λ p. StandsIn program q m.code.now [] m.page m.run p) (sym phase) (none, refl, marks);
+    }
+
 -- ---- a run that goes on
 
 module _ (program : Program) (q : Request) (answers : List Datum) (m : Machine) (f : Follows program q answers m) (running : m.phase ≡ Running) where
   abbrev pub stands : OnPage q m.code.now answers m.page m.run Running
-  stands = subst (λ p. StandsIn q m.code.now answers m.page m.run p) running f.stands
+  stands = subst (λ p. StandsIn program q m.code.now answers m.page m.run p) running f.stands
 
   -- the operations so far
   abbrev pub ops_so_far : List Op
   ops_so_far = stands.3.ops
 
-  -- the conduct ends as the run of the code does
-  pub comes_to : (o : Outcome Flow) → Reaches (λ k. onward (exec m.request m.code.now.functions.items m.code.now.instructions.items k) m.run ops_so_far []) (λ k. o) → (ended m.page o).ending ≡ (conduct program q answers).ending
+  -- the conduct is what the run of the code comes to
+  pub comes_to : (o : Outcome Flow) → Reaches (λ k. onward (exec m.request m.code.now.functions.items m.code.now.instructions.items k) m.run ops_so_far []) (λ k. o) → ended m.page o ≡ conduct program q answers
   comes_to o r =
       let s = subst (λ a. Reaches (λ k. onward (exec a m.code.now.functions.items m.code.now.instructions.items k) m.run ops_so_far []) (λ k. o)) f.request r in
-      ap (λ n. (ended n o).ending) (sym stands.2)
-      ∙ ends_so program q answers m.code.now f.code stands.0 stands.1 o (none_more program q answers m.code.now f.code stands.0 stands.1 (going q m.code.now m.run) stands.3 (λ k. o) s)
+      ap (λ n. ended n o) (sym stands.2)
+      ∙ conducts_so program q answers m.code.now f.code stands.0 stands.1 o (none_more program q answers m.code.now f.code stands.0 stands.1 (going q m.code.now m.run) stands.3 (λ k. o) s)
 
   pub over_tells : (new : Run) → ((ops : List Op) (more : List Datum) → Stands m.request m.code.now.functions.items m.code.now.instructions.items ops more (Ok tt) new (λ k. onward (exec m.request m.code.now.functions.items m.code.now.instructions.items k) m.run ops more))
       → meant.Ends (response_of (progress_of new.state.account ops_so_far [])) (path_of m.page (progress_of new.state.account ops_so_far []) Normal) ≡ (conduct program q answers).ending
-  over_tells new runs = comes_to (goes (on []) (progress_of new.state.account ops_so_far [])) (runs ops_so_far [])
+  over_tells new runs = ap (λ w. w.ending) (comes_to (goes (on []) (progress_of new.state.account ops_so_far [])) (runs ops_so_far []))
+
+  pub over_leaves : (new : Run) → ((ops : List Op) (more : List Datum) → Stands m.request m.code.now.functions.items m.code.now.instructions.items ops more (Ok tt) new (λ k. onward (exec m.request m.code.now.functions.items m.code.now.instructions.items k) m.run ops more))
+      → HasTrail (conduct program q answers).trail new
+  over_leaves new runs = left_by new.state.account ops_so_far (comes_to (goes (on []) (progress_of new.state.account ops_so_far [])) (runs ops_so_far []))
 
   pub fault_tells : (new : Run) (j : ScriptFault) → ((ops : List Op) (more : List Datum) → Stands m.request m.code.now.functions.items m.code.now.instructions.items ops more (Err (Fault j)) new (λ k. onward (exec m.request m.code.now.functions.items m.code.now.instructions.items k) m.run ops more))
       → meant.Ends (fault_response j) (path_of m.page (progress_of new.state.account ops_so_far []) (FaultEnd j)) ≡ (conduct program q answers).ending
-  fault_tells new j runs = comes_to (stops (fault j) (progress_of new.state.account ops_so_far [])) (runs ops_so_far [])
+  fault_tells new j runs = ap (λ w. w.ending) (comes_to (stops (fault j) (progress_of new.state.account ops_so_far [])) (runs ops_so_far []))
+
+  pub fault_leaves : (new : Run) (j : ScriptFault) → ((ops : List Op) (more : List Datum) → Stands m.request m.code.now.functions.items m.code.now.instructions.items ops more (Err (Fault j)) new (λ k. onward (exec m.request m.code.now.functions.items m.code.now.instructions.items k) m.run ops more))
+      → HasTrail (conduct program q answers).trail new
+  fault_leaves new j runs = left_by new.state.account ops_so_far (comes_to (stops (fault j) (progress_of new.state.account ops_so_far [])) (runs ops_so_far []))
 
   pub wants_tells : (new : Run) (op : Op) → ((ops : List Op) (more : List Datum) → Stands m.request m.code.now.functions.items m.code.now.instructions.items ops more (Err (Wants op)) new (λ k. onward (exec m.request m.code.now.functions.items m.code.now.instructions.items k) m.run ops more))
       → meant.Wants op ≡ (conduct program q answers).ending
-  wants_tells new op runs = comes_to (stops (wants op) (progress_of new.state.account ops_so_far [])) (runs ops_so_far [])
+  wants_tells new op runs = ap (λ w. w.ending) (comes_to (stops (wants op) (progress_of new.state.account ops_so_far [])) (runs ops_so_far []))
 
   pub wants_follows : (new : Run) (op : Op) → ((ops : List Op) (more : List Datum) → Stands m.request m.code.now.functions.items m.code.now.instructions.items ops more (Err (Wants op)) new (λ k. onward (exec m.request m.code.now.functions.items m.code.now.instructions.items k) m.run ops more))
       → OnPage q m.code.now answers m.page new Waiting
@@ -165,34 +188,64 @@ module _ (program : Program) (q : Request) (answers : List Datum) (m : Machine) 
 -- ---- a run that waits
 
 -- its marks are those of the conduct
-pub waits_after : (program : Program) (q : Request) (answers : List Datum) (m : Machine) → Follows program q answers m → m.phase ≡ Waiting
-    → length m.run.state.account.trail.items ≡ length (conduct program q answers).trail
-waits_after program q answers m f waiting =
-    let s : OnPage q m.code.now answers m.page m.run Waiting = subst (λ p. StandsIn q m.code.now answers m.page m.run p) waiting f.stands in
+pub waiting_leaves : (program : Program) (q : Request) (answers : List Datum) (m : Machine) → Follows program q answers m → OnPage q m.code.now answers m.page m.run Waiting → HasTrail (conduct program q answers).trail m.run
+waiting_leaves program q answers m f s =
     let l = s.3.1 in
-    let a = m.run.state.account in
-    let o : Outcome Flow = stops (wants s.3.0) (progress_of a l.ops []) in
-    sym (marks_counted a.trail.items l.ops)
-    ∙ ap (λ w. length w.trail) (conducts_so program q answers m.code.now f.code s.0 s.1 o (none_more program q answers m.code.now f.code s.0 s.1 (wanting q m.code.now m.run s.3.0) l (λ k. o) (0, λ k. refl)))
+    let o : Outcome Flow = stops (wants s.3.0) (progress_of m.run.state.account l.ops []) in
+    left_by m.run.state.account l.ops
+    (conducts_so program q answers m.code.now f.code s.0 s.1 o (none_more program q answers m.code.now f.code s.0 s.1 (wanting q m.code.now m.run s.3.0) l (λ k. o) (0, λ k. refl)))
 
 -- ---- a run that ends at an answer or without a page
 
-pub refused_tells : (program : Program) (q : Request) (answers : List Datum) (m : Machine) (f : Follows program q answers m) (refusing : m.phase ≡ Refused) → (ops : List Op) × (meant.Ends (fault_response TooLarge) (path_of m.page (progress_of m.run.state.account ops []) AnswerFault) ≡ (conduct program q answers).ending)
-refused_tells program q answers m f refusing =
-    let s : OnPage q m.code.now answers m.page m.run Refused = subst (λ p. StandsIn q m.code.now answers m.page m.run p) refusing f.stands in
-    let o : Outcome Flow = stops answer_fault (progress_of m.run.state.account s.3.ops []) in (
-      s.3.ops,
-      ap (λ n. (ended n o).ending) (sym s.2)
-          ∙ ends_so program q answers m.code.now f.code s.0 s.1 o (none_more program q answers m.code.now f.code s.0 s.1 (refused m.run) s.3 (λ k. o) (0, λ k. refl)),
-    )
+module _ (program : Program) (q : Request) (answers : List Datum) (m : Machine) (f : Follows program q answers m) (refusing : m.phase ≡ Refused) where
+  abbrev refused_at : OnPage q m.code.now answers m.page m.run Refused
+  refused_at = subst (λ p. StandsIn program q m.code.now answers m.page m.run p) refusing f.stands
 
-pub no_page_tells : (program : Program) (q : Request) (answers : List Datum) (m : Machine) (f : Follows program q answers m) (none : m.phase ≡ NoPage) → (no_page []).ending ≡ (conduct program q answers).ending
-no_page_tells program q answers m f none =
-    let s = subst (λ p. StandsIn q m.code.now answers m.page m.run p) none f.stands in
-    let d = f.code.conducts q answers in
-    ap (λ as'. (no_page as').ending) (sym s.1)
-    ∙ ap (λ p. (code_conduct m.code.now.functions.items m.code.now.instructions.items p q answers (d.0 + 0)).ending) (sym s.0)
-    ∙ ap (λ w. w.ending) (d.1 0)
+  abbrev refused_with : Outcome Flow
+  refused_with = stops answer_fault (progress_of m.run.state.account refused_at.3.ops [])
+
+  refused_so : ended m.page refused_with ≡ conduct program q answers
+  refused_so =
+      ap (λ n. ended n refused_with) (sym refused_at.2)
+      ∙ conducts_so program q answers m.code.now f.code refused_at.0 refused_at.1 refused_with (none_more program q answers m.code.now f.code refused_at.0 refused_at.1 (refused m.run) refused_at.3 (λ k. refused_with) (0, λ k. refl))
+
+  pub refused_tells : (ops : List Op) × (meant.Ends (fault_response TooLarge) (path_of m.page (progress_of m.run.state.account ops []) AnswerFault) ≡ (conduct program q answers).ending)
+  refused_tells = (refused_at.3.ops, ap (λ w. w.ending) refused_so)
+
+  pub refused_leaves : HasTrail (conduct program q answers).trail m.run
+  refused_leaves = left_by m.run.state.account refused_at.3.ops refused_so
+
+module _ (program : Program) (q : Request) (answers : List Datum) (m : Machine) (f : Follows program q answers m) (none : m.phase ≡ NoPage) where
+  abbrev without_page : (pages_of m.code.now q.path ≡ None) × (answers ≡ []) × HasTrail [] m.run
+  without_page = subst (λ p. StandsIn program q m.code.now answers m.page m.run p) none f.stands
+
+  no_page_so : no_page [] ≡ conduct program q answers
+  no_page_so =
+      let d = f.code.conducts q answers in
+      ap no_page (sym without_page.1)
+      ∙ ap (λ p. code_conduct m.code.now.functions.items m.code.now.instructions.items p q answers (d.0 + 0)) (sym without_page.0)
+      ∙ d.1 0
+
+  pub no_page_tells : (no_page []).ending ≡ (conduct program q answers).ending
+  no_page_tells = ap (λ w. w.ending) no_page_so
+
+  pub no_page_leaves : HasTrail (conduct program q answers).trail m.run
+  no_page_leaves = without_page.2 ∙ ap (λ w. bare_trail w.trail) no_page_so
+
+-- ---- a run that stopped
+
+trail_in : (program : Program) (q : Request) (answers : List Datum) (m : Machine) → Follows program q answers m → (phase : Phase) → StandsIn program q m.code.now answers m.page m.run phase → stopped_in phase
+    → HasTrail (conduct program q answers).trail m.run
+trail_in program q answers m f Running s h = absurd h
+trail_in program q answers m f Waiting s h = waiting_leaves program q answers m f s
+trail_in program q answers m f Refused s h = absurd h
+trail_in program q answers m f NoPage s h = absurd h
+trail_in program q answers m f Over s h = s
+trail_in program q answers m f Exhausted s h = absurd h
+
+-- its marks are those of the conduct
+pub stopped_trail : (program : Program) (q : Request) (answers : List Datum) (m : Machine) → Follows program q answers m → IsStopped m → HasTrail (conduct program q answers).trail m.run
+stopped_trail program q answers m f h = trail_in program q answers m f m.phase f.stands h
 
 not_over : (op : Op) (r : Response) (p : Path) → meant.Wants op ≡ meant.Ends r p → ⊥
 not_over op r p h = grind arith

@@ -1,13 +1,14 @@
 -- The trail of a run, and the marks that it stands for.
-use Rattle.std.proofs.Common.{◌≡◌, suc, Bool, List, [], ◌∷◌, ◌++◌, length, refl, sym, ap, ◌∙◌}
+use Rattle.std.proofs.Common.{◌≡◌, Bool, List, [], ◌∷◌, ◌++◌, refl, sym, ap, ◌∙◌}
 use Rattle.std.specs.Prelude.{reverse}
-use Rattle.std.proofs.lemmas.List.{reverse-append, reverse-reverse, length-reverse}
+use Rattle.std.proofs.lemmas.List.{map-append, reverse-append, reverse-reverse}
 use Rattle.script_meaning.specs.Conduct.{decisions}
 use Rattle.script_meaning.specs.Operations.{Op}
 use Rattle.script_meaning.specs.declared.run.Mark.{Mark}
 use Rattle.script_meaning.specs.declared.run.Mark.TheVariants.{Decided as decided, Issued as issued}
 use Rattle.machine.specs.Decided.{decided_in}
 use Rattle.machine.specs.Gives.{marks_back, marks_of, untold}
+use Rattle.machine.specs.Trail.{bare, bare_trail}
 use Rattle.machine.specs.declared.account.BareMark.{BareMark}
 use Rattle.machine.specs.declared.account.BareMark.TheVariants as left
 
@@ -48,13 +49,17 @@ backwards (left.Issued ∷ ts) (op ∷ ops) = more_marks (issued op) (marks_back
 pub same_decisions : (ts : List BareMark) (ops : List Op) → decisions (marks_of ts ops) ≡ decided_in ts
 same_decisions ts ops = backwards (reverse ts) ops ∙ ap decided_in (reverse-reverse ts)
 
--- ---- how many there are
+-- ---- the marks without their operations
 
-counted_back : (ts : List BareMark) (ops : List Op) → length (marks_back ts ops) ≡ length ts
-counted_back [] ops = refl
-counted_back (left.Decided b ∷ ts) ops = ap suc (counted_back ts ops)
-counted_back (left.Issued ∷ ts) [] = ap suc (counted_back ts [])
-counted_back (left.Issued ∷ ts) (op ∷ ops) = ap suc (counted_back ts ops)
+bare_reversed : (ms : List Mark) → bare_trail (reverse ms) ≡ reverse (bare_trail ms)
+bare_reversed [] = refl
+bare_reversed (m ∷ ms) = ap bare_trail (last m ms) ∙ map-append bare (reverse ms) (m ∷ []) ∙ ap (λ ts. ts ++ bare m ∷ []) (bare_reversed ms) ∙ sym (last (bare m) (bare_trail ms))
 
-pub marks_counted : (ts : List BareMark) (ops : List Op) → length (marks_of ts ops) ≡ length ts
-marks_counted ts ops = length-reverse (marks_back (reverse ts) ops) ∙ counted_back (reverse ts) ops ∙ length-reverse ts
+bare_back : (ts : List BareMark) (ops : List Op) → bare_trail (marks_back ts ops) ≡ ts
+bare_back [] ops = refl
+bare_back (left.Decided b ∷ ts) ops = ap (λ l. left.Decided b ∷ l) (bare_back ts ops)
+bare_back (left.Issued ∷ ts) [] = ap (λ l. left.Issued ∷ l) (bare_back ts [])
+bare_back (left.Issued ∷ ts) (op ∷ ops) = ap (λ l. left.Issued ∷ l) (bare_back ts ops)
+
+pub bare_marks : (ts : List BareMark) (ops : List Op) → bare_trail (marks_of ts ops) ≡ ts
+bare_marks ts ops = bare_reversed (marks_back (reverse ts) ops) ∙ ap reverse (bare_back (reverse ts) ops) ∙ reverse-reverse ts

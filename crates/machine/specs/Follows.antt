@@ -3,10 +3,11 @@ use Rattle.std.specs.Prelude.{◌≡◌, ℕ, ◌+◌, List, [], ◌++◌, Some,
 use Rattle.script_tree.specs.Datum.{Datum}
 use Rattle.script_tree.specs.Programs.{Program}
 use Rattle.script_tree.specs.Requests.{Request}
-use Rattle.script_meaning.specs.Conduct.{start}
+use Rattle.script_meaning.specs.Conduct.{conduct, start}
 use Rattle.script_meaning.specs.Evaluate.{Flow}
 use Rattle.script_meaning.specs.Operations.{Op}
 use Rattle.script_meaning.specs.Run.{Outcome, stops}
+use Rattle.script_meaning.specs.declared.run.Mark.{Mark}
 use Rattle.script_meaning.specs.declared.run.Stop.TheVariants.{AnswerFault as answer_fault}
 use Rattle.script_code.specs.Code.{Entry}
 use Rattle.script_code.specs.CodeRun.{exec}
@@ -14,6 +15,7 @@ use Rattle.script_code.specs.Translated.{IsCodeOf, pages_of}
 use Rattle.script_code.specs.declared.translate.Code.{Code}
 use Rattle.machine.specs.Does.{onward, answered_on}
 use Rattle.machine.specs.Gives.{progress_of}
+use Rattle.machine.specs.Trail.{bare_trail}
 use Rattle.machine.specs.declared.ending.MachineStep.{MachineStep}
 use Rattle.machine.specs.declared.ending.MachineStep.TheVariants.{Wants, Ends}
 use Rattle.machine.specs.declared.machine.Machine.{Machine}
@@ -42,6 +44,18 @@ IsWaiting m = m.phase ≡ Waiting
 -- its run is over
 abbrev pub IsOver : Machine → Type 0
 IsOver m = m.phase ≡ Over
+
+abbrev pub stopped_in : Phase → Type 0
+stopped_in Running = ⊥
+stopped_in Waiting = Unit {0}
+stopped_in Refused = ⊥
+stopped_in NoPage = ⊥
+stopped_in Over = Unit {0}
+stopped_in Exhausted = ⊥
+
+-- it waits for an answer, or its run is over
+abbrev pub IsStopped : Machine → Type 0
+IsStopped m = stopped_in m.phase
 
 -- it ran out of memory
 abbrev pub IsExhausted : Machine → Type 0
@@ -92,13 +106,17 @@ IsThere q code entry answers r Exhausted = ⊥
 abbrev pub OnPage : Request → Code → List Datum → (page : ℕ) → Run → Phase → Type 0
 OnPage q code answers page r phase = (entry : Entry) × (pages_of code q.path ≡ Some entry) × (entry.number ≡ page) × IsThere q code entry answers r phase
 
-abbrev pub StandsIn : Request → Code → List Datum → (page : ℕ) → Run → Phase → Type 0
-StandsIn q code answers page r Running = OnPage q code answers page r Running
-StandsIn q code answers page r Waiting = OnPage q code answers page r Waiting
-StandsIn q code answers page r Refused = OnPage q code answers page r Refused
-StandsIn q code answers page r NoPage = (pages_of code q.path ≡ None) × (answers ≡ [])
-StandsIn q code answers page r Over = Unit {0}
-StandsIn q code answers page r Exhausted = ⊥
+-- It left these marks.
+abbrev pub HasTrail : List Mark → Run → Type 0
+HasTrail marks r = r.state.account.trail.items ≡ bare_trail marks
+
+abbrev pub StandsIn : Program → Request → Code → List Datum → (page : ℕ) → Run → Phase → Type 0
+StandsIn program q code answers page r Running = OnPage q code answers page r Running
+StandsIn program q code answers page r Waiting = OnPage q code answers page r Waiting
+StandsIn program q code answers page r Refused = OnPage q code answers page r Refused
+StandsIn program q code answers page r NoPage = (pages_of code q.path ≡ None) × (answers ≡ []) × HasTrail [] r
+StandsIn program q code answers page r Over = HasTrail (conduct program q answers).trail r
+StandsIn program q code answers page r Exhausted = ⊥
 
 -- at a place of the code, with nothing done
 pub record IsFresh (place : ℕ) (r : Run) : Type 0 where
@@ -112,4 +130,4 @@ pub record IsFresh (place : ℕ) (r : Run) : Type 0 where
 pub record Follows (program : Program) (q : Request) (answers : List Datum) (m : Machine) : Type 0 where
   pub code : IsCodeOf program m.code.now
   pub request : m.request ≡ q
-  pub stands : StandsIn q m.code.now answers m.page m.run m.phase
+  pub stands : StandsIn program q m.code.now answers m.page m.run m.phase

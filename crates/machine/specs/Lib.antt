@@ -9,3 +9,4 @@ pub mod OperandView
 pub mod Places
 pub mod Statuses
 pub mod Told
+pub mod Trail

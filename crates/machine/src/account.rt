@@ -3,9 +3,9 @@ ghost use Rattle.script_tree.specs.declared.limits.TheConstants.{MOST_STEPS, MOS
 
 use script_tree::limits::{MOST_OPERATIONS, MOST_STEPS};
 
-/// A mark of a run's trail; of an operation only that there was one.
-#[derive(Clone, Copy)]
-pub(crate) enum BareMark {
+/// A mark of a run's trail: a decision, or that an operation was answered, whichever it was.
+#[derive(Clone, Copy, PartialEq, Eq)]
+pub enum BareMark {
     Decided(bool),
     Issued,
 }

@@ -23,13 +23,18 @@ pub enum MachineStep {
 }
 
 /// The end of a run on this page that met no fault.
-pub(crate) fn ended(alloc: Global, page: u32, account: Account) -> Result<MachineStep, AllocError>
-    ensures { (ops : List Operation) (more : List Datum) → IfOk result (λ step. ending_of step
-        ≡ Ends (response_of (progress_of account ops more))
-        (path_of page (progress_of account ops more) End.Normal)) }
+pub(crate) fn ended(
+    alloc: Global,
+    page: u32,
+    account: &mut Account,
+) -> Result<MachineStep, AllocError>
+    ensures ends { (ops : List Operation) (more : List Datum) → IfOk result (λ step. ending_of step
+        ≡ Ends (response_of (progress_of account.old ops more))
+        (path_of page (progress_of account.old ops more) End.Normal)) }
+    ensures trail { account.new.trail ≡ account.old.trail }
 {
     let path = account.path(alloc, page, End::Normal)?;
-    Ok(MachineStep::Ends(account.into_response(), path))
+    Ok(MachineStep::Ends(account.take_response(alloc), path))
 }
 
 /// The end of a run on this page at a fault, which is told so.

@@ -14,5 +14,6 @@ mod stack;
 mod state;
 mod stopped;
 
+pub use account::BareMark;
 pub use ending::MachineStep;
 pub use machine::Machine;

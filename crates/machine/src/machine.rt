@@ -1,14 +1,16 @@
-ghost use Rattle.std.specs.Prelude.{◌≡◌, ◌++◌, ◌∷◌, [], length, List, IfOk, IsErr, OnOk, OnErr};
+ghost use Rattle.std.specs.Prelude.{◌≡◌, ◌++◌, ◌∷◌, [], List, IfOk, IsErr, OnOk, OnErr};
 ghost use Rattle.script_tree.specs.Datum.{Datum};
 ghost use Rattle.script_tree.specs.Programs.{Program as Meant};
 ghost use Rattle.script_tree.specs.Requests.{Request as Asked};
 ghost use Rattle.script_meaning.specs.Conduct.{conduct};
 ghost use Rattle.script_code.specs.Translated.{IsCodeOf};
-ghost use Rattle.machine.specs.Follows.{Follows, IsExhausted, IsFresh, IsReady, IsWaiting, WaitsAfter};
+ghost use Rattle.machine.specs.Follows.{Follows, WaitsAfter};
+ghost use Rattle.machine.specs.Follows.{IsExhausted, IsFresh, IsReady, IsStopped, IsWaiting};
 ghost use Rattle.machine.specs.Told.{ending_of};
+ghost use Rattle.machine.specs.Trail.{bare_trail};
 ghost use Rattle.machine.specs.declared.machine.Phase.TheVariants.{Running};
 
-use crate::account::Account;
+use crate::account::{Account, BareMark};
 use crate::ending::{MachineStep, ended, faulted, no_page};
 use crate::frames::Frames;
 use crate::operand::Operand;
@@ -22,7 +24,6 @@ use script_tree::path::End;
 use script_tree::request::Request;
 use script_tree::value::Value;
 use std::alloc::{AllocError, Global};
-use std::mem;
 
 /// What is next of a run.
 #[derive(Clone, Copy)]
@@ -81,6 +82,7 @@ impl<'c> Machine<'c> {
             → Follows program q answers self.old
             → OnOk result (Follows program q answers self.new) }
         ensures waits { IfOk result (λ step. WaitsAfter step self.new) }
+        ensures stopped { OnOk result (IsStopped self.new) }
         ensures err { OnErr result (IsExhausted self.new) }
         ensures again { IsExhausted self.old → IsErr result }
     {
@@ -142,8 +144,7 @@ impl<'c> Machine<'c> {
         match self.run.run(self.code, &self.request) {
             Ok(()) => {
                 self.phase = Phase::Over;
-                let account = mem::replace(&mut self.run.state.account, Account::new(alloc));
-                ended(alloc, self.page, account)
+                ended(alloc, self.page, &mut self.run.state.account)
             }
             Err(Stopped::Memory) => Err(AllocError),
             Err(Stopped::Wants(wanted)) => {
@@ -158,15 +159,15 @@ impl<'c> Machine<'c> {
         }
     }
 
-    /// How many marks the run left before the operation that it wants: its decisions, and the operations
-    /// that were answered.
-    pub fn marks(&self) -> usize
-        requires { IsWaiting self.now }
+    /// The marks that the run left so far: its decisions, and the operations that were answered, in
+    /// their order.
+    pub fn trail(&self) -> &[BareMark]
+        requires { IsStopped self.now }
         ensures { (program : Meant) (q : Asked) (answers : List Datum)
             → Follows program q answers self.now
-            → result ≡ length (conduct program q answers).trail }
+            → result.now ≡ bare_trail (conduct program q answers).trail }
     {
-        self.run.state.account.trail.len()
+        self.run.state.account.trail.as_slice()
     }
 
     /// Takes the answer to the operation that was wanted. One that is beyond the limits of a value

@@ -20,6 +20,7 @@ use script_tree::text::Text;
 use script_tree::value::Value;
 use script_values::{bool_in, printed, status_in};
 use std::alloc::{AllocError, Global};
+use std::mem;
 
 impl Account {
     pub(crate) fn new(alloc: Global) -> Account
@@ -148,14 +149,15 @@ impl Account {
         })
     }
 
-    /// The response of a run that met no fault.
-    pub(crate) fn into_response(self) -> Response
-        ensures { (ops : List Operation) (more : List Datum)
-            → result ≡ response_of (progress_of self ops more) }
+    /// Takes the response of a run that met no fault.
+    pub(crate) fn take_response(&mut self, alloc: Global) -> Response
+        ensures response { (ops : List Operation) (more : List Datum)
+            → result ≡ response_of (progress_of self.old ops more) }
+        ensures trail { self.new.trail ≡ self.old.trail }
     {
-        let Account { status, body, .. } = self;
+        let body = mem::replace(&mut self.body, Vec::new(alloc));
         Response {
-            status,
+            status: self.status,
             body: Text::from_vec(body),
         }
     }

@@ -6,7 +6,7 @@ use Rattle.machine.proofs.machine.Machine.answer.Goals as goal
 pub returns-in_ok-push-clause-follows : goal.returns-in_ok-push-clause-follows
 returns-in_ok-push-clause-follows c program q answers f =
     let m = c.args.self.now in
-    let s = subst (λ p. StandsIn q m.code.now answers m.page m.run p) c.requires f.stands in
+    let s = subst (λ p. StandsIn program q m.code.now answers m.page m.run p) c.requires f.stands in
     let new = record m.run { state = record m.run.state { stack = c.push.new.self; account = c.note_operation.new.self } } in
     let stack = c.in_ok-push.ensures ∙ ap (λ d. d ∷ m.run.state.stack) c.own.ensures in
     record {
@@ -18,7 +18,7 @@ returns-in_ok-push-clause-follows c program q answers f =
 pub returns-else-is_within_limits-clause-follows : goal.returns-else-is_within_limits-clause-follows
 returns-else-is_within_limits-clause-follows c program q answers f =
     let m = c.args.self.now in
-    let s = subst (λ p. StandsIn q m.code.now answers m.page m.run p) c.requires f.stands in
+    let s = subst (λ p. StandsIn program q m.code.now answers m.page m.run p) c.requires f.stands in
     let new = record m.run { state = record m.run.state { account = c.note_operation.new.self } } in
     record {
       code = f.code;

@@ -5,7 +5,7 @@ use Rattle.script_meaning.specs.Conduct.{Wants, Ends, conduct, fault_response, p
 use Rattle.machine.specs.Does.{Runs}
 use Rattle.machine.specs.Gives.{progress_of}
 use Rattle.machine.specs.Told.{ending_of}
-use Rattle.machine.proofs.Following.{ops_so_far, over_tells, fault_tells, wants_tells, wants_follows, waits_over}
+use Rattle.machine.proofs.Following.{ops_so_far, over_tells, over_leaves, fault_tells, fault_leaves, wants_tells, wants_follows, waits_over}
 use Rattle.machine.proofs.machine.Machine.go_on.Goals as goal
 
 pub returns-in-Ok-clause-tells : goal.returns-in-Ok-clause-tells
@@ -14,13 +14,16 @@ returns-in-Ok-clause-tells c program q answers f =
     let new = c.run.new.self in
     let ops = ops_so_far program q answers m f c.requires in
     let p = progress_of new.state.account ops [] in
-    let account = c.replace-account.ensures.value in
-    let ends = ap (λ a. Ends (response_of (progress_of a ops [])) (path_of m.page (progress_of a ops []) Normal)) account in
-    IfOk-weaker c.ended.result (λ step. ending_of step ≡ Ends (response_of (progress_of c.replace-account.result ops [])) (path_of m.page (progress_of c.replace-account.result ops []) Normal)) (λ step. ending_of step ≡ (conduct program q answers).ending)
-    (λ step e. e ∙ ends ∙ over_tells program q answers m f c.requires new c.in-Ok.ensures) (c.ended.ensures ops [])
+    IfOk-weaker c.ended.result (λ step. ending_of step ≡ Ends (response_of p) (path_of m.page p Normal)) (λ step. ending_of step ≡ (conduct program q answers).ending)
+    (λ step e. e ∙ over_tells program q answers m f c.requires new c.in-Ok.ensures) (c.ended.ensures.ends ops [])
+
+pub returns-in-Ok-clause-follows : goal.returns-in-Ok-clause-follows
+returns-in-Ok-clause-follows c program q answers f =
+    let trail = ap (λ ts. ts.items) c.ended.ensures.trail ∙ over_leaves program q answers c.args.self.now f c.requires c.run.new.self c.in-Ok.ensures in
+    IfOk-weaker c.ended.result _ _ (λ step e. record { code = f.code; request = f.request; stands = trail }) (c.ended.ensures.ends [] [])
 
 pub returns-in-Ok-clause-waits : goal.returns-in-Ok-clause-waits
-returns-in-Ok-clause-waits c = IfOk-weaker c.ended.result _ _ (λ step e. waits_over step _ _ _ refl e) (c.ended.ensures [] [])
+returns-in-Ok-clause-waits c = IfOk-weaker c.ended.result _ _ (λ step e. waits_over step _ _ _ refl e) (c.ended.ensures.ends [] [])
 
 pub returns-in-Err-Wants-clause-tells : goal.returns-in-Err-Wants-clause-tells
 returns-in-Err-Wants-clause-tells c program q answers f =
@@ -46,6 +49,13 @@ returns-in-Err-Fault-clause-tells c program q answers f =
     let runs = subst (λ e. Runs m.request m.code.now.functions.items m.code.now.instructions.items m.run (Err e) new) c.in-Err-Fault.field-0-is c.in-Err-Fault.ensures in
     IfOk-weaker c.faulted.result (λ step. ending_of step ≡ Ends (fault_response j) (path_of m.page p (FaultEnd j))) (λ step. ending_of step ≡ (conduct program q answers).ending)
     (λ step e. e ∙ fault_tells program q answers m f c.requires new j runs) (c.faulted.ensures (ops_so_far program q answers m f c.requires) [])
+
+pub returns-in-Err-Fault-clause-follows : goal.returns-in-Err-Fault-clause-follows
+returns-in-Err-Fault-clause-follows c program q answers f =
+    let m = c.args.self.now in
+    let runs = subst (λ e. Runs m.request m.code.now.functions.items m.code.now.instructions.items m.run (Err e) c.run.new.self) c.in-Err-Fault.field-0-is c.in-Err-Fault.ensures in
+    let trail = fault_leaves program q answers m f c.requires c.run.new.self c.in-Err-Fault.fault runs in
+    IfOk-weaker c.faulted.result _ _ (λ step e. record { code = f.code; request = f.request; stands = trail }) (c.faulted.ensures [] [])
 
 pub returns-in-Err-Fault-clause-waits : goal.returns-in-Err-Fault-clause-waits
 returns-in-Err-Fault-clause-waits c = IfOk-weaker c.faulted.result _ _ (λ step e. waits_over step _ _ _ refl e) (c.faulted.ensures [] [])

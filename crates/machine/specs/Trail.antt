@@ -10,5 +10,6 @@ abbrev pub bare : Mark → BareMark
 bare (decided b) = left.Decided b
 bare (issued op) = left.Issued
 
+-- the marks of a trail, each so
 abbrev pub bare_trail : List Mark → List BareMark
 bare_trail marks = map bare marks

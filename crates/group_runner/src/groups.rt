@@ -1,0 +1,94 @@
+ghost use Rattle.std.specs.Prelude.{◌≡◌, ◌+◌, IfOk};
+ghost use Rattle.script_tree.specs.Programs.{Program as AnyProgram};
+ghost use Rattle.script_code.specs.Translated.{IsCodeOf};
+ghost use Rattle.log_checker.specs.Faults.{Gives};
+ghost use Rattle.report.specs.Groups.{IsSome};
+ghost use Rattle.group_runner.specs.MembersTold.{IsGroupRunOf};
+ghost use Rattle.group_runner.specs.Told.{fault_of, steps_of, unsound_in, steps_in};
+
+use crate::evidence::Evidence;
+use crate::findings::Findings;
+use crate::runner::Runner;
+use audit_meaning::reason::Reason;
+use basis::OrMemory;
+use outside::gate::Gate;
+use script_code::translate::Code;
+use std::alloc::{AllocError, Global};
+use trace_index::narrow;
+
+/// The steps of several members. More than 64 bits hold are answered as want of memory.
+fn together(steps: u64, more: u64) -> Result<u64, AllocError>
+    ensures { IfOk result (λ sum. sum ≡ steps + more) }
+{
+    steps.checked_add(more).ok_or(AllocError)
+}
+
+/// What the members of a group leave together.
+#[derive(Clone, Copy)]
+pub(crate) struct GroupRun {
+    pub findings: Findings,
+    pub steps: u64,
+}
+
+/// Runs the first member of a group and the others, one after the other.
+fn run_members(runner: Runner<'_>, first_rid: u32, others: &[u32]) -> Result<GroupRun, AllocError>
+    ensures { (program : AnyProgram) → IsCodeOf program runner.entry.code.now
+        → IfOk result (IsGroupRunOf program runner.entry.evidence.now first_rid others.now) }
+{
+    let evidence = runner.evidence;
+    let first = runner.member(first_rid)?;
+    let mut findings = first.findings(first_rid, evidence.count(first_rid))?;
+    let mut steps = u64::from(first.steps);
+    for rid in others {
+        let member = runner.member(*rid)?;
+        let beside = member.findings_beside(&first, *rid, evidence.count(*rid))?;
+        findings = findings.and(beside);
+        steps = together(steps, u64::from(member.steps))?;
+    }
+    Ok(GroupRun { findings, steps })
+}
+
+/// Runs a group of this number: the first that is wrong with it, else the steps that its members
+/// spend.
+fn run_group(runner: Runner<'_>, number: u32, rids: &[u32]) -> Result<u64, OrMemory<Reason>>
+    requires { IsSome rids.now }
+    ensures { (program : AnyProgram) → IsCodeOf program runner.entry.code.now
+        → Gives (fault_of program runner.entry.evidence.now number rids.now)
+        (λ steps. steps ≡ steps_of program runner.entry.evidence.now rids.now) result }
+{
+    let Some((first_rid, others)) = rids.split_first() else {
+        unreachable!()
+    };
+    let run = run_members(runner, *first_rid, others)?;
+    match run.findings.reason(number)? {
+        Some(reason) => Err(OrMemory::Other(reason)),
+        None => Ok(run.steps),
+    }
+}
+
+/// Runs each member of each group, the groups in their order: the first that is wrong with the first
+/// group that isn't sound, else the steps that all members spend. A gate is passed at the start of
+/// each group.
+pub fn run_groups<G: Gate + Sync>(
+    alloc: Global,
+    code: &Code,
+    evidence: &Evidence<'_>,
+    gate: &G,
+) -> Result<u64, OrMemory<Reason>>
+    ensures { (program : AnyProgram) → IsCodeOf program code.now
+        → Gives (unsound_in program evidence.now)
+        (λ steps. steps ≡ steps_in program evidence.now) result }
+{
+    let runner = Runner {
+        alloc,
+        code,
+        evidence,
+    };
+    let mut steps = 0u64;
+    for (number, group) in evidence.groups().iter().enumerate() {
+        gate.pass(number as u64, 1);
+        let spent = run_group(runner, narrow(number)?, group.rids())?;
+        steps = together(steps, spent)?;
+    }
+    Ok(steps)
+}

@@ -1,3 +1,4 @@
 mod OneName
 pub mod RecordWordsRead
+mod Taken
 mod WordsRead

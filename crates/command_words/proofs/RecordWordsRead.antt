@@ -1,6 +1,6 @@
 -- What the words of `record` say, where `clap` takes them.
-use Rattle.std.proofs.Common.{◌≡◌, ◌≢◌, ◌∙◌, ℕ, ◌<◌, ◌^◌, Bool, true, false, cond, not, ◌&&◌, Result, Ok, Err, IfOk, ap₂, List, [], ◌∷◌, map, length, Option, Some, None, codes, String, Global, string_bytes, inl, inr, refl, ap, sym, subst, arith}
-use Rattle.std.proofs.lemmas.Bool.{ltb-true, lt-ltb, ne_eqb}
+use Rattle.std.proofs.Common.{◌≡◌, ◌≢◌, ◌∙◌, ℕ, ◌<◌, ◌^◌, Bool, true, false, cond, not, ◌&&◌, Result, Ok, ap₂, List, [], ◌∷◌, Option, Some, None, codes, refl, ap, sym, subst}
+use Rattle.std.proofs.lemmas.Bool.{ltb-true, lt-ltb}
 use Rattle.std.proofs.lemmas.Fmt.{decimal_is_IsNumeral, parse-decimal}
 use Rattle.std.proofs.lemmas.Slice.Eq.{bytes_eq-Decides}
 use Rattle.std.specs.Fmt.{decimal}
@@ -9,21 +9,12 @@ use Rattle.std.specs.Borrow.{Bor}
 use Rattle.std.specs.Str.{bytes_eq}
 use Rattle.std.specs.Str.Parse.{ParsesUnsigned, digits_value}
 use Rattle.basis.specs.Options.{◌>>=◌}
-use Rattle.clap.specs.Faults.{fault_of, is_simple_and_free}
-use Rattle.clap.specs.Kinds.{HasKind, IsAmong, Kinds}
-use Rattle.clap.specs.Matches.{found_of, first_value}
-use Rattle.clap.specs.Simple.{App, HasMatchesOf, is_simple, matches_of, new_rule}
-use Rattle.clap.specs.Values.{kind_of}
-use Rattle.clap.specs.Walk.{Row, Rule, first_of, is_empty, rows_of, rule_of}
+use Rattle.clap.specs.Faults.{fault_of}
+use Rattle.clap.specs.Simple.{matches_of, new_rule}
+use Rattle.clap.specs.Walk.{Rule, first_of, is_empty, rule_of}
 use Rattle.clap.specs.declared.builder.arg.Arg.{Arg}
-use Rattle.clap.specs.declared.error.Error.{Error}
-use Rattle.clap.specs.declared.error.kind.ErrorKind.{ErrorKind}
-use Rattle.clap.specs.declared.error.kind.ErrorKind.TheVariants.{OutOfMemory}
-use Rattle.clap.specs.declared.parser.matches.ArgMatches.{ArgMatches}
-use Rattle.clap.specs.declared.parser.matches.Found.{Found}
-use Rattle.clap.proofs.WalkLemmas.{first_value-rows}
-use Rattle.command_words.specs.RecordWords.{RecordWords, if_sound, is_sound, number_of, number_or, option_rule, record_app, record_words, taken_words, words_in}
-use Rattle.command_words.specs.WordsApp.{name_rule}
+use Rattle.command_words.specs.RecordWords.{RecordWords, if_sound, is_sound, number_of, number_or, record_app, record_words, taken_words, words_in}
+use Rattle.command_words.specs.WordsApp.{name_rule, option_rule, taken}
 
 -- ---- arguments
 
@@ -69,51 +60,6 @@ no_number text r parses none = by (bytes_eq (decimal (digits_value 10 text)) tex
 pub not_same : (form text : List ℕ) → false ≡ bytes_eq form text → form ≡ text → ⊥
 not_same form text e is = let f = (bytes_eq-Decides form text).1 is in cc
 
--- ---- taken and refused
-
--- the values that were found are those of the rows
-values : (f : Found) → first_value f ≡ (λ (id : List ℕ). first_of id (rows_of f))
-values f = λ i id. first_value-rows f id i
-
--- where the words are taken, what was found is what they say
-pub takes_words : (a : App) (words : List (String Global)) (m : ArgMatches) → a ≡ record_app
-    → fault_of a (map string_bytes words) ≡ [] → HasMatchesOf a (map string_bytes words) m
-    → words_in (first_value (found_of m)) ≡ taken_words (map string_bytes words)
-unfolding taken_words
-takes_words a words m is e h =
-    let ws = map string_bytes words in
-    let simple : is_simple a ≡ true = ap is_simple is ∙ refl in
-    let none : fault_of record_app ws ≡ [] = ap (λ b. fault_of b ws) (sym is) ∙ e in
-    let rows : rows_of (found_of m) ≡ matches_of record_app ws = (h simple).0 ∙ ap (λ (b : App). matches_of b ws) is in
-    ap words_in (values (found_of m))
-    ∙ ap (λ (rs : List Row). words_in (λ id. first_of id rs)) rows
-    ∙ sym (ap (λ (k : Kinds). cond (is_empty k) (words_in (λ id. first_of id (matches_of record_app ws))) None) none)
-
--- the same of a result
-pub takes_found : {X E : Type 0} (view : X → Option RecordWords) (r : Result X E) (value : List ℕ → Option (List ℕ)) (ws : List (List ℕ))
-    → words_in value ≡ taken_words ws → IfOk r (λ found. view found ≡ words_in value) → IfOk r (λ found. view found ≡ taken_words ws)
-takes_found view (Ok found) value ws is h = h ∙ is
-takes_found view (Err e) value ws is h = h
-
-among_some : (k : ErrorKind) (ks : Kinds) → IsAmong k ks → is_empty ks ≡ false
-among_some k [] h = absurd h
-among_some k (x ∷ ks) h = ne_eqb (length (x ∷ ks)) 0 (λ e. absurd (omega (arith, e)))
-
--- where they are refused, and memory isn't wanting, they say nothing
-pub refuses_words : (a : App) (words : List (String Global)) (e : Error) → a ≡ record_app
-    → HasKind (fault_of a (map string_bytes words)) e → (kind_of e ≡ OutOfMemory → ⊥)
-    → None ≡ taken_words (map string_bytes words)
-unfolding taken_words
-refuses_words a words e is (inl out) here = absurd (here out)
-refuses_words a words e is (inr among) here =
-    let ws = map string_bytes words in
-    let some : is_empty (fault_of record_app ws) ≡ false
-    = ap (λ b. is_empty (fault_of b ws)) (sym is) ∙ among_some (kind_of e) (fault_of a ws) among in
-    sym (ap (λ b. cond b (words_in (λ id. first_of id (matches_of record_app ws))) None) some)
-
-pub is_simple_record : (a : App) → a ≡ record_app → is_simple_and_free a ≡ true
-is_simple_record a is = ap is_simple_and_free is ∙ refl
-
 -- ---- different names
 
 bound : {A B : Type 0} (o : Option A) (f : A → Option B) (b : B) → (o >>= f) ≡ Some b → (a : A) × (f a ≡ Some b)
@@ -154,7 +100,7 @@ in_values value w e =
     sound found w seed.1
 
 in_words : (words : List (List ℕ)) (w : RecordWords) → record_words words ≡ Some w → is_sound w ≡ true
-unfolding taken_words
+unfolding taken
 in_words [] w e = cc
 in_words (command ∷ words) w e =
     let here = if_true (bytes_eq command (codes "record")) (taken_words words) w e in

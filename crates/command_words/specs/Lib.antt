@@ -1,3 +1,4 @@
+pub mod AuditWords
 pub mod NamesView
 pub mod RecordWords
 pub mod Words

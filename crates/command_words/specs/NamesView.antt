@@ -1,7 +1,9 @@
 -- The names that are lent, by their bytes.
 use Rattle.std.specs.Prelude.{option_map}
+use Rattle.command_words.specs.AuditWords as meant_audit
 use Rattle.command_words.specs.RecordWords as meant_record
 use Rattle.command_words.specs.Words as meant
+use Rattle.command_words.specs.declared.audit_words.AuditWords.{AuditWords}
 use Rattle.command_words.specs.declared.record_words.RecordWords.{RecordWords}
 use Rattle.command_words.specs.declared.words.ReplayNames.{ReplayNames}
 
@@ -18,4 +20,14 @@ record_words_of w = record {
   turns = option_map (λ name. name.now) w.turns;
   workers = w.workers;
   seed = w.seed;
+}
+
+abbrev pub audit_words_of : AuditWords → meant_audit.AuditWords
+audit_words_of w = record {
+  program = w.program.now;
+  state = w.state.now;
+  trace = w.trace.now;
+  report = w.report.now;
+  schedule = w.schedule.now;
+  workers = w.workers;
 }

@@ -4,10 +4,9 @@ use Rattle.std.specs.Fmt.{decimal}
 use Rattle.std.specs.Str.{bytes_eq}
 use Rattle.std.specs.Str.Parse.{digits_value}
 use Rattle.basis.specs.Options.{◌>>=◌}
-use Rattle.clap.specs.Faults.{fault_of}
-use Rattle.clap.specs.Simple.{App, matches_of, new_app, new_rule, on_top, with_rule}
-use Rattle.clap.specs.Walk.{Rule, first_of, is_empty}
-use Rattle.command_words.specs.WordsApp.{name_rule}
+use Rattle.clap.specs.Simple.{App, new_app, on_top, with_rule}
+use Rattle.clap.specs.Walk.{Rule}
+use Rattle.command_words.specs.WordsApp.{name_rule, option_rule, taken}
 use Rattle.command_words.specs.declared.record_words.TheConstants.{MOST_WORKERS}
 
 -- the names of the files, with that of the turns where there is one, how many workers there are, and the seed
@@ -34,11 +33,11 @@ abbrev pub number_or : ℕ → Option (List ℕ) → Option ℕ
 number_or other None = Some other
 number_or other (Some text) = number_of text
 
--- ---- words
+-- so many workers there may be
+abbrev pub are_workers : ℕ → Bool
+are_workers n = nat_lt 0 n && nat_lt n (MOST_WORKERS + 1)
 
--- an option that takes a value
-abbrev pub option_rule : List ℕ → Rule
-option_rule id = record (new_rule id) { long = Some id }
+-- ---- words
 
 abbrev pub record_rules : List Rule
 record_rules =
@@ -52,7 +51,7 @@ record_app =
 
 -- The trace and the report have different names, and the workers are 1 to the most.
 abbrev pub is_sound : RecordWords → Bool
-is_sound w = not (bytes_eq w.trace w.report) && (nat_lt 0 w.workers && nat_lt w.workers (MOST_WORKERS + 1))
+is_sound w = not (bytes_eq w.trace w.report) && are_workers w.workers
 
 abbrev pub if_sound : RecordWords → Option RecordWords
 if_sound w = if is_sound w then Some w else None
@@ -84,8 +83,8 @@ words_in value =
     words_of value (number_or 1 (value (codes "workers"))) (number_or 0 (value (codes "seed")))
 
 -- what the words behind `record` say, where the simple command takes them
-unfoldable pub taken_words : List (List ℕ) → Option RecordWords
-taken_words words = if is_empty (fault_of record_app words) then words_in (λ id. first_of id (matches_of record_app words)) else None
+abbrev pub taken_words : List (List ℕ) → Option RecordWords
+taken_words words = taken record_app words_in words
 
 -- `record`, and words that the simple command takes
 abbrev pub record_words : List (List ℕ) → Option RecordWords

@@ -1,15 +1,26 @@
--- The command whose words `clap` reads behind `replay`.
-use Rattle.std.specs.Prelude.{ℕ, List, true, codes, Option, Some}
+-- What `clap` reads behind the first word, and what is said of what it found.
+use Rattle.std.specs.Prelude.{ℕ, List, true, codes, Option, Some, None, if◌then◌else◌}
+use Rattle.clap.specs.Faults.{fault_of}
 use Rattle.clap.specs.Matches.{first_value}
-use Rattle.clap.specs.Walk.{Rule}
+use Rattle.clap.specs.Walk.{Rule, first_of, is_empty}
 use Rattle.clap.specs.declared.parser.matches.Found.{Found}
-use Rattle.clap.specs.Simple.{App, new_app, new_rule, on_top, with_rule}
+use Rattle.clap.specs.Simple.{App, matches_of, new_app, new_rule, on_top, with_rule}
 use Rattle.basis.specs.Options.{◌>>=◌}
 use Rattle.command_words.specs.Words.{ReplayNames}
 
 -- a name that has to be there
 abbrev pub name_rule : List ℕ → Rule
 name_rule id = record (new_rule id) { required = true }
+
+-- an option that takes a value
+abbrev pub option_rule : List ℕ → Rule
+option_rule id = record (new_rule id) { long = Some id }
+
+-- what is said of the values of names and options, where the simple command takes the words
+unfoldable pub taken : {X : Type 0} → App → ((List ℕ → Option (List ℕ)) → Option X) → List (List ℕ) → Option X
+taken app say words = if is_empty (fault_of app words) then say (λ id. first_of id (matches_of app words)) else None
+
+-- ---- `replay`
 
 abbrev pub replay_app : App
 replay_app = with_rule (with_rule (with_rule (with_rule (on_top (λ s. record s { no_binary_name = true }) (new_app (codes "replay")))

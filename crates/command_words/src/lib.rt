@@ -1,8 +1,10 @@
 //! The words of a command line, and what they ask for: docs/formats.md, "Commands".
 #![tactic(auto)]
 
+mod audit_words;
 mod record_words;
 mod words;
 
+pub use audit_words::AuditWords;
 pub use record_words::{MOST_WORKERS, RecordWords, workers_in_digits};
 pub use words::{ReplayNames, Words};

@@ -1,7 +1,7 @@
 ghost use Rattle.std.specs.Prelude.{◌≡◌, ◌∷◌, [], map, option_map, IfOk, string_bytes};
 ghost use Rattle.clap.specs.Matches.{first_value, found_of};
 ghost use Rattle.clap.specs.Simple.{app_of};
-ghost use Rattle.command_words.specs.RecordWords.{number_of, number_or, record_app, taken_words, words_in, words_of};
+ghost use Rattle.command_words.specs.RecordWords.{are_workers, number_of, number_or, record_app, taken_words, words_in, words_of};
 ghost use Rattle.command_words.specs.NamesView.{record_words_of};
 
 use clap::error::ErrorKind;
@@ -89,12 +89,23 @@ impl RecordWords<'_> {
     fn is_sound(&self) -> bool
         ensures { result ≡ is_sound (record_words_of self.now) }
     {
-        self.trace != self.report && 0 < self.workers && self.workers <= MOST_WORKERS
+        self.trace != self.report && are_workers(self.workers)
     }
 }
 
+/// Whether there may be so many workers.
+pub(crate) fn are_workers(count: u64) -> bool
+    ensures { result ≡ are_workers count }
+{
+    0 < count && count <= MOST_WORKERS
+}
+
 /// The number of an option, and this one where it isn't given.
-fn number_or(alloc: Global, other: u64, text: Option<&str>) -> Result<Option<u64>, AllocError>
+pub(crate) fn number_or(
+    alloc: Global,
+    other: u64,
+    text: Option<&str>,
+) -> Result<Option<u64>, AllocError>
     ensures { let number = number_or other (option_map (λ t. t.now) text.entry) in
         IfOk result (λ found. found ≡ number) }
 {

@@ -4,8 +4,9 @@ ghost use Rattle.clap.specs.Matches.{found_of};
 ghost use Rattle.clap.specs.Simple.{app_of};
 ghost use Rattle.command_words.specs.Words.{in_four, in_one, is_option, names_in};
 ghost use Rattle.command_words.specs.WordsApp.{found_names, replay_app};
-ghost use Rattle.command_words.specs.NamesView.{names_of, record_words_of};
+ghost use Rattle.command_words.specs.NamesView.{audit_words_of, names_of, record_words_of};
 
+use crate::audit_words::{self, AuditWords};
 use crate::record_words::{RecordWords, taken_words};
 use clap::error::ErrorKind;
 use clap::{Arg, ArgMatches, Command};
@@ -38,6 +39,7 @@ pub struct ReplayNames<'a> {
 }
 
 impl Words {
+    ghost use Rattle.command_words.specs.AuditWords.{audit_words};
     ghost use Rattle.command_words.specs.RecordWords.{record_words};
     ghost use Rattle.command_words.specs.Words.{check_name, replay_names};
 
@@ -97,6 +99,18 @@ impl Words {
     {
         match self.items.as_slice() {
             [command, rest @ ..] if command.as_str() == "record" => taken_words(alloc, rest),
+            _ => Ok(None),
+        }
+    }
+
+    /// What the words ask `audit` to do, where they are its words.
+    pub fn audit_words(&self, alloc: Global) -> Result<Option<AuditWords<'_>>, AllocError>
+        ensures { IfOk result (λ words. option_map audit_words_of words ≡ audit_words self.now) }
+    {
+        match self.items.as_slice() {
+            [command, rest @ ..] if command.as_str() == "audit" => {
+                audit_words::taken_words(alloc, rest)
+            }
             _ => Ok(None),
         }
     }

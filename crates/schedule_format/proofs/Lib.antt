@@ -1,2 +1,3 @@
 pub mod FileMoments
+pub mod Following
 pub mod MomentFields

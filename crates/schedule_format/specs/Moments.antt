@@ -1,5 +1,5 @@
 -- How a schedule is spelled.
-use Rattle.std.specs.Prelude.{ℕ, ◌<◌, ◌^◌, List, ◌∷◌, ◌++◌, codes, Result, Ok, Err}
+use Rattle.std.specs.Prelude.{ℕ, ◌<◌, ◌^◌, List, [], ◌∷◌, ◌++◌, codes, Result, Ok, Err}
 use Rattle.std.specs.Int.{w32, to_be_bytes}
 use Rattle.wire.specs.Spellings.{Field, IsFieldAt, NoneIsAt, IsWideChoice, choice_spelling}
 use Rattle.wire.specs.Files.{Format}
@@ -18,6 +18,11 @@ abbrev pub IsMoment : Moment → Type 0
 IsMoment (Arrive rid) = rid < 2 ^ 32
 IsMoment (Act rid choice) = (rid < 2 ^ 32) × IsWideChoice choice
 IsMoment (Depart rid) = rid < 2 ^ 32
+
+-- Those of each have their widths.
+abbrev pub AreMoments : List Moment → Type 0
+AreMoments [] = Unit {0}
+AreMoments (m ∷ ms) = IsMoment m × AreMoments ms
 
 abbrev pub moment_field : Field Moment
 moment_field = record { allows = λ m. IsMoment m; spelling = λ m. moment_spelling m }

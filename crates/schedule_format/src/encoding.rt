@@ -1,6 +1,6 @@
 ghost use Rattle.std.specs.Prelude.{◌≡◌, ◌++◌, length, OnOk, IfOk};
-ghost use Rattle.wire.specs.Files.{file_spelling};
-ghost use Rattle.schedule_format.specs.Moments.{schedule_format, moment_spelling};
+ghost use Rattle.wire.specs.Files.{Spells};
+ghost use Rattle.schedule_format.specs.Moments.{schedule_format, moment_spelling, AreMoments, IsMoment};
 
 use crate::format::Moments;
 use script_tree::operation::Choice;
@@ -53,7 +53,27 @@ impl RecordWriter for Moments {
 
 /// The file that spells the schedule.
 pub fn encode(alloc: Global, schedule: &Schedule) -> Result<Vec<u8>, AllocError>
-    ensures { IfOk result (λ bytes. bytes.items ≡ file_spelling schedule_format schedule.now) }
+    ensures { IfOk result (λ bytes. Spells schedule_format bytes.items schedule.now) }
 {
+    keep_widths(schedule.as_slice());
     write_file::<Moments>(alloc, schedule)
+}
+
+/// Tells what the types of moments keep: the widths of their numbers.
+fn keep_widths(moments: &[Moment])
+    ensures { AreMoments moments.now }
+{
+    for moment in moments {
+        keep_width(*moment);
+    }
+}
+
+fn keep_width(moment: Moment)
+    ensures { IsMoment moment }
+{
+    match moment {
+        Moment::Arrive(_rid) | Moment::Depart(_rid) => {}
+        Moment::Act(_rid, Choice::Nothing) => {}
+        Moment::Act(_rid, Choice::Number(_number)) => {}
+    }
 }

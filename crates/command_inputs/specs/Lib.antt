@@ -2,7 +2,9 @@ pub mod FaultTexts
 pub mod Faults
 pub mod Halts
 pub mod Inputs
+pub mod OneWay
 pub mod Program
+pub mod Report
 pub mod Requests
 pub mod Roles
 pub mod Schedule

@@ -5,7 +5,9 @@
 pub mod fault;
 pub mod file;
 pub mod halt;
+pub mod law;
 pub mod program;
+pub mod report_file;
 pub mod requests;
 pub mod role;
 pub mod schedule;
@@ -16,6 +18,7 @@ pub mod turns;
 pub use fault::{InputError, InputFault, TraceFault};
 pub use halt::Halt;
 pub use program::read_program;
+pub use report_file::read_report;
 pub use requests::read_requests;
 pub use role::Role;
 pub use schedule::read_schedule;

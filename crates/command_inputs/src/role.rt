@@ -11,6 +11,7 @@ pub enum Role {
     Requests,
     Turns,
     Trace,
+    Report,
     Schedule,
 }
 
@@ -25,6 +26,7 @@ impl Role {
             Role::Requests => "requests",
             Role::Turns => "turns",
             Role::Trace => "trace",
+            Role::Report => "report",
             Role::Schedule => "schedule",
         }
     }

@@ -1,0 +1,36 @@
+ghost use Rattle.std.specs.Prelude.{◌<◌, ◌^◌};
+ghost use Rattle.outside.specs.Shelves.{IsReadOnce};
+ghost use Rattle.command_inputs.specs.Faults.{UsesToRead};
+ghost use Rattle.command_inputs.specs.Inputs.{IsReadUnder};
+ghost use Rattle.command_inputs.specs.Report.{report_input};
+
+use crate::fault::InputError;
+use crate::file::read_whole;
+use crate::halt::Halt;
+use crate::role::Role;
+use basis::OrMemory;
+use outside::Shelf;
+use report::Report;
+use report_format::decoding::decode;
+use std::alloc::Global;
+
+/// Reads the report whose file has this name, or the place of its first bad record.
+pub fn read_report<F: Shelf>(
+    alloc: Global,
+    shelf: &mut F,
+    name: &str,
+    most: usize,
+) -> Result<Result<Report, u64>, InputError>
+    requires { most < 2 ^ 63 }
+    ensures read { let input = report_input most in
+        IsReadUnder (λ report. report) input (F.told shelf.old) name.now result }
+    ensures used { UsesToRead (F.told shelf.old) (F.told shelf.new) result }
+    ensures once { IsReadOnce (F.reads shelf.old) (F.reads shelf.new) name.now }
+{
+    let bytes = read_whole(alloc, shelf, Role::Report, name, most)?;
+    match decode(alloc, &bytes) {
+        Ok(report) => Ok(Ok(report)),
+        Err(OrMemory::Memory) => Err(InputError::Halt(Halt::Memory)),
+        Err(OrMemory::Other(fault)) => Ok(Err(fault.at as u64)),
+    }
+}

@@ -31,7 +31,7 @@ pub(crate) fn ended(
     ensures ends { (ops : List Operation) (more : List Datum) → IfOk result (λ step. ending_of step
         ≡ Ends (response_of (progress_of account.old ops more))
         (path_of page (progress_of account.old ops more) End.Normal)) }
-    ensures trail { account.new.trail ≡ account.old.trail }
+    ensures rest { account.new ≡ record account.old { body = account.new.body } }
 {
     let path = account.path(alloc, page, End::Normal)?;
     Ok(MachineStep::Ends(account.take_response(alloc), path))

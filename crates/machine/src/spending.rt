@@ -153,7 +153,7 @@ impl Account {
     pub(crate) fn take_response(&mut self, alloc: Global) -> Response
         ensures response { (ops : List Operation) (more : List Datum)
             → result ≡ response_of (progress_of self.old ops more) }
-        ensures trail { self.new.trail ≡ self.old.trail }
+        ensures rest { self.new ≡ record self.old { body = self.new.body } }
     {
         let body = mem::replace(&mut self.body, Vec::new(alloc));
         Response {

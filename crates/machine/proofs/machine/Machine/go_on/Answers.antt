@@ -19,7 +19,7 @@ returns-in-Ok-clause-tells c program q answers f =
 
 pub returns-in-Ok-clause-follows : goal.returns-in-Ok-clause-follows
 returns-in-Ok-clause-follows c program q answers f =
-    let trail = ap (λ ts. ts.items) c.ended.ensures.trail ∙ over_leaves program q answers c.args.self.now f c.requires c.run.new.self c.in-Ok.ensures in
+    let trail = ap (λ a. a.trail.items) c.ended.ensures.rest ∙ over_leaves program q answers c.args.self.now f c.requires c.run.new.self c.in-Ok.ensures in
     IfOk-weaker c.ended.result _ _ (λ step e. record { code = f.code; request = f.request; stands = trail }) (c.ended.ensures.ends [] [])
 
 pub returns-in-Ok-clause-waits : goal.returns-in-Ok-clause-waits

@@ -21,15 +21,11 @@ impl Contents {
         ensures may { IfSome result MayBeEncoded }
     {
         if bytes.starts_with(b"SSCOTRC1") {
-            match trace_format::decoding::decode(alloc, bytes) {
-                Ok(trace) => Some(Contents::Trace(trace)),
-                Err(_) => None,
-            }
+            let trace = trace_format::decoding::decode(alloc, bytes).ok()?;
+            Some(Contents::Trace(trace))
         } else {
-            match report_format::decoding::decode(alloc, bytes) {
-                Ok(report) => Some(Contents::Report(report)),
-                Err(_) => None,
-            }
+            let report = report_format::decoding::decode(alloc, bytes).ok()?;
+            Some(Contents::Report(report))
         }
     }
 
@@ -38,13 +34,19 @@ impl Contents {
         requires { MayBeEncoded self.now }
         ensures { IfSome result (λ file. file.items ≡ spelling self.now) }
     {
-        let encoded = match self {
-            Contents::Trace(trace) => trace_format::encoding::encode(alloc, trace),
-            Contents::Report(report) => report_format::encoding::encode(alloc, report),
-        };
-        match encoded {
-            Ok(file) => Some(file),
-            Err(_) => None,
+        match self {
+            Contents::Trace(trace) => trace_format::encoding::encode(alloc, trace).ok(),
+            Contents::Report(report) => report_format::encoding::encode(alloc, report).ok(),
+        }
+    }
+
+    /// Whether these bytes are its file.
+    pub fn is_spelled(&self, alloc: Global, bytes: &[u8]) -> bool
+        requires { MayBeEncoded self.now }
+    {
+        match self.encode(alloc) {
+            Some(file) => file.as_slice() == bytes,
+            None => false,
         }
     }
 

@@ -1,10 +1,8 @@
 //! What is asked of the program.
-ghost use Rattle.std.specs.Prelude.{IfSome};
 ghost use Rattle.bench_files.specs.Spelled.{MayBeEncoded};
 
 use crate::contents::Contents;
-use anyhow::Context;
-use std::alloc::Global;
+use std::io::{self, ErrorKind};
 use std::time::{Duration, Instant};
 
 /// A work, and how many times it is done.
@@ -12,19 +10,6 @@ use std::time::{Duration, Instant};
 pub struct Job {
     pub is_decoding: bool,
     pub times: u32,
-}
-
-/// What the file of these bytes holds, where it is encoded to the same bytes.
-pub fn encoded_again(alloc: Global, bytes: &[u8]) -> Option<Contents>
-    ensures { IfSome result MayBeEncoded }
-{
-    let contents = Contents::decode(alloc, bytes)?;
-    let encoded = contents.encode(alloc)?;
-    if encoded.as_slice() == bytes {
-        Some(contents)
-    } else {
-        None
-    }
 }
 
 impl Job {
@@ -39,16 +24,13 @@ impl Job {
         Some(Job { is_decoding, times })
     }
 
-    /// How long the work takes with a file of these bytes, which holds this, without letting go of
-    /// what is made.
-    pub fn took(
-        self,
-        rt: &HostRuntime,
-        bytes: &[u8],
-        contents: &Contents,
-    ) -> anyhow::Result<Duration>
+    /// Does the work with a file of these bytes, which holds this, and tells of it.
+    pub fn run(self, rt: &HostRuntime, bytes: &[u8], contents: &Contents) -> io::Result<()>
         requires { MayBeEncoded contents.now }
     {
+        if !contents.is_spelled(rt.alloc(), bytes) {
+            return Err(ErrorKind::InvalidData.into());
+        }
         let mut took = Duration::ZERO;
         for _ in 0..self.times {
             let once = if self.is_decoding {
@@ -58,24 +40,46 @@ impl Job {
             };
             took = took.saturating_add(once);
         }
-        Ok(took)
+        self.tell(rt, bytes.len(), contents, took)
+    }
+
+    /// Tells what was done with a file of so many bytes, and how long it took.
+    fn tell(
+        self,
+        rt: &HostRuntime,
+        bytes: usize,
+        contents: &Contents,
+        took: Duration,
+    ) -> io::Result<()> {
+        let (kind, records) = (contents.kind(), contents.record_count());
+        println!(rt;
+            "{kind}: records {records}, bytes {bytes}, times {}, same",
+            self.times
+        )?;
+        eprintln!(rt; "{kind}: nanoseconds {}", took.as_nanos())
     }
 }
 
-fn decoding_time(rt: &HostRuntime, bytes: &[u8]) -> anyhow::Result<Duration> {
+/// How long decoding takes, without letting go of what is made.
+fn decoding_time(rt: &HostRuntime, bytes: &[u8]) -> io::Result<Duration> {
     let start = Instant::now(rt)?;
-    let made = Contents::decode(rt.alloc(), bytes).context("decoding")?;
-    let took = start.elapsed(rt)?;
-    drop(made);
-    Ok(took)
+    let made = Contents::decode(rt.alloc(), bytes);
+    let took = start.elapsed(rt);
+    if made.is_none() {
+        return Err(ErrorKind::InvalidData.into());
+    }
+    took
 }
 
-fn encoding_time(rt: &HostRuntime, contents: &Contents) -> anyhow::Result<Duration>
+/// How long encoding takes, without letting go of what is made.
+fn encoding_time(rt: &HostRuntime, contents: &Contents) -> io::Result<Duration>
     requires { MayBeEncoded contents.now }
 {
     let start = Instant::now(rt)?;
-    let made = contents.encode(rt.alloc()).context("encoding")?;
-    let took = start.elapsed(rt)?;
-    drop(made);
-    Ok(took)
+    let made = contents.encode(rt.alloc());
+    let took = start.elapsed(rt);
+    if made.is_none() {
+        return Err(ErrorKind::InvalidData.into());
+    }
+    took
 }

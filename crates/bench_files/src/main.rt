@@ -7,39 +7,31 @@
 mod contents;
 mod job;
 
-use crate::job::{Job, encoded_again};
-use anyhow::{Context, bail};
+use crate::contents::Contents;
+use crate::job::Job;
+use std::io::{self, ErrorKind};
 use std::{env, fs};
 
-fn main(rt: HostRuntime) -> anyhow::Result<()> {
-    let mut words = Vec::new(rt.alloc());
-    for word in env::args(&rt)?.skip(1) {
-        words.push(word)?;
-    }
-    let [work, times, files @ ..] = words.as_slice() else {
-        bail!("the words are: decode|encode TIMES FILE ..");
+fn main(rt: HostRuntime) -> io::Result<()> {
+    let words = Vec::from_iter(rt.alloc(), env::args(&rt)?)?;
+    run(&rt, words.as_slice())
+}
+
+/// Does with each file what the words say, of which the first is the program's name.
+fn run(rt: &HostRuntime, words: &[String]) -> io::Result<()> {
+    let [_, work, times, files @ ..] = words else {
+        eprintln!(rt; "the words are: decode|encode TIMES FILE ..")?;
+        return Err(ErrorKind::InvalidInput.into());
     };
-    let job = Job::from_words(work.as_str(), times.as_str());
-    let job = job.context("the work is decode or encode, and TIMES a number")?;
+    let job = Job::from_words(work.as_str(), times.as_str()).ok_or(ErrorKind::InvalidInput)?;
     for file in files {
-        run(&rt, job, file.as_str())?;
+        run_file(rt, job, &fs::read(rt, file.as_str())?)?;
     }
     Ok(())
 }
 
-/// Does the job with a file.
-fn run(rt: &HostRuntime, job: Job, file: &str) -> anyhow::Result<()> {
-    let bytes = fs::read(rt, file).context("reading FILE")?;
-    let contents = encoded_again(rt.alloc(), &bytes);
-    let contents = contents.context("FILE is no trace or report that is encoded to the same")?;
-    let took = job.took(rt, &bytes, &contents)?;
-    println!(rt;
-        "{}: records {}, bytes {}, times {}, same",
-        contents.kind(),
-        contents.record_count(),
-        bytes.len(),
-        job.times
-    )?;
-    eprintln!(rt; "{}: nanoseconds {}", contents.kind(), took.as_nanos())?;
-    Ok(())
+/// Does the job with the file of these bytes.
+fn run_file(rt: &HostRuntime, job: Job, bytes: &[u8]) -> io::Result<()> {
+    let contents = Contents::decode(rt.alloc(), bytes).ok_or(ErrorKind::InvalidData)?;
+    job.run(rt, bytes, &contents)
 }

@@ -5,121 +5,97 @@
 //! bench, and tells on standard error how long its versions and all answers took.
 #![tactic(auto)]
 
+mod bench;
 mod fold;
 mod random;
 mod shape;
 mod told;
 mod words;
 
+use crate::bench::run_bench;
 use crate::fold::folded;
 use crate::random::random_row;
-use crate::shape::{Shape, logs_of, start_of};
+use crate::shape::Shape;
 use crate::told::versioned;
-use anyhow::{Context, bail};
-use object_set::ObjectSet;
-use report::Log;
-use std::alloc::{AllocError, Global};
-use std::time::Instant;
-use std::{env, fs, io};
-use versioned_store::VersionedStore;
-use versioned_store::fitting::fit_logs;
+use crate::words::Row;
+use std::alloc::Global;
+use std::io::{self, ErrorKind};
+use std::{env, fs};
 
-/// Tells that the words come to something else than is wanted.
-fn tell(rt: &impl Print, words: &str, told: &str, wanted: &str) -> io::Result<()> {
-    println!(rt; "{words}: {told}, not {wanted}")
+fn main(rt: HostRuntime) -> io::Result<()> {
+    let words = Vec::from_iter(rt.alloc(), env::args(&rt)?)?;
+    run(&rt, words.as_slice())
+}
+
+/// Does what the words say, of which the first is the program's name.
+fn run(rt: &HostRuntime, words: &[String]) -> io::Result<()> {
+    let [_, first, second, third] = words else {
+        eprintln!(rt; "the words are: FILE SEED LOGS, or SHAPE ENTRIES TIMES")?;
+        return Err(ErrorKind::InvalidInput.into());
+    };
+    let (first, second, third) = (first.as_str(), number_of(second)?, number_of(third)?);
+    if let Some(shape) = Shape::from_word(first) {
+        return run_bench(rt, shape, second, third);
+    }
+    run_rows(rt, first, &fs::read_to_string(rt, first)?)?;
+    run_random(rt, second, third)
+}
+
+fn number_of(word: &String) -> io::Result<u32> {
+    word.as_str()
+        .parse()
+        .ok()
+        .ok_or(ErrorKind::InvalidInput.into())
 }
 
 /// Runs the rows of a file, each a line: what it comes to, a bar and its words.
-fn run_rows(rt: &HostRuntime, file: &str) -> anyhow::Result<()> {
-    let text = fs::read_to_string(rt, file)?;
+fn run_rows(rt: &HostRuntime, file: &str, text: &str) -> io::Result<()> {
     let (mut rows, mut differ) = (0u32, 0u32);
-    for line in text.as_str().lines() {
+    for line in text.lines() {
         if let Some((wanted, words)) = line.split_once(" | ")
             && !line.starts_with('#')
         {
-            let told = versioned(rt.alloc(), words)?;
             rows = rows.saturating_add(1);
-            if told.as_str() != wanted {
+            if !is_told(rt, words, wanted)? {
                 differ = differ.saturating_add(1);
-                tell(rt, words, told.as_str(), wanted)?;
             }
         }
     }
-    println!(rt; "{file}: {rows} rows, {differ} differ")?;
-    Ok(())
+    println!(rt; "{file}: {rows} rows, {differ} differ")
+}
+
+/// Whether the words of a row come to what is wanted. It tells where they don't.
+fn is_told(rt: &HostRuntime, words: &str, wanted: &str) -> io::Result<bool> {
+    let row = Row::new(words).ok_or(ErrorKind::InvalidData)?;
+    let told = versioned(rt.alloc(), row)?;
+    compare(rt, words, told.as_str(), wanted)
+}
+
+/// Whether the versions tell what is wanted. It tells where they don't.
+fn compare(rt: &HostRuntime, words: &str, told: &str, wanted: &str) -> io::Result<bool> {
+    if told != wanted {
+        println!(rt; "{words}: {told}, not {wanted}")?;
+    }
+    Ok(told == wanted)
 }
 
 /// Compares so many logs at random with a plain fold of each.
-fn run_random(rt: &HostRuntime, seed: u64, logs: u64) -> anyhow::Result<()> {
+fn run_random(rt: &HostRuntime, seed: u32, logs: u32) -> io::Result<()> {
     let mut differ = 0u32;
     for number in 0..logs {
-        let row = random_row(rt.alloc(), seed, number)?;
-        let told = versioned(rt.alloc(), row.as_str())?;
-        let wanted = folded(rt.alloc(), row.as_str())?;
-        if !told.as_str().starts_with(wanted.as_str()) {
+        let words = random_row(rt.alloc(), u64::from(seed), u64::from(number))?;
+        if !is_folded(rt, words.as_str())? {
             differ = differ.saturating_add(1);
-            tell(rt, row.as_str(), told.as_str(), wanted.as_str())?;
         }
     }
-    println!(rt; "{logs} logs at random, {differ} differ")?;
-    Ok(())
+    println!(rt; "{logs} logs at random, {differ} differ")
 }
 
-/// Answers each entry of some logs.
-fn answer_all(store: &VersionedStore<'_>, logs: u32) -> Result<(), AllocError> {
-    for log in 0..logs {
-        for position in 0..u32::MAX {
-            if !store.has_entry(log, position) {
-                break;
-            }
-            let _ = store.answer_at(log, position)?;
-        }
-    }
-    Ok(())
-}
-
-/// Builds the versions of some logs and answers all entries, and tells how long that took.
-fn run_once(rt: &HostRuntime, start: &ObjectSet, logs: &[Log]) -> anyhow::Result<()> {
-    if !fit_logs(start, logs) {
-        bail!("an entry that doesn't fit");
-    }
-    let count = u32::try_from(logs.len())?;
-    let began = Instant::now(rt)?;
-    let store = VersionedStore::build(rt.alloc(), start, logs)?;
-    let built = began.elapsed(rt)?.as_nanos();
-    answer_all(&store, count)?;
-    let all = began.elapsed(rt)?.as_nanos();
-    eprintln!(rt; "nanoseconds {built} built, {all} in all")?;
-    Ok(())
-}
-
-/// Makes a log, and answers all of its entries so many times.
-fn run_bench(rt: &HostRuntime, shape: Shape, entries: u32, times: u32) -> anyhow::Result<()> {
-    let start = start_of(rt.alloc(), shape)?;
-    let logs = logs_of(rt.alloc(), shape, entries)?;
-    for _ in 0..times {
-        run_once(rt, &start, logs.as_slice())?;
-    }
-    println!(rt; "entries {entries}, times {times}")?;
-    Ok(())
-}
-
-fn main(rt: HostRuntime) -> anyhow::Result<()> {
-    let mut words = Vec::new(rt.alloc());
-    for word in env::args(&rt)?.skip(1) {
-        words.push(word)?;
-    }
-    let [first, second, third] = words.as_slice() else {
-        bail!("the words are: FILE SEED LOGS, or SHAPE ENTRIES TIMES");
-    };
-    if let Some(shape) = Shape::from_word(first.as_str()) {
-        return run_bench(
-            &rt,
-            shape,
-            second.as_str().parse()?,
-            third.as_str().parse()?,
-        );
-    }
-    run_rows(&rt, first.as_str())?;
-    run_random(&rt, second.as_str().parse()?, third.as_str().parse()?)
+/// Whether the answers of a row are those of a plain fold. It tells where they aren't.
+fn is_folded(rt: &HostRuntime, words: &str) -> io::Result<bool> {
+    let row = Row::new(words).ok_or(ErrorKind::InvalidData)?;
+    let told = versioned(rt.alloc(), row)?;
+    let (told, _) = told.as_str().split_once('/').unwrap_or((told.as_str(), ""));
+    let wanted = folded(rt.alloc(), row)?;
+    compare(rt, words, told, wanted.as_str())
 }

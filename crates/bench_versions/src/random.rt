@@ -1,13 +1,17 @@
 //! Logs at random.
-use crate::words::Row;
 use dice::Dice;
 use std::alloc::{AllocError, Global};
 
 /// How many entries a log has at most.
 const MOST_ENTRIES: u64 = 24;
 
-/// The objects that a log may be of, with the letters of its entries.
-const OBJECTS: [(&str, &str); 3] = [("register", "rrw"), ("store", "ggpx"), ("tables", "ssiude")];
+/// The objects that a log may be of, with the entries that they may start with, and the letters of
+/// those that are answered.
+const OBJECTS: [(&str, &str, &str); 3] = [
+    ("register", " w7", "rrw"),
+    ("store", " pa7 pb8", "ggpx"),
+    ("tables", " ia7 ib8", "ssiude"),
+];
 
 fn one_of<'a>(dice: &mut Dice, letters: &'a str) -> &'a str {
     let place = dice.roll(letters.len().max(1) as u64) as usize;
@@ -33,10 +37,10 @@ fn push_word(words: &mut String, dice: &mut Dice, letters: &str) -> Result<(), A
 /// The words of a log at random, the one of this number of a seed.
 pub fn random_row(alloc: Global, seed: u64, number: u64) -> Result<String, AllocError> {
     let mut dice = Dice::new(seed, number);
-    let (object, letters) = OBJECTS[(number % 3) as usize];
+    let (object, start, letters) = OBJECTS[(number % 3) as usize];
     let mut words = String::from_str(alloc, object)?;
     if dice.roll(2) == 0 {
-        words.push_str(if object == "register" { " 7" } else { " a7 b8" })?;
+        words.push_str(start)?;
     }
     words.push_str(" :")?;
     for _ in 0..dice.roll(MOST_ENTRIES) {

@@ -1,13 +1,14 @@
 //! Large logs for the bench.
-use crate::words::{add_row, empty_objects, entry_of, select, text_of, update};
-use anyhow::bail;
+use crate::words::{empty_objects, entry_of, row_of, select, text_of, update};
 use basis::Items;
 use object_set::ObjectSet;
-use report::{Log, LogEntry};
+use report::Log;
 use script_tree::operation::{Act, Object};
 use script_tree::transaction::{Statement, Statements};
 use script_tree::value::Value;
 use std::alloc::{AllocError, Global};
+use std::io::{self, ErrorKind};
+use std::ops::Range;
 
 /// What a made log is like.
 #[derive(Clone, Copy, PartialEq, Eq)]
@@ -58,79 +59,102 @@ fn key_of(alloc: Global, shape: Shape, number: u32) -> Result<String, AllocError
     format!(in alloc; "{key:08x}")
 }
 
-pub fn start_of(alloc: Global, shape: Shape) -> anyhow::Result<ObjectSet> {
+/// The objects that the logs start with.
+pub fn start_of(alloc: Global, shape: Shape) -> io::Result<ObjectSet> {
     let mut objects = empty_objects(alloc)?;
     for number in 0..shape.rows() {
         let key = key_of(alloc, shape, number)?;
-        add_row(&mut objects, alloc, key.as_str(), i64::from(number))?;
+        add_row(alloc, &mut objects, key.as_str(), i64::from(number))?;
     }
     Ok(objects)
 }
 
-fn transact(
-    alloc: Global,
-    some: Option<Statement>,
-    other: Option<Statement>,
-) -> Result<Act, AllocError> {
+/// Adds a row to the table, where it may.
+fn add_row(alloc: Global, objects: &mut ObjectSet, key: &str, number: i64) -> io::Result<()> {
+    let row = row_of(alloc, key, number)?;
+    if !objects.tables().fits_row(0, row.as_slice()) {
+        return Err(ErrorKind::InvalidData.into());
+    }
+    objects.insert_row(0, row)?;
+    Ok(())
+}
+
+fn transact(alloc: Global, statement: Statement) -> Result<Act, AllocError> {
     let mut statements = Statements::new(alloc);
-    if let Some(statement) = some {
-        statements.push(statement)?;
-    }
-    if let Some(statement) = other {
-        statements.push(statement)?;
-    }
+    statements.push(statement)?;
     Ok(Act::Transact(statements))
+}
+
+fn select_and_update(alloc: Global, key: &str, number: i64) -> Result<Act, AllocError> {
+    let mut statements = Statements::new(alloc);
+    statements.push(select(alloc, key)?)?;
+    statements.push(update(alloc, key, number)?)?;
+    Ok(Act::Transact(statements))
+}
+
+/// The act of an entry of a register, by its number.
+fn cell_act(number: i64) -> Act {
+    if number % 2 == 0 {
+        Act::Write(Value::number(number))
+    } else {
+        Act::Read
+    }
 }
 
 /// The act of an entry of so many.
 fn act_of(alloc: Global, shape: Shape, number: u32, count: u32) -> Result<Act, AllocError> {
     let key = key_of(alloc, shape, number % shape.rows().max(1))?;
+    let changes = number % (count / 64).max(1) == 0;
+    act_on(alloc, shape, key.as_str(), i64::from(number), changes)
+}
+
+/// The same on a row of this key.
+fn act_on(
+    alloc: Global,
+    shape: Shape,
+    key: &str,
+    number: i64,
+    changes: bool,
+) -> Result<Act, AllocError> {
     match shape {
-        Shape::Register | Shape::Registers if number % 2 == 0 => Ok(Act::Write(Value::number(
-            i64::from(number),
-        ))),
-        Shape::Register | Shape::Registers => Ok(Act::Read),
-        Shape::Rows | Shape::RowsAtRandom => transact(
-            alloc,
-            Some(select(alloc, key.as_str())?),
-            Some(update(alloc, key.as_str(), i64::from(number))?),
-        ),
-        Shape::Same if number % (count / 64).max(1) == 0 => {
-            transact(
-                alloc,
-                None,
-                Some(update(alloc, key.as_str(), i64::from(number))?),
-            )
-        }
-        Shape::Same => transact(alloc, Some(select(alloc, "*")?), None),
-        Shape::Different => transact(alloc, Some(select(alloc, key.as_str())?), None),
+        Shape::Register | Shape::Registers => Ok(cell_act(number)),
+        Shape::Rows | Shape::RowsAtRandom => select_and_update(alloc, key, number),
+        Shape::Same if changes => transact(alloc, update(alloc, key, number)?),
+        Shape::Same => transact(alloc, select(alloc, "*")?),
+        Shape::Different => transact(alloc, select(alloc, key)?),
     }
 }
 
-fn log_of(alloc: Global, object: Object, entries: Vec<LogEntry>) -> Log {
-    Log {
-        object,
-        entries: Items::from_vec(entries),
+/// The name of the object of an entry's log.
+fn object_of_entry(alloc: Global, shape: Shape, number: u32) -> Result<Object, AllocError> {
+    match shape {
+        Shape::Register => Ok(Object::Register(text_of(alloc, "r")?)),
+        Shape::Registers => {
+            let name = key_of(alloc, shape, number)?;
+            Ok(Object::Register(text_of(alloc, name.as_str())?))
+        }
+        Shape::Rows | Shape::RowsAtRandom | Shape::Same | Shape::Different => Ok(Object::Tables),
     }
+}
+
+/// The log of the entries from one to before another, of so many.
+fn log_of(alloc: Global, shape: Shape, numbers: Range<u32>, count: u32) -> Result<Log, AllocError> {
+    let mut entries = Items::new(alloc);
+    let first = numbers.start;
+    for number in numbers {
+        entries.push(entry_of(act_of(alloc, shape, number, count)?))?;
+    }
+    let object = object_of_entry(alloc, shape, first)?;
+    Ok(Log { object, entries })
 }
 
 /// The logs of so many entries.
 pub fn logs_of(alloc: Global, shape: Shape, count: u32) -> Result<Vec<Log>, AllocError> {
     let mut logs = Vec::new(alloc);
-    let mut entries = Vec::new(alloc);
-    for number in 0..count {
-        entries.push(entry_of(act_of(alloc, shape, number, count)?))?;
-        if shape == Shape::Registers && number % 2 == 1 {
-            let name = key_of(alloc, shape, number)?;
-            let object = Object::Register(text_of(alloc, name.as_str())?);
-            logs.push(log_of(alloc, object, entries))?;
-            entries = Vec::new(alloc);
-        }
+    let length = if shape == Shape::Registers { 2 } else { count };
+    for first in (0..count).step_by(length.max(1) as usize) {
+        let end = first.saturating_add(length).min(count);
+        logs.push(log_of(alloc, shape, first..end, count)?)?;
     }
-    let object = match shape {
-        Shape::Register | Shape::Registers => Object::Register(text_of(alloc, "r")?),
-        Shape::Rows | Shape::RowsAtRandom | Shape::Same | Shape::Different => Object::Tables,
-    };
-    logs.push(log_of(alloc, object, entries))?;
     Ok(logs)
 }

@@ -1,11 +1,11 @@
 //! What the versions of a row's object tell.
 use crate::fold::start_of;
 use crate::words::{Row, log_of};
-use anyhow::{Context, bail};
 use object_set::ObjectSet;
 use report::Log;
 use script_tree::value::{Node, Value};
 use std::alloc::{AllocError, Global};
+use std::io::{self, ErrorKind};
 use std::slice;
 use versioned_store::VersionedStore;
 use versioned_store::fitting::fit_logs;
@@ -75,17 +75,16 @@ fn answers_of(alloc: Global, store: &VersionedStore<'_>) -> Result<String, Alloc
     Ok(told)
 }
 
-fn told_by(alloc: Global, start: &ObjectSet, logs: &[Log]) -> anyhow::Result<String> {
+fn told_by(alloc: Global, start: &ObjectSet, logs: &[Log]) -> io::Result<String> {
     if !fit_logs(start, logs) {
-        bail!("an entry that doesn't fit");
+        return Err(ErrorKind::InvalidData.into());
     }
     let store = VersionedStore::build(alloc, start, logs)?;
     Ok(answers_of(alloc, &store)?)
 }
 
 /// What the versions of a row's object tell of its entries.
-pub fn versioned(alloc: Global, words: &str) -> anyhow::Result<String> {
-    let row = Row::new(words).context("a row")?;
+pub fn versioned(alloc: Global, row: Row<'_>) -> io::Result<String> {
     let start = start_of(alloc, row)?;
     let log = log_of(alloc, row)?;
     told_by(alloc, &start, slice::from_ref(&log))

@@ -1,10 +1,8 @@
-//! The words of a log. A row names an object (`register`, `store` or `tables`), what it holds at the
-//! start, a colon and its entries. A register starts with numbers, of which the last stands; its
-//! entries are `r` and `w5`. A store and the table start with keys of one letter and numbers, `a1`. A
-//! store's entries are `ga`, `pa5` and `xa`. Those of the table are statements with `+` between them:
-//! `ia5` inserts, `sa` selects, `ua5` updates, `da` deletes, `ea1` expects so many; a star in the
-//! letter's place is for all rows.
-use anyhow::{Context, bail};
+//! The words of a log. A row names an object (`register`, `store` or `tables`), the entries that it
+//! starts with, a colon and the entries that are answered. Those of a register are `r` and `w5`. A
+//! store's are `ga`, `pa5` and `xa`, of a key of one letter. Those of the table are statements with
+//! `+` between them: `ia5` inserts, `sa` selects, `ua5` updates, `da` deletes, `ea1` expects so many; a
+//! star in the letter's place is for all rows.
 use basis::Items;
 use object_set::ObjectSet;
 use report::{Log, LogEntry};
@@ -16,8 +14,9 @@ use script_tree::text::Text;
 use script_tree::transaction::{Change, Changes, Columns, Statement, Statements, Test, Tests};
 use script_tree::value::{Value, Values};
 use std::alloc::{AllocError, Global};
+use std::io::{self, ErrorKind};
 
-/// A row: its object, what it holds at the start, and the entries.
+/// A row: its object, the entries that it starts with, and those that are answered.
 #[derive(Clone, Copy)]
 pub struct Row<'a> {
     pub object: &'a str,
@@ -42,28 +41,36 @@ pub fn text_of(alloc: Global, word: &str) -> Result<Text, AllocError> {
 }
 
 fn name_of(alloc: Global, word: &str) -> Result<Name, AllocError> {
-    Ok(Name {
+    let text = text_of(alloc, word)?;
+    Ok(Name { at: 0, text })
+}
+
+fn store(alloc: Global) -> Result<Declaration, AllocError> {
+    let name = name_of(alloc, "s")?;
+    Ok(Declaration::Store { at: 0, name })
+}
+
+fn columns(alloc: Global) -> Result<Names, AllocError> {
+    let mut columns = Names::new(alloc);
+    columns.push(name_of(alloc, "k")?)?;
+    columns.push(name_of(alloc, "n")?)?;
+    Ok(columns)
+}
+
+fn table(alloc: Global) -> Result<Declaration, AllocError> {
+    let columns = columns(alloc)?;
+    let name = name_of(alloc, "t")?;
+    Ok(Declaration::Table {
         at: 0,
-        text: text_of(alloc, word)?,
+        name,
+        columns,
     })
 }
 
 /// A store `s`, and a table `t` with a key and one more column.
 pub fn empty_objects(alloc: Global) -> Result<ObjectSet, AllocError> {
-    let mut columns = Names::new(alloc);
-    columns.push(name_of(alloc, "k")?)?;
-    columns.push(name_of(alloc, "n")?)?;
-    let mut declarations = Vec::new(alloc);
-    declarations.push(Declaration::Store {
-        at: 0,
-        name: name_of(alloc, "s")?,
-    })?;
-    declarations.push(Declaration::Table {
-        at: 0,
-        name: name_of(alloc, "t")?,
-        columns,
-    })?;
-    ObjectSet::new(alloc, declarations.as_slice())
+    let declarations = [store(alloc)?, table(alloc)?];
+    ObjectSet::new(alloc, &declarations)
 }
 
 /// A row of the table.
@@ -74,33 +81,17 @@ pub fn row_of(alloc: Global, key: &str, number: i64) -> Result<Values, AllocErro
     Values::from_vec(values)
 }
 
-/// Adds a row to the table, where it may.
-pub fn add_row(
-    objects: &mut ObjectSet,
-    alloc: Global,
-    key: &str,
-    number: i64,
-) -> anyhow::Result<()> {
-    let row = row_of(alloc, key, number)?;
-    if !objects.tables().fits_row(0, row.as_slice()) {
-        bail!("no row of the table: {key}");
-    }
-    objects.insert_row(0, row)?;
-    Ok(())
-}
-
 /// What the object of a row is.
-fn object_of(alloc: Global, object: &str) -> anyhow::Result<Object> {
+pub fn object_of(alloc: Global, object: &str) -> Result<Object, AllocError> {
     match object {
         "register" => Ok(Object::Register(text_of(alloc, "r")?)),
         "store" => Ok(Object::Store(text_of(alloc, "s")?)),
-        "tables" => Ok(Object::Tables),
-        _ => bail!("no object: {object}"),
+        _ => Ok(Object::Tables),
     }
 }
 
 /// The tests of one key, or of all rows.
-pub fn tests_of(alloc: Global, key: &str) -> Result<Tests, AllocError> {
+fn tests_of(alloc: Global, key: &str) -> Result<Tests, AllocError> {
     let mut tests = Tests::new(alloc);
     if key != "*" {
         tests.push(Test {
@@ -116,10 +107,11 @@ pub fn tests_of(alloc: Global, key: &str) -> Result<Tests, AllocError> {
 pub fn select(alloc: Global, key: &str) -> Result<Statement, AllocError> {
     let mut columns = Columns::new(alloc);
     columns.push(1)?;
+    let tests = tests_of(alloc, key)?;
     Ok(Statement::Select {
         table: 0,
         columns,
-        tests: tests_of(alloc, key)?,
+        tests,
     })
 }
 
@@ -130,65 +122,76 @@ pub fn update(alloc: Global, key: &str, number: i64) -> Result<Statement, AllocE
         column: 1,
         value: Value::number(number),
     })?;
+    let tests = tests_of(alloc, key)?;
     Ok(Statement::Update {
         table: 0,
         changes,
-        tests: tests_of(alloc, key)?,
+        tests,
     })
 }
 
 /// The letter of a word, its key, and its number, which is 0 where none stands.
-fn parts_of(word: &str) -> anyhow::Result<(&str, &str, i64)> {
-    let (letter, rest) = word.split_at_checked(1).context("an entry")?;
+fn parts_of(word: &str) -> Option<(&str, &str, i64)> {
+    let (letter, rest) = word.split_at_checked(1)?;
     let (key, number) = rest.split_at_checked(1).unwrap_or((rest, ""));
-    let number = if number.is_empty() {
-        0
-    } else {
-        number.parse()?
-    };
-    Ok((letter, key, number))
+    Some((letter, key, number.parse().unwrap_or(0)))
 }
 
-fn statement_of(alloc: Global, word: &str) -> anyhow::Result<Statement> {
-    let (letter, key, number) = parts_of(word)?;
-    let tests = tests_of(alloc, key)?;
+fn statement_of(alloc: Global, word: &str) -> io::Result<Statement> {
+    let (letter, key, number) = parts_of(word).ok_or(ErrorKind::InvalidData)?;
     match letter {
         "s" => Ok(select(alloc, key)?),
         "u" => Ok(update(alloc, key, number)?),
-        "i" => Ok(Statement::Insert {
-            table: 0,
-            row: row_of(alloc, key, number)?,
-        }),
-        "d" => Ok(Statement::Delete { table: 0, tests }),
-        "e" => Ok(Statement::Expect {
-            count: number,
-            table: 0,
-            tests,
-        }),
-        _ => bail!("no statement: {word}"),
+        "i" => {
+            let row = row_of(alloc, key, number)?;
+            Ok(Statement::Insert { table: 0, row })
+        }
+        "d" => {
+            let tests = tests_of(alloc, key)?;
+            Ok(Statement::Delete { table: 0, tests })
+        }
+        "e" => {
+            let tests = tests_of(alloc, key)?;
+            Ok(Statement::Expect {
+                count: number,
+                table: 0,
+                tests,
+            })
+        }
+        _ => Err(ErrorKind::InvalidData.into()),
     }
 }
 
-/// The act of an entry.
-fn act_of(alloc: Global, object: &str, word: &str) -> anyhow::Result<Act> {
-    if object == "tables" {
-        let mut statements = Statements::new(alloc);
-        for part in word.split('+') {
-            statements.push(statement_of(alloc, part)?)?;
-        }
-        return Ok(Act::Transact(statements));
+fn transaction_of(alloc: Global, word: &str) -> io::Result<Act> {
+    let mut statements = Statements::new(alloc);
+    for part in word.split('+') {
+        statements.push(statement_of(alloc, part)?)?;
     }
+    Ok(Act::Transact(statements))
+}
+
+/// The act of an entry of a register or of a store.
+fn cell_act_of(alloc: Global, word: &str) -> io::Result<Act> {
     if let Some(number) = word.strip_prefix('w') {
-        return Ok(Act::Write(Value::number(number.parse()?)));
+        let number = number.parse().ok().ok_or(ErrorKind::InvalidData)?;
+        return Ok(Act::Write(Value::number(number)));
     }
-    let (letter, key, number) = parts_of(word)?;
-    let key = text_of(alloc, key)?;
+    let (letter, key, number) = parts_of(word).ok_or(ErrorKind::InvalidData)?;
     match letter {
         "r" => Ok(Act::Read),
-        "g" => Ok(Act::Get(key)),
-        "p" => Ok(Act::Put(key, Value::number(number))),
-        "x" => Ok(Act::Remove(key)),
-        _ => bail!("no entry: {word}"),
+        "g" => Ok(Act::Get(text_of(alloc, key)?)),
+        "p" => Ok(Act::Put(text_of(alloc, key)?, Value::number(number))),
+        "x" => Ok(Act::Remove(text_of(alloc, key)?)),
+        _ => Err(ErrorKind::InvalidData.into()),
+    }
+}
+
+/// The act of an entry of this object.
+pub fn act_of(alloc: Global, object: &str, word: &str) -> io::Result<Act> {
+    if object == "tables" {
+        transaction_of(alloc, word)
+    } else {
+        cell_act_of(alloc, word)
     }
 }
 
@@ -203,25 +206,11 @@ pub fn entry_of(act: Act) -> LogEntry {
 }
 
 /// The log of a row.
-pub fn log_of(alloc: Global, row: Row<'_>) -> anyhow::Result<Log> {
+pub fn log_of(alloc: Global, row: Row<'_>) -> io::Result<Log> {
     let mut entries = Items::new(alloc);
     for word in row.entries.split_whitespace() {
         entries.push(entry_of(act_of(alloc, row.object, word)?))?;
     }
     let object = object_of(alloc, row.object)?;
     Ok(Log { object, entries })
-}
-
-/// What all objects hold where the object of a row holds its start: what the log of its words leaves.
-pub fn start_words(alloc: Global, row: Row<'_>) -> Result<String, AllocError> {
-    let mut words = String::new(alloc);
-    for word in row.start.split_whitespace() {
-        words.push_str(match row.object {
-            "register" => " w",
-            "store" => " p",
-            _ => " i",
-        })?;
-        words.push_str(word)?;
-    }
-    Ok(words)
 }

@@ -2,7 +2,6 @@
 ghost use Rattle.std.specs.Prelude.{IfOk};
 ghost use Rattle.script_tree.specs.Traces.{IsBalanced};
 
-use anyhow::bail;
 use audit_meaning::node::Nodes;
 use audit_meaning::reason::Reason;
 use audit_order::{Ordered, order_events};
@@ -11,6 +10,7 @@ use log_checker::{check_groups, check_logs};
 use object_set::ObjectSet;
 use report::Report;
 use std::alloc::{AllocError, Global};
+use std::io::{self, ErrorKind};
 use trace_format::balance::first_unbalanced;
 use trace_format::trace_file::TraceFile;
 use trace_index::IndexedTrace;
@@ -33,11 +33,11 @@ impl Answer {
 }
 
 /// The trace with its table, where it is balanced.
-pub fn indexed<'a>(alloc: Global, trace: &'a TraceFile) -> anyhow::Result<IndexedTrace<'a>>
+pub fn indexed<'a>(alloc: Global, trace: &'a TraceFile) -> io::Result<IndexedTrace<'a>>
     ensures { IfOk result IsBalanced }
 {
-    if let Some(rid) = first_unbalanced(alloc, trace)? {
-        bail!("not balanced at request {rid}");
+    if first_unbalanced(alloc, trace)?.is_some() {
+        return Err(ErrorKind::InvalidData.into());
     }
     Ok(IndexedTrace::new(alloc, trace)?)
 }

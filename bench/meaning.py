@@ -488,6 +488,7 @@ class Run:
         self.steps, self.decisions, self.issued = 0, [], 0
         self.status, self.echoed, self.length = 200, [], 0
         self.operation = self.response = None
+        self.fault = 0
         self.code = program.pages.get(path)
         if self.code is None:
             self.end(404, b"no page\n")
@@ -505,7 +506,7 @@ class Run:
                 self.at += 1
                 action(self, *taken)
         except Fault as fault:
-            self.end(500, b"fault %d\n" % fault.args)
+            self.fail(*fault.args)
 
     def answer(self, value):
         self.operation = None
@@ -513,7 +514,11 @@ class Run:
             self.stack.append(value)
             self.go()
         else:
-            self.end(500, b"fault 5\n")
+            self.fail(5)
+
+    def fail(self, fault):
+        self.fault = fault
+        self.end(500, b"fault %d\n" % fault)
 
     def end(self, status, body):
         self.response = status, body
@@ -712,23 +717,34 @@ def finding(program, objects, trace, schedule):
     return b"agrees: moments %d\n" % len(schedule)
 
 
-def line_of_replay(program, state, trace, schedule):
-    """The line for the bytes of four files."""
+class Faulty(Exception):
+    """The line of an input at fault."""
+
+
+def inputs_of(program, state, trace):
+    """The program, the objects and the events that these bytes spell."""
     line = line_of(program)
     if not line.startswith(b"ok"):
-        return line
+        raise Faulty(line)
     program = Program(program)
     try:
         objects = objects_of(state, program, Objects(program.stores, program.tables), List, is_within_limits)
         trace = records.read(trace, "trace")
     except StateFault as kind:
-        return b"state: kind %d\n" % kind.args
+        raise Faulty(b"state: kind %d\n" % kind.args) from None
     except records.Unreadable as place:
-        return b"trace: unreadable at %d\n" % place.args
+        raise Faulty(b"trace: unreadable at %d\n" % place.args) from None
     number = unbalanced(trace)
     if number is not None:
-        return b"trace: not balanced at request %d\n" % number
+        raise Faulty(b"trace: not balanced at request %d\n" % number)
+    return program, objects, trace
+
+
+def line_of_replay(program, state, trace, schedule):
+    """The line for the bytes of four files."""
     try:
-        return finding(program, objects, trace, records.read(schedule, "schedule"))
+        return finding(*inputs_of(program, state, trace), records.read(schedule, "schedule"))
+    except Faulty as fault:
+        return fault.args[0]
     except records.Unreadable as place:
         return b"differs 1: unreadable at %d\n" % place.args

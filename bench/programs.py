@@ -1,4 +1,4 @@
-"""Programs that `bench/check`, `bench/fuzz_check` and `bench/fuzz_replay` make. All but those of `Careless` are valid."""
+"""Programs that `bench/check` makes and the scripts of bench/ that run files at random. All but those of `Careless` are valid."""
 
 import random
 
@@ -479,6 +479,29 @@ function none(x) { do x; }
             parts.append(f'page "/{number}" {self.block(3, most=12)}\n')
         self.random.shuffle(parts)
         return "".join(parts).encode()
+
+
+OPERATIONS = [
+    'do write("a", x);', 'do write("b", [x]);', 'set x = read("a");', 'set y = read("b");', 'do put(s0, "a", y);',
+    'set x = get(s0, "a");', 'do remove(s0, "a");', 'do put(s1, "b", x);', 'set y = get(s1, "b");', "set y = clock();", "echo clock();",
+    "echo random(6);", "set x = random(2);", 'set y = transact { insert t1 ("c", x, 1); };',
+    'do transact { update t1 set v = x where k == "a"; };', "set y = transact { select k, v from t1 where w != null; };",
+    'do transact { delete t1 where k == "c"; insert t0 ("c"); };',
+    'set x = transact { expect 1 from t1 where k == "a"; delete t1 where k == "a"; };', 'if x == null { do write("a", 0); }',
+    'if x == 1 { echo read("a") == null; } else { do write("b", 2); }', "echo kind(x);", "echo x == y;",
+    'set x = read(str(param("c")));',
+]
+ENDS = ["", 'set y = num(param("b")) + 9223372036854775807;', 'set x = num(param("a")) + 1; set y = num(param("b")) + 1;']
+"""Of these two end by faults that differ in their number or in their steps alone."""
+
+
+def busy(source):
+    """A program of the objects of `Running`, of which two pages do little else than operations."""
+    pages = []
+    for number in range(2):
+        body = " ".join(source.choices(OPERATIONS, k=source.randint(1, 9)))
+        pages.append(f'page "/{number}" {{ let x = param("a"); let y = null; {body} {source.choice(ENDS)} }}\n')
+    return f"store s0; store s1; table t0 (k); table t1 (k, v, w);\n{''.join(pages)}".encode()
 
 
 def ok(pages, functions, stores=0, tables=0):

@@ -1,4 +1,4 @@
-"""The workloads that bench/replay and bench/record time, and how a run is timed.
+"""The workloads that bench/replay, bench/record and bench/audit time, and how a run is timed.
 
 A workload is a program, a state, and the path and parameters of each request:
 
@@ -12,6 +12,7 @@ A workload is a program, a state, and the path and parameters of each request:
     state      one request on a table of 1,000,000 rows
 """
 
+import json
 import os
 import subprocess
 import time
@@ -136,6 +137,15 @@ KINDS = {
 
 
 # ---- runs
+
+def prepare(folder, text, state, requests):
+    """Makes a folder with the inputs of a recording."""
+    jobs = [{"path": path, "params": list(parameters.items())} for path, parameters in requests]
+    os.mkdir(folder)
+    for name, data in {"program": text, "state": state, "requests": json.dumps(jobs).encode()}.items():
+        with open(os.path.join(folder, name), "wb") as file:
+            file.write(data)
+
 
 def run(words, folder):
     """The line, the status, the seconds, the processor's seconds and the peak MiB of one run.

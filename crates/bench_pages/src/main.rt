@@ -8,44 +8,45 @@ mod inputs;
 
 use crate::engine::{steps_by_machine, steps_by_walker};
 use crate::inputs::program_of;
-use anyhow::{Context, bail};
 use script_check::program::Program;
-use std::alloc::{AllocError, Global};
+use std::alloc::Global;
+use std::io::{self, ErrorKind};
 use std::{env, fs};
 
-/// The steps of so many runs of the page of this path, where there is an engine of this name.
-fn steps(
+fn main(rt: HostRuntime) -> io::Result<()> {
+    let words = Vec::from_iter(rt.alloc(), env::args(&rt)?)?;
+    run(&rt, words.as_slice())
+}
+
+/// Does what the words say, of which the first is the program's name.
+fn run(rt: &HostRuntime, words: &[String]) -> io::Result<()> {
+    let [_, engine, file, path, times] = words else {
+        eprintln!(rt; "the words are: ENGINE FILE PATH TIMES")?;
+        return Err(ErrorKind::InvalidInput.into());
+    };
+    let times = times.parse().ok().ok_or(ErrorKind::InvalidInput)?;
+    let text = fs::read(rt, file.as_str())?;
+    let steps = steps(rt.alloc(), engine.as_str(), &text, path.as_str(), times)?;
+    println!(rt; "steps {steps}")
+}
+
+/// The steps of so many runs of the page of this path of the program that this text spells.
+fn steps(alloc: Global, engine: &str, text: &[u8], path: &str, times: u32) -> io::Result<u64> {
+    let program = program_of(alloc, text).ok_or(ErrorKind::InvalidData)?;
+    steps_by(alloc, engine, &program, path, times)
+}
+
+/// The same by the engine of this name, where there is one.
+fn steps_by(
     alloc: Global,
     engine: &str,
     program: &Program,
     path: &str,
     times: u32,
-) -> Result<Option<u64>, AllocError> {
+) -> io::Result<u64> {
     match engine {
-        "machine" => Ok(Some(steps_by_machine(alloc, program, path, times)?)),
-        "walker" => Ok(Some(steps_by_walker(alloc, program, path, times)?)),
-        _ => Ok(None),
+        "machine" => Ok(steps_by_machine(alloc, program, path, times)?),
+        "walker" => Ok(steps_by_walker(alloc, program, path, times)?),
+        _ => Err(ErrorKind::InvalidInput.into()),
     }
-}
-
-/// What these words ask for.
-fn run(rt: &HostRuntime, words: &[String]) -> anyhow::Result<u64> {
-    let [engine, file, path, times] = words else {
-        bail!("the words are: ENGINE FILE PATH TIMES");
-    };
-    let times = times.parse().context("TIMES is a number")?;
-    let text = fs::read(rt, file.as_str()).context("reading FILE")?;
-    let program = program_of(rt.alloc(), &text).context("FILE holds no program")?;
-    let steps = steps(rt.alloc(), engine.as_str(), &program, path.as_str(), times)?;
-    steps.context("the engine is machine or walker")
-}
-
-fn main(rt: HostRuntime) -> anyhow::Result<()> {
-    let mut words = Vec::new(rt.alloc());
-    for word in env::args(&rt)?.skip(1) {
-        words.push(word)?;
-    }
-    let steps = run(&rt, words.as_slice())?;
-    println!(rt; "steps {steps}")?;
-    Ok(())
 }

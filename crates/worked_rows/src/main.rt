@@ -10,8 +10,8 @@ mod tally;
 use crate::row::Row;
 use crate::runs::{checked, recorded, replayed};
 use crate::tally::{Tally, told};
-use std::alloc::Global;
 use std::fs;
+use std::io::{self, ErrorKind};
 
 /// The files of rows.
 const CHECKS: &str = "checks.txt";
@@ -20,53 +20,56 @@ const REPLAYS: &str = "replays.txt";
 
 const RECORDS: &str = "records.txt";
 
+fn main(rt: HostRuntime) -> io::Result<()> {
+    run_checks(&rt, &fs::read_to_string(&rt, CHECKS)?)?;
+    run_rows(&rt, REPLAYS, &fs::read_to_string(&rt, REPLAYS)?)?;
+    run_rows(&rt, RECORDS, &fs::read_to_string(&rt, RECORDS)?)
+}
+
 /// Runs the programs that are checked: a line each, with its end before the program.
-fn run_checks(rt: &HostRuntime, alloc: Global) -> anyhow::Result<()> {
-    let text = fs::read_to_string(rt, CHECKS)?;
+fn run_checks(rt: &HostRuntime, text: &str) -> io::Result<()> {
     let mut tally = Tally::new();
-    for line in text.as_str().lines() {
+    for line in text.lines() {
         if let Some((ends, program)) = line.split_once(" |")
             && !line.starts_with('#')
         {
             let program = program.strip_prefix(' ').unwrap_or(program);
-            let ended = told(alloc, checked(alloc, program))?;
+            let ended = told(rt.alloc(), checked(rt.alloc(), program))?;
             tally.count(rt, program, ends, ended.as_str())?;
         }
     }
     tally.tell(rt, CHECKS)
 }
 
-/// Runs the replays.
-fn run_replays(rt: &HostRuntime, alloc: Global) -> anyhow::Result<()> {
-    let text = fs::read_to_string(rt, REPLAYS)?;
+/// Runs the replays or the recordings: a paragraph each.
+fn run_rows(rt: &HostRuntime, file: &str, text: &str) -> io::Result<()> {
     let mut tally = Tally::new();
-    for paragraph in text.as_str().split("\n\n") {
-        let row = Row::new(paragraph)?;
+    for paragraph in text.split("\n\n") {
+        let row = read_row(rt, paragraph)?;
         if let Some(name) = row.field("row") {
-            let ended = told(alloc, replayed(alloc, row))?;
+            let ended = row_told(rt, file, row)?;
             tally.count(rt, name, row.said("ends"), ended.as_str())?;
         }
     }
-    tally.tell(rt, REPLAYS)
+    tally.tell(rt, file)
 }
 
-/// Runs the recordings.
-fn run_records(rt: &HostRuntime, alloc: Global) -> anyhow::Result<()> {
-    let text = fs::read_to_string(rt, RECORDS)?;
-    let mut tally = Tally::new();
-    for paragraph in text.as_str().split("\n\n") {
-        let row = Row::new(paragraph)?;
-        if let Some(name) = row.field("row") {
-            let ended = told(alloc, recorded(alloc, row))?;
-            tally.count(rt, name, row.said("ends"), ended.as_str())?;
+fn read_row<'a>(rt: &HostRuntime, paragraph: &'a str) -> io::Result<Row<'a>> {
+    match Row::new(paragraph) {
+        Ok(row) => Ok(row),
+        Err(line) => {
+            eprintln!(rt; "no row has this line: {line}")?;
+            Err(ErrorKind::InvalidData.into())
         }
     }
-    tally.tell(rt, RECORDS)
 }
 
-fn main(rt: HostRuntime) -> anyhow::Result<()> {
-    let alloc = rt.alloc();
-    run_checks(&rt, alloc)?;
-    run_replays(&rt, alloc)?;
-    run_records(&rt, alloc)
+/// What a row of a file comes to.
+fn row_told(rt: &HostRuntime, file: &str, row: Row<'_>) -> io::Result<String> {
+    let ended = if file == REPLAYS {
+        replayed(rt.alloc(), row)
+    } else {
+        recorded(rt, row)
+    };
+    Ok(told(rt.alloc(), ended)?)
 }

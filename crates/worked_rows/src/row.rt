@@ -1,6 +1,6 @@
 //! The form of the rows.
-use anyhow::bail;
 use std::alloc::{AllocError, Global};
+use std::io::{self, ErrorKind};
 
 /// A row: lines, each a key, a blank and what it says.
 #[derive(Clone, Copy)]
@@ -9,14 +9,19 @@ pub struct Row<'a> {
 }
 
 /// What a line may begin with. After `#` it says nothing.
-const KEYS: [&str; 14] = [
-    "#", "", "row", "program", "state", "schedule", "requests", "turns", "seed", "clock", "ends",
-    "request", "response", "report",
+const KEYS: [&str; 15] = [
+    "#", "", "row", "program", "state", "schedule", "requests", "turns", "files", "seed", "clock",
+    "ends", "request", "response", "report",
 ];
 
 /// The first word of a line, and the rest of it.
 pub fn parted(line: &str) -> (&str, &str) {
     line.split_once(' ').unwrap_or((line, ""))
+}
+
+/// The number that a word is.
+pub fn number_of(word: &str) -> io::Result<u32> {
+    word.parse().ok().ok_or(ErrorKind::InvalidData.into())
 }
 
 fn is_key(word: &str) -> bool {
@@ -29,12 +34,12 @@ fn is_key(word: &str) -> bool {
 }
 
 impl<'a> Row<'a> {
-    /// The row of this text. A line with another key is refused.
-    pub fn new(text: &'a str) -> anyhow::Result<Row<'a>> {
+    /// The row of this text, or its first line with another key.
+    pub fn new(text: &'a str) -> Result<Row<'a>, &'a str> {
         for line in text.lines() {
             let (key, _) = parted(line);
             if !is_key(key) {
-                bail!("no row has this line: {line}");
+                return Err(line);
             }
         }
         Ok(Row { text })
@@ -64,23 +69,24 @@ impl<'a> Row<'a> {
 
 /// The text that a row spells: the picture of a control character or of a blank stands for it, and
 /// `⟨9×ab⟩` for nine times `ab`.
-pub fn text_of(alloc: Global, spelled: &str) -> anyhow::Result<String> {
+pub fn text_of(alloc: Global, spelled: &str) -> io::Result<String> {
     let mut text = String::new(alloc);
     for piece in spelled.split('⟨') {
-        match piece.split_once('⟩') {
-            Some((repeated, rest)) => {
-                push_repeated(&mut text, repeated)?;
-                push_plain(&mut text, rest)?;
-            }
-            None => push_plain(&mut text, piece)?,
-        }
+        push_piece(&mut text, piece)?;
     }
     Ok(text)
 }
 
-fn push_repeated(text: &mut String, repeated: &str) -> anyhow::Result<()> {
+/// Pushes what a piece spells, which begins with what is repeated, where a `⟩` ends that.
+fn push_piece(text: &mut String, piece: &str) -> io::Result<()> {
+    let (repeated, plain) = piece.split_once('⟩').unwrap_or(("0×", piece));
+    push_repeated(text, repeated)?;
+    Ok(push_plain(text, plain)?)
+}
+
+fn push_repeated(text: &mut String, repeated: &str) -> io::Result<()> {
     let (times, part) = repeated.split_once('×').unwrap_or(("", ""));
-    for _ in 0..times.parse::<u32>()? {
+    for _ in 0..number_of(times)? {
         text.push_str(part)?;
     }
     Ok(())

@@ -5,6 +5,8 @@ use command_words::Words;
 use commands::run::run;
 use outside::{FixedClock, MemHouse, MemShelf, MemSink, OpenGate};
 use std::alloc::{AllocError, Global};
+use std::fs;
+use std::io::{self, ErrorKind};
 
 /// The names of the files of a run.
 const PROGRAM: &str = "program";
@@ -21,8 +23,24 @@ const TURNS: &str = "turns";
 
 const REPORT: &str = "report";
 
+/// The inputs of a recording, with the names of their files in a folder.
+const INPUTS: [(&str, &str); 4] = [
+    (PROGRAM, "program.txt"),
+    (STATE, "state.json"),
+    (REQUESTS, "requests.json"),
+    (TURNS, "turns.json"),
+];
+
 /// The state where a row says none.
 const NOTHING_STORED: &str = "{}";
+
+fn words_of(alloc: Global, texts: &[&str]) -> Result<Words, AllocError> {
+    let mut words = Words::new(alloc);
+    for text in texts {
+        words.push(text)?;
+    }
+    Ok(words)
+}
 
 /// The status and the line with which the program ends, with these words, over these files, and where
 /// the clock shows this.
@@ -32,68 +50,121 @@ fn ended(
     shelf: &mut MemShelf,
     clock: u64,
 ) -> Result<String, AllocError> {
-    let mut words = Words::new(alloc);
-    for text in texts {
-        words.push(text)?;
-    }
+    let words = words_of(alloc, texts)?;
     let mut out = MemSink::new(alloc, Vec::new(alloc), None);
+    let status = status_of(alloc, &words, shelf, &mut out, clock);
+    line_of(alloc, status, out.written())
+}
+
+fn status_of(
+    alloc: Global,
+    words: &Words,
+    shelf: &mut MemShelf,
+    out: &mut MemSink,
+    clock: u64,
+) -> u8 {
     let mut house = MemHouse::new(alloc, Vec::new(alloc), Vec::new(alloc));
     let clock = FixedClock(clock);
-    let status = run(
-        alloc, &words, shelf, &mut out, &mut house, &clock, &OpenGate,
-    );
-    let line = String::from_utf8_lossy(alloc, out.written())?;
+    run(alloc, words, shelf, out, &mut house, &clock, &OpenGate)
+}
+
+fn line_of(alloc: Global, status: u8, written: &[u8]) -> Result<String, AllocError> {
+    let line = String::from_utf8_lossy(alloc, written)?;
     format!(in alloc; "{status} {}", line.as_str().trim_end())
 }
 
 /// Puts the text that is spelled so under the name.
-fn put(alloc: Global, shelf: &mut MemShelf, name: &str, spelled: &str) -> anyhow::Result<()> {
+fn put(alloc: Global, shelf: &mut MemShelf, name: &str, spelled: &str) -> io::Result<()> {
     let text = text_of(alloc, spelled)?;
-    shelf.put(name, text.as_bytes())?;
+    Ok(shelf.put(name, text.as_bytes())?)
+}
+
+/// Puts the file of a folder under the name.
+fn put_file(
+    rt: &HostRuntime,
+    shelf: &mut MemShelf,
+    name: &str,
+    folder: &str,
+    file: &str,
+) -> io::Result<()> {
+    let path = format!(in rt.alloc(); "{folder}/{file}")?;
+    Ok(shelf.put(name, &fs::read(rt, path.as_str())?)?)
+}
+
+/// Puts the program and the state of a row.
+fn put_start(alloc: Global, shelf: &mut MemShelf, row: Row<'_>) -> io::Result<()> {
+    put(alloc, shelf, PROGRAM, row.said(PROGRAM))?;
+    put(
+        alloc,
+        shelf,
+        STATE,
+        row.field(STATE).unwrap_or(NOTHING_STORED),
+    )
+}
+
+/// Puts the inputs of a recording.
+fn put_inputs(rt: &HostRuntime, shelf: &mut MemShelf, row: Row<'_>) -> io::Result<()> {
+    if let Some(folder) = row.field("files") {
+        for (name, file) in INPUTS {
+            put_file(rt, shelf, name, folder, file)?;
+        }
+        return Ok(());
+    }
+    put_start(rt.alloc(), shelf, row)?;
+    put(rt.alloc(), shelf, REQUESTS, row.said(REQUESTS))?;
+    put(rt.alloc(), shelf, TURNS, row.said(TURNS))
+}
+
+/// Puts the inputs of a replay.
+fn put_moments(alloc: Global, shelf: &mut MemShelf, row: Row<'_>) -> io::Result<()> {
+    put_start(alloc, shelf, row)?;
+    shelf.put(TRACE, &trace_of(alloc, row)?)?;
+    shelf.put(SCHEDULE, &schedule_of(alloc, row.said(SCHEDULE))?)?;
     Ok(())
 }
 
-/// The program and the state of a row.
-fn shelf_of(alloc: Global, row: Row<'_>) -> anyhow::Result<MemShelf> {
-    let mut shelf = MemShelf::new(alloc, Vec::new(alloc));
-    put(alloc, &mut shelf, PROGRAM, row.said(PROGRAM))?;
-    let state = row.field(STATE).unwrap_or(NOTHING_STORED);
-    put(alloc, &mut shelf, STATE, state)?;
-    Ok(shelf)
-}
-
 /// How the check of a program ends.
-pub fn checked(alloc: Global, program: &str) -> anyhow::Result<String> {
+pub fn checked(alloc: Global, program: &str) -> io::Result<String> {
     let mut shelf = MemShelf::new(alloc, Vec::new(alloc));
     put(alloc, &mut shelf, PROGRAM, program)?;
     Ok(ended(alloc, &["check", PROGRAM], &mut shelf, 0)?)
 }
 
 /// How a replay ends.
-pub fn replayed(alloc: Global, row: Row<'_>) -> anyhow::Result<String> {
-    let mut shelf = shelf_of(alloc, row)?;
-    shelf.put(TRACE, &trace_of(alloc, row)?)?;
-    shelf.put(SCHEDULE, &schedule_of(alloc, row.said(SCHEDULE))?)?;
+pub fn replayed(alloc: Global, row: Row<'_>) -> io::Result<String> {
+    let mut shelf = MemShelf::new(alloc, Vec::new(alloc));
+    put_moments(alloc, &mut shelf, row)?;
     let words = ["replay", PROGRAM, STATE, TRACE, SCHEDULE];
     Ok(ended(alloc, &words, &mut shelf, 0)?)
 }
 
 /// How a recording ends, and whether it writes other files than it should.
-pub fn recorded(alloc: Global, row: Row<'_>) -> anyhow::Result<String> {
-    let mut shelf = shelf_of(alloc, row)?;
-    put(alloc, &mut shelf, REQUESTS, row.said(REQUESTS))?;
-    put(alloc, &mut shelf, TURNS, row.said(TURNS))?;
+pub fn recorded(rt: &HostRuntime, row: Row<'_>) -> io::Result<String> {
+    let mut shelf = MemShelf::new(rt.alloc(), Vec::new(rt.alloc()));
+    put_inputs(rt, &mut shelf, row)?;
+    recorded_over(rt.alloc(), &mut shelf, row)
+}
+
+/// The same over a row's inputs.
+fn recorded_over(alloc: Global, shelf: &mut MemShelf, row: Row<'_>) -> io::Result<String> {
     let seed = row.field("seed").unwrap_or("0");
-    let clock = row.field("clock").unwrap_or("0").parse()?;
+    let clock = row.field("clock").unwrap_or("0").parse();
+    let clock = clock.ok().ok_or(ErrorKind::InvalidData)?;
     let words = [
         "record", PROGRAM, STATE, REQUESTS, TRACE, REPORT, "--seed", seed, "--turns", TURNS,
     ];
-    let used = if row.field(TURNS).is_some() { 10 } else { 8 };
-    let ended = ended(alloc, &words[..used], &mut shelf, clock)?;
-    if has_other_trace(alloc, &shelf, row)? {
+    let has_turns = row.field(TURNS).is_some() || row.field("files").is_some();
+    let used = if has_turns { 10 } else { 8 };
+    let ended = ended(alloc, &words[..used], shelf, clock)?;
+    with_others(alloc, shelf, row, ended)
+}
+
+/// How it ends, with what is written otherwise than it should.
+fn with_others(alloc: Global, shelf: &MemShelf, row: Row<'_>, ended: String) -> io::Result<String> {
+    if has_other_trace(alloc, shelf, row)? {
         return Ok(format!(in alloc; "{ended}, with another trace")?);
     }
-    if has_other_report(alloc, &shelf, row)? {
+    if has_other_report(alloc, shelf, row)? {
         return Ok(format!(in alloc; "{ended}, with another report")?);
     }
     Ok(ended)
@@ -101,7 +172,7 @@ pub fn recorded(alloc: Global, row: Row<'_>) -> anyhow::Result<String> {
 
 /// Whether the trace is another one than the row tells; where it tells none, whether one is there
 /// though the recording is to fail, or isn't though it is to end well.
-fn has_other_trace(alloc: Global, shelf: &MemShelf, row: Row<'_>) -> anyhow::Result<bool> {
+fn has_other_trace(alloc: Global, shelf: &MemShelf, row: Row<'_>) -> io::Result<bool> {
     let ends_well = row.said("ends").starts_with("0 ");
     if row.field("request").is_none() {
         return Ok(shelf.get(TRACE).is_some() != ends_well);

@@ -1,10 +1,10 @@
 //! The bytes of a row's trace and schedule, as docs/formats.md says.
-use crate::row::{Row, parted, text_of};
-use anyhow::Context;
+use crate::row::{Row, number_of, parted, text_of};
 use std::alloc::Global;
+use std::io::{self, ErrorKind};
 
 /// The bytes of a trace of the row's events.
-pub fn trace_of(alloc: Global, row: Row<'_>) -> anyhow::Result<Vec<u8>> {
+pub fn trace_of(alloc: Global, row: Row<'_>) -> io::Result<Vec<u8>> {
     let mut trace = b"SSCOTRC1".to_vec(alloc)?;
     for line in row.text().lines() {
         match parted(line) {
@@ -17,20 +17,26 @@ pub fn trace_of(alloc: Global, row: Row<'_>) -> anyhow::Result<Vec<u8>> {
 }
 
 /// The bytes of a schedule of these moments, parted by blanks; `X0*9` stands for nine of one.
-pub fn schedule_of(alloc: Global, moments: &str) -> anyhow::Result<Vec<u8>> {
+pub fn schedule_of(alloc: Global, moments: &str) -> io::Result<Vec<u8>> {
     let mut schedule = b"SSCOSCH1".to_vec(alloc)?;
     for word in moments.split_whitespace() {
-        let (word, times) = word.split_once('*').unwrap_or((word, "1"));
-        let moment = moment_of(alloc, word)?;
-        for _ in 0..times.parse::<u32>()? {
-            put_bytes(&mut schedule, &moment)?;
-        }
+        put_moments(alloc, &mut schedule, word)?;
     }
     Ok(schedule)
 }
 
+fn put_moments(alloc: Global, schedule: &mut Vec<u8>, word: &str) -> io::Result<()> {
+    let (word, times) = word.split_once('*').unwrap_or((word, "1"));
+    let times = number_of(times)?;
+    let moment = moment_of(alloc, word)?;
+    for _ in 0..times {
+        put_bytes(schedule, &moment)?;
+    }
+    Ok(())
+}
+
 /// The payload of a request: its id, its method, its path, its parameters, and after a bar its body.
-fn request_of(alloc: Global, said: &str) -> anyhow::Result<Vec<u8>> {
+fn request_of(alloc: Global, said: &str) -> io::Result<Vec<u8>> {
     let (head, body) = said.split_once(" | ").unwrap_or((said, ""));
     let (id, head) = parted(head);
     let (method, head) = parted(head);
@@ -44,11 +50,11 @@ fn request_of(alloc: Global, said: &str) -> anyhow::Result<Vec<u8>> {
 }
 
 /// Each word is a name, `=` and a value.
-fn put_parameters(alloc: Global, payload: &mut Vec<u8>, words: &str) -> anyhow::Result<()> {
+fn put_parameters(alloc: Global, payload: &mut Vec<u8>, words: &str) -> io::Result<()> {
     let count = words.split_whitespace().count();
     put_count(payload, count)?;
     for word in words.split_whitespace() {
-        let (name, value) = word.split_once('=').context("a parameter")?;
+        let (name, value) = word.split_once('=').ok_or(ErrorKind::InvalidData)?;
         put_text(alloc, payload, name)?;
         put_text(alloc, payload, value)?;
     }
@@ -56,61 +62,61 @@ fn put_parameters(alloc: Global, payload: &mut Vec<u8>, words: &str) -> anyhow::
 }
 
 /// The payload of a response: its id, its status, its body.
-fn response_of(alloc: Global, said: &str) -> anyhow::Result<Vec<u8>> {
+fn response_of(alloc: Global, said: &str) -> io::Result<Vec<u8>> {
     let (id, rest) = parted(said);
     let (status, body) = parted(rest);
     let mut payload = payload_of(alloc, 2, id)?;
-    payload.extend_from_slice(&status.parse::<u16>()?.to_be_bytes())?;
+    payload.extend_from_slice(&status_of(status)?.to_be_bytes())?;
     put_text(alloc, &mut payload, body)?;
     Ok(payload)
 }
 
+fn status_of(word: &str) -> io::Result<u16> {
+    word.parse().ok().ok_or(ErrorKind::InvalidData.into())
+}
+
 /// The payload of a moment: `A0`, `X0`, `X0=5` or `D0`.
-fn moment_of(alloc: Global, word: &str) -> anyhow::Result<Vec<u8>> {
+fn moment_of(alloc: Global, word: &str) -> io::Result<Vec<u8>> {
     if let Some(id) = word.strip_prefix('A') {
         return payload_of(alloc, 1, id);
     }
     if let Some(id) = word.strip_prefix('D') {
         return payload_of(alloc, 3, id);
     }
-    let act = word.strip_prefix('X').context("a moment")?;
+    let act = word.strip_prefix('X').ok_or(ErrorKind::InvalidData)?;
     let (id, number) = act.split_once('=').unwrap_or((act, ""));
     let mut payload = payload_of(alloc, 2, id)?;
     put_choice(&mut payload, number)?;
     Ok(payload)
 }
 
-fn put_choice(payload: &mut Vec<u8>, number: &str) -> anyhow::Result<()> {
+fn put_choice(payload: &mut Vec<u8>, number: &str) -> io::Result<()> {
     if number.is_empty() {
-        payload.push(0)?;
-    } else {
-        payload.push(1)?;
-        payload.extend_from_slice(&number.parse::<i64>()?.to_be_bytes())?;
+        return Ok(payload.push(0)?);
     }
-    Ok(())
+    let number: i64 = number.parse().ok().ok_or(ErrorKind::InvalidData)?;
+    payload.push(1)?;
+    Ok(payload.extend_from_slice(&number.to_be_bytes())?)
 }
 
 /// A payload that begins with its kind and an id.
-fn payload_of(alloc: Global, kind: u8, id: &str) -> anyhow::Result<Vec<u8>> {
-    let mut payload = Vec::new(alloc);
-    payload.push(kind)?;
-    payload.extend_from_slice(&id.parse::<u32>()?.to_be_bytes())?;
-    Ok(payload)
+fn payload_of(alloc: Global, kind: u8, id: &str) -> io::Result<Vec<u8>> {
+    let [a, b, c, d] = number_of(id)?.to_be_bytes();
+    Ok(Vec::from_slice(alloc, &[kind, a, b, c, d])?)
 }
 
-fn put_text(alloc: Global, payload: &mut Vec<u8>, spelled: &str) -> anyhow::Result<()> {
+fn put_text(alloc: Global, payload: &mut Vec<u8>, spelled: &str) -> io::Result<()> {
     let text = text_of(alloc, spelled)?;
     put_bytes(payload, text.as_bytes())
 }
 
 /// Puts the bytes behind their length.
-fn put_bytes(file: &mut Vec<u8>, bytes: &[u8]) -> anyhow::Result<()> {
+fn put_bytes(file: &mut Vec<u8>, bytes: &[u8]) -> io::Result<()> {
     put_count(file, bytes.len())?;
-    file.extend_from_slice(bytes)?;
-    Ok(())
+    Ok(file.extend_from_slice(bytes)?)
 }
 
-fn put_count(file: &mut Vec<u8>, count: usize) -> anyhow::Result<()> {
-    file.extend_from_slice(&u32::try_from(count)?.to_be_bytes())?;
-    Ok(())
+fn put_count(file: &mut Vec<u8>, count: usize) -> io::Result<()> {
+    let count = u32::try_from(count).ok().ok_or(ErrorKind::InvalidData)?;
+    Ok(file.extend_from_slice(&count.to_be_bytes())?)
 }

@@ -2,10 +2,10 @@ use std::alloc::{AllocError, Global};
 use std::io;
 
 /// What a row comes to, or why it can't be run.
-pub fn told(alloc: Global, ended: anyhow::Result<String>) -> Result<String, AllocError> {
+pub fn told(alloc: Global, ended: io::Result<String>) -> Result<String, AllocError> {
     match ended {
         Ok(ended) => Ok(ended),
-        Err(error) => format!(in alloc; "{error:#}"),
+        Err(error) => format!(in alloc; "{error}"),
     }
 }
 
@@ -38,8 +38,7 @@ impl Tally {
     }
 
     /// Prints the counts of a file.
-    pub fn tell(self, rt: &impl Print, file: &str) -> anyhow::Result<()> {
-        println!(rt; "{file}: {} rows, {} differ", self.rows, self.differ)?;
-        Ok(())
+    pub fn tell(self, rt: &impl Print, file: &str) -> io::Result<()> {
+        println!(rt; "{file}: {} rows, {} differ", self.rows, self.differ)
     }
 }

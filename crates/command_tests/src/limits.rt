@@ -1,7 +1,9 @@
 //! Inputs at their limit, and one byte past it. Of the others the contracts say the same.
 
 use crate::runs::shelf_of;
-use command_inputs::{InputError, InputFault, Role, read_schedule, read_trace, read_turns};
+use command_inputs::{
+    InputError, InputFault, Role, read_report, read_schedule, read_trace, read_turns,
+};
 use outside::{MemShelf, Shelf};
 use std::alloc::{AllocError, Global};
 
@@ -11,6 +13,7 @@ fn refusal<F: Shelf>(alloc: Global, shelf: &mut F, role: Role, most: u32) -> Opt
     match role {
         Role::Turns => read_turns(alloc, shelf, name, most as usize).err(),
         Role::Trace => read_trace(alloc, shelf, name, most as usize).err(),
+        Role::Report => read_report(alloc, shelf, name, most as usize).err(),
         Role::Schedule => read_schedule(alloc, shelf, name, most as usize).err(),
         Role::Program | Role::State | Role::Requests => Some(AllocError.into()),
     }
@@ -24,16 +27,22 @@ fn has(alloc: Global, shelf: &mut MemShelf, role: Role, len: u32) -> bool {
 }
 
 fn all_have(alloc: Global) -> Result<bool, AllocError> {
-    let files: [(&str, &[u8]); 3] = [
+    let files: [(&str, &[u8]); 4] = [
         ("turns", b"[ ]"),
         ("trace", b"SSCOTRC1"),
+        ("report", b"SSCORPT1"),
         ("schedule", b"SSCOSCH1"),
     ];
     let mut shelf = shelf_of(alloc, &files, Vec::new(alloc))?;
     Ok(
-        [(Role::Turns, 3), (Role::Trace, 8), (Role::Schedule, 8)]
-            .iter()
-            .all(|(role, len)| has(alloc, &mut shelf, *role, *len)),
+        [
+            (Role::Turns, 3),
+            (Role::Trace, 8),
+            (Role::Report, 8),
+            (Role::Schedule, 8),
+        ]
+        .iter()
+        .all(|(role, len)| has(alloc, &mut shelf, *role, *len)),
     )
 }
 

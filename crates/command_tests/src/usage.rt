@@ -4,10 +4,15 @@ use crate::runs::{Files, THREE, THREE_SCHEDULE, THREE_TRACE, ends};
 use std::alloc::{AllocError, Global};
 
 /// Lines that no command takes.
-const REFUSED: [&str; 11] = [
+const REFUSED: [&str; 16] = [
     "",
     "help",
-    "audit p s t c",
+    "audit p s t r",
+    "audit p s t r c c",
+    "audit p s t r c --workers 0",
+    "audit p s t r c --workers 17",
+    "audit p s t r c --workers 01",
+    "audit p s t r c --seed 1",
     "replay p s t",
     "replay p s t c c",
     "replay p s -t c",

@@ -1,4 +1,9 @@
+mod AuditSteps
+pub mod Audits
+pub mod Counting
 pub mod Fronts
+pub mod HandedOn
+pub mod OneOutcome
 pub mod Outcomes
 pub mod Puts
 pub mod RecordSteps

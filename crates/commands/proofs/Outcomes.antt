@@ -4,29 +4,65 @@ use Rattle.outside.specs.Files.{Files}
 use Rattle.command_inputs.specs.declared.fault.InputError.{InputError}
 use Rattle.command_inputs.specs.declared.fault.InputError.TheVariants as error
 use Rattle.command_inputs.specs.declared.fault.InputFault.{InputFault}
+use Rattle.command_words.specs.AuditWords.{AuditWords, audit_words}
 use Rattle.command_words.specs.RecordWords.{RecordWords, record_words}
 use Rattle.command_words.specs.Words.{ReplayNames, check_name, replay_names}
+use Rattle.commands.specs.Audits.{IsAudited}
 use Rattle.commands.specs.Outcome.{IfFound, IsCheckedFile, IsOutcome, IsOutcomeOf, IsRecording, IsReplayed}
 use Rattle.commands.specs.Outputs.{Outcome, says}
 use Rattle.commands.specs.declared.answer.Answer.TheVariants.{Input}
 
-pub by_replay : (words : List (List ℕ)) (reading : Option ℕ) (files : Files) (names : ReplayNames) (outcome : Outcome) → replay_names words ≡ Some names
-    → IsReplayed files names outcome → IsOutcome words reading files outcome
-by_replay words reading files names outcome is h =
-    subst (λ o. IsOutcomeOf reading files o (check_name words) (record_words words) outcome) (sym is) h
+module _ (words : List (List ℕ)) (reading : Option ℕ) (files : Files) (outcome : Outcome) where
+  abbrev Of : Option ReplayNames → Option (List ℕ) → Option RecordWords → Option AuditWords → Type 0
+  Of names name w a = IsOutcomeOf reading files names name w a outcome
 
-pub by_check : (words : List (List ℕ)) (reading : Option ℕ) (files : Files) (name : List ℕ) (outcome : Outcome) → replay_names words ≡ None → check_name words ≡ Some name
-    → IsCheckedFile files name outcome → IsOutcome words reading files outcome
-by_check words reading files name outcome none is h =
-    subst (λ o. IsOutcomeOf reading files o (check_name words) (record_words words) outcome) (sym none)
-    (subst (λ o. IsOutcomeOf reading files None o (record_words words) outcome) (sym is) h)
+  pub by_replay : (names : ReplayNames) → replay_names words ≡ Some names → IsReplayed files names outcome → IsOutcome words reading files outcome
+  by_replay names is h = subst (λ o. Of o (check_name words) (record_words words) (audit_words words)) (sym is) h
 
-pub by_record : (words : List (List ℕ)) (reading : Option ℕ) (files : Files) (w : RecordWords) (outcome : Outcome) → replay_names words ≡ None → check_name words ≡ None
-    → record_words words ≡ Some w → IsRecording reading files w outcome → IsOutcome words reading files outcome
-by_record words reading files w outcome none neither is h =
-    subst (λ o. IsOutcomeOf reading files o (check_name words) (record_words words) outcome) (sym none)
-    (subst (λ o. IsOutcomeOf reading files None o (record_words words) outcome) (sym neither)
-    (subst (λ o. IsOutcomeOf reading files None None o outcome) (sym is) h))
+  pub by_check : (name : List ℕ) → replay_names words ≡ None → check_name words ≡ Some name → IsCheckedFile files name outcome → IsOutcome words reading files outcome
+  by_check name none is h =
+      subst (λ o. Of o (check_name words) (record_words words) (audit_words words)) (sym none)
+      (subst (λ o. Of None o (record_words words) (audit_words words)) (sym is) h)
+
+  pub by_record : (w : RecordWords) → replay_names words ≡ None → check_name words ≡ None → record_words words ≡ Some w → IsRecording reading files w outcome
+      → IsOutcome words reading files outcome
+  by_record w none neither is h =
+      subst (λ o. Of o (check_name words) (record_words words) (audit_words words)) (sym none)
+      (subst (λ o. Of None o (record_words words) (audit_words words)) (sym neither)
+      (subst (λ o. Of None None o (audit_words words)) (sym is) h))
+
+  pub by_audit : (a : AuditWords) → replay_names words ≡ None → check_name words ≡ None → record_words words ≡ None → audit_words words ≡ Some a → IsAudited files a outcome
+      → IsOutcome words reading files outcome
+  by_audit a none neither nor is h =
+      subst (λ o. Of o (check_name words) (record_words words) (audit_words words)) (sym none)
+      (subst (λ o. Of None o (record_words words) (audit_words words)) (sym neither)
+      (subst (λ o. Of None None o (audit_words words)) (sym nor)
+      (subst (λ o. Of None None None o) (sym is) h)))
+
+  -- ---- and back
+
+  pub of_replay : (names : ReplayNames) → replay_names words ≡ Some names → IsOutcome words reading files outcome → IsReplayed files names outcome
+  of_replay names is h = subst (λ o. Of o (check_name words) (record_words words) (audit_words words)) is h
+
+  pub of_check : (name : List ℕ) → replay_names words ≡ None → check_name words ≡ Some name → IsOutcome words reading files outcome → IsCheckedFile files name outcome
+  of_check name none is h =
+      subst (λ o. Of None o (record_words words) (audit_words words)) is
+      (subst (λ o. Of o (check_name words) (record_words words) (audit_words words)) none h)
+
+  pub of_record : (w : RecordWords) → replay_names words ≡ None → check_name words ≡ None → record_words words ≡ Some w → IsOutcome words reading files outcome
+      → IsRecording reading files w outcome
+  of_record w none neither is h =
+      subst (λ o. Of None None o (audit_words words)) is
+      (subst (λ o. Of None o (record_words words) (audit_words words)) neither
+      (subst (λ o. Of o (check_name words) (record_words words) (audit_words words)) none h))
+
+  pub of_audit : (a : AuditWords) → replay_names words ≡ None → check_name words ≡ None → record_words words ≡ None → audit_words words ≡ Some a
+      → IsOutcome words reading files outcome → IsAudited files a outcome
+  of_audit a none neither nor is h =
+      subst (λ o. Of None None None o) is
+      (subst (λ o. Of None None o (audit_words words)) nor
+      (subst (λ o. Of None o (record_words words) (audit_words words)) neither
+      (subst (λ o. Of o (check_name words) (record_words words) (audit_words words)) none h)))
 
 -- what is told of a fault
 pub by_fault : {F : Type 0} (outcome : F → Outcome) (is : Outcome → Type 0) (e : InputError) (fault : InputFault) (told : Outcome) → e ≡ error.Fault fault → told ≡ says (Input fault)

@@ -4,8 +4,9 @@ use Rattle.std.specs.Result.{IsErrAnd}
 use Rattle.command_inputs.specs.Inputs.{Input, IsInput, IsRead}
 use Rattle.command_inputs.specs.declared.fault.InputError.{InputError}
 use Rattle.command_inputs.specs.declared.fault.InputError.TheVariants.{Fault, Halt as Halts}
-use Rattle.commands.specs.Outcome.{IfFound, WithInput}
+use Rattle.commands.specs.Outcome.{IfFound}
 use Rattle.commands.specs.Outputs.{Outcome, says}
+use Rattle.commands.specs.WithInput.{WithInput}
 use Rattle.commands.specs.declared.answer.Answer.TheVariants.{Replay}
 use Rattle.commands.specs.declared.answer.Finding.{Finding}
 

@@ -1,7 +1,10 @@
+pub mod Audits
 pub mod Explained
+pub mod Laws
 pub mod Lines
 pub mod Outcome
 pub mod Outputs
 pub mod Printing
 pub mod Recorded
 pub mod Runs
+pub mod WithInput

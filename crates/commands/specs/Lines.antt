@@ -9,8 +9,9 @@ use Rattle.replayer.specs.declared.reason.Replayed.TheVariants as replayed
 use Rattle.command_inputs.specs.FaultTexts.{fault_text}
 use Rattle.script_check.specs.declared.counts.Counts.{Counts}
 use Rattle.trace_and_report.specs.declared.recorded.TooLong.TheVariants as past
+use Rattle.verdict_lines.specs.Rejections.{rejection_line}
 use Rattle.commands.specs.declared.answer.Answer.{Answer}
-use Rattle.commands.specs.declared.answer.Answer.TheVariants.{Usage, Input, Checked, Replay, Recorded, TooLong}
+use Rattle.commands.specs.declared.answer.Answer.TheVariants.{Usage, Input, Checked, Replay, Recorded, TooLong, Accepted, Rejected}
 use Rattle.commands.specs.declared.answer.Finding.{Finding}
 use Rattle.commands.specs.declared.answer.Finding.TheVariants.{Agrees, Differs}
 
@@ -27,6 +28,8 @@ status_of (Recorded requests groups) = 0
 status_of Usage = 2
 status_of (Input fault) = 3
 status_of (TooLong which) = 3
+status_of (Accepted requests groups evaluated plain) = 0
+status_of (Rejected reason) = 1
 
 -- how many declarations of each sort a program has
 abbrev pub counts_line : Counts → List ℕ
@@ -47,6 +50,14 @@ difference_line (reason.AtMoment why moment rid) =
 difference_line (reason.Open rid) =
     codes "differs " ++ (decimal 10 ++ (codes ": request " ++ (decimal rid ++ codes "\n")))
 
+-- how many requests and groups were accepted, and what their audit took
+abbrev pub acceptance_line : (requests groups evaluated plain : ℕ) → List ℕ
+acceptance_line requests groups evaluated plain =
+    codes "accepted: requests " ++ (decimal requests
+    ++ (codes ", groups " ++ (decimal groups
+    ++ (codes ", evaluated " ++ (decimal evaluated
+    ++ (codes ", plain " ++ (decimal plain ++ codes "\n")))))))
+
 abbrev pub line_of : Answer → List ℕ
 line_of (Replay (Agrees moments)) = codes "agrees: moments " ++ (decimal moments ++ codes "\n")
 line_of (Replay (Differs reason)) = difference_line reason
@@ -57,3 +68,5 @@ line_of Usage = codes "usage\n"
 line_of (Input fault) = fault_text fault ++ codes "\n"
 line_of (TooLong past.Trace) = codes "trace: too long\n"
 line_of (TooLong past.Report) = codes "report: too long\n"
+line_of (Accepted requests groups evaluated plain) = acceptance_line requests groups evaluated plain
+line_of (Rejected reason) = rejection_line reason

@@ -17,7 +17,7 @@ use Rattle.trace_and_report.specs.Recorded.{AreFilesOf, HasTooLong}
 use Rattle.trace_and_report.specs.declared.recorded.Recorded.{Recorded as TraceAndReport}
 use Rattle.trace_and_report.specs.declared.recorded.TooLong.{TooLong as Which}
 use Rattle.command_inputs.specs.Faults.{IsAbsence}
-use Rattle.command_inputs.specs.Inputs.{Input, IsInput, IsRead}
+use Rattle.command_inputs.specs.Inputs.{IsRead}
 use Rattle.command_inputs.specs.Program.{program_input}
 use Rattle.command_inputs.specs.Requests.{requests_input}
 use Rattle.command_inputs.specs.Schedule.{schedule_input}
@@ -27,20 +27,16 @@ use Rattle.command_inputs.specs.Turns.{turns_input}
 use Rattle.command_inputs.specs.declared.fault.InputError.{InputError}
 use Rattle.command_inputs.specs.declared.fault.InputError.TheVariants as error
 use Rattle.command_inputs.specs.declared.fault.InputFault.{InputFault}
+use Rattle.command_words.specs.AuditWords.{AuditWords, audit_words}
 use Rattle.command_words.specs.RecordWords.{RecordWords, record_words}
 use Rattle.command_words.specs.Words.{ReplayNames, check_name, replay_names}
+use Rattle.commands.specs.Audits.{IsAudited}
 use Rattle.commands.specs.Lines.{finding_of}
 use Rattle.commands.specs.Outputs.{Outcome, says}
+use Rattle.commands.specs.WithInput.{WithInput}
 use Rattle.commands.specs.declared.answer.Answer.{Answer}
 use Rattle.commands.specs.declared.answer.Finding.{Finding}
-use Rattle.commands.specs.declared.answer.Answer.TheVariants.{Usage, Input as InputAnswer, Checked, Replay, Recorded, TooLong}
-
--- The input is at fault, which is the answer; or it is this thing, with which it goes on.
-abbrev pub WithInput : {A : Type 0} → Input A → Option (List ℕ) → (A → Outcome → Type 0) → Outcome
-    → Type 0
-WithInput {A = A} input file next outcome =
-    ((fault : InputFault) × IsInput input file (Err fault) × (outcome ≡ says (InputAnswer fault)))
-    ⊎ ((x : A) × IsInput input file (Ok x) × next x outcome)
+use Rattle.commands.specs.declared.answer.Answer.TheVariants.{Usage, Input as InputAnswer, Checked, Replay, Recorded, TooLong, Accepted, Rejected}
 
 abbrev pub moment_count : Result (List Moment) ℕ → ℕ
 moment_count (Ok schedule) = length schedule
@@ -133,17 +129,21 @@ IsRecording reading files words =
 
 -- ---- commands
 
+-- The outcome of a replay of these names, of a check, of a recording, of an audit, or of none.
 abbrev pub IsOutcomeOf : Option ℕ → Files → Option ReplayNames → Option (List ℕ) → Option RecordWords
-    → Outcome → Type 0
-IsOutcomeOf reading files (Some names) check words outcome = IsReplayed files names outcome
-IsOutcomeOf reading files None (Some name) words outcome = IsCheckedFile files name outcome
-IsOutcomeOf reading files None None (Some words) outcome = IsRecording reading files words outcome
-IsOutcomeOf reading files None None None outcome = outcome ≡ says Usage
+    → Option AuditWords → Outcome → Type 0
+IsOutcomeOf reading files (Some names) check words audit outcome = IsReplayed files names outcome
+IsOutcomeOf reading files None (Some name) words audit outcome = IsCheckedFile files name outcome
+IsOutcomeOf reading files None None (Some words) audit outcome =
+    IsRecording reading files words outcome
+IsOutcomeOf reading files None None None (Some words) outcome = IsAudited files words outcome
+IsOutcomeOf reading files None None None None outcome = outcome ≡ says Usage
 
 -- The outcome of the words over these files, where the clock shows this reading.
 abbrev pub IsOutcome : List (List ℕ) → Option ℕ → Files → Outcome → Type 0
 IsOutcome words reading files =
     IsOutcomeOf reading files (replay_names words) (check_name words) (record_words words)
+    (audit_words words)
 
 -- The outcome of which a result tells: the one for what was found, or the input's fault. Nothing is
 -- said where the command halts.
@@ -162,6 +162,9 @@ IfChecked files name = IfFound (λ counts. says (Checked counts)) (IsCheckedFile
 abbrev pub IfRecorded : Option ℕ → Files → RecordWords → Result Outcome InputError → Type 0
 IfRecorded reading files words = IfFound (λ outcome. outcome) (IsRecording reading files words)
 
+abbrev pub IfAudited : Files → AuditWords → Result Outcome InputError → Type 0
+IfAudited files words = IfFound (λ outcome. outcome) (IsAudited files words)
+
 -- The turns that were read are those of the file, where one is named, and else none.
 abbrev pub IfTurns : Files → Option (List ℕ) → Result (List ℕ) InputError → Type 0
 IfTurns files None result = IsOkAnd result (λ turns. turns ≡ [])
@@ -176,6 +179,8 @@ IsAbsent (Checked counts) = ⊥
 IsAbsent (Replay finding) = ⊥
 IsAbsent (Recorded requests groups) = ⊥
 IsAbsent (TooLong which) = ⊥
+IsAbsent (Accepted requests groups evaluated plain) = ⊥
+IsAbsent (Rejected reason) = ⊥
 
 abbrev pub SaysAbsent : Outcome → Type 0
 SaysAbsent outcome = IsAbsent outcome.answer

@@ -14,8 +14,12 @@ use Rattle.command_inputs.specs.Program.{program_input}
 use Rattle.command_inputs.specs.Requests.{requests_input}
 use Rattle.command_inputs.specs.State.{state_input}
 use Rattle.command_inputs.specs.Turns.{turns_input}
+use Rattle.command_words.specs.AuditWords.{AuditWords}
 use Rattle.command_words.specs.RecordWords.{RecordWords, record_words}
 use Rattle.command_words.specs.Words.{check_name, replay_names}
+use Rattle.commands.specs.Audits.{IsAudited}
+use Rattle.commands.specs.Lines.{status_of}
+use Rattle.commands.specs.Outputs.{Outcome}
 
 abbrev pub AskRecord : List (List ℕ) → Type 0
 AskRecord words =
@@ -39,8 +43,22 @@ pub record AreJobsOf (files : Files) (w : RecordWords) (program : Program) (star
 abbrev pub Holds : Files → List ℕ → (List ℕ → Type 0) → Type 0
 Holds files name are = (bytes : List ℕ) × (get files name ≡ Some bytes) × are bytes
 
+-- Under the names of an audit stand, later, the program and the state of the recording, and its files.
+pub record AreHandedOn (w : RecordWords) (before after : Files) (a : AuditWords) (later : Files) : Type 0
+  where
+    pub program : get later a.program ≡ get before w.program
+    pub state : get later a.state ≡ get before w.state
+    pub trace : get later a.trace ≡ get after w.trace
+    pub report : get later a.report ≡ get after w.report
+
+-- Each audit of them accepts.
+abbrev pub AuditsAccept : RecordWords → Files → Files → Type 0
+AuditsAccept w before after =
+    (a : AuditWords) (later : Files) (outcome : Outcome) → AreHandedOn w before after a later
+    → IsAudited later a outcome → status_of outcome.answer ≡ 0
+
 -- Afterwards the trace and the report of one history of the jobs stand under their names, and under
--- every other name what stood there.
+-- every other name what stood there. Audits accept them.
 pub record HasRecording (words : List (List ℕ)) (reading : Option ℕ) (before after : Files) : Type 0 where
   pub asked : RecordWords
   pub asks : record_words words ≡ Some asked
@@ -55,6 +73,7 @@ pub record HasRecording (words : List (List ℕ)) (reading : Option ℕ) (before
   pub report : Holds after asked.report (IsReportFile start history)
   pub others : (name : List ℕ) → name ≢ asked.trace → name ≢ asked.report
       → get after name ≡ get before name
+  pub accepted : AuditsAccept asked before after
 
 -- Where the shelf tells its files, before and after.
 abbrev pub IsRecordedBy : List (List ℕ) → Option ℕ → Option Files → Option Files → Type 0

@@ -1,11 +1,13 @@
 ghost use Rattle.std.specs.Prelude.{◌≡◌, IfOk, string_bytes};
 ghost use Rattle.commands.specs.Lines.{counts_line, difference_line, finding_of, line_of, status_of};
 
+use audit_meaning::reason::Reason;
 use command_inputs::InputFault;
 use replayer::{ReplayReason, Replayed};
 use script_check::counts::Counts;
 use std::alloc::{AllocError, Global};
 use trace_and_report::TooLong;
+use verdict_lines::rejection_line;
 
 /// What a replay found.
 #[derive(Clone, Copy, Debug, PartialEq, Eq)]
@@ -16,7 +18,7 @@ pub enum Finding {
 }
 
 /// What a command answers.
-#[derive(Clone, Copy, Debug, PartialEq, Eq)]
+#[derive(Drop)]
 pub enum Answer {
     /// The words aren't those of a command.
     Usage,
@@ -26,9 +28,22 @@ pub enum Answer {
     Checked(Counts),
     Replay(Finding),
     /// So many requests were recorded, which took so many paths.
-    Recorded { requests: usize, groups: usize },
+    Recorded {
+        requests: usize,
+        groups: usize,
+    },
     /// This file of a recording would be longer than a file may be.
     TooLong(TooLong),
+    /// A report of so many requests and groups is accepted. The audit evaluated so much of them,
+    /// where all requests, one by one, take so many steps.
+    Accepted {
+        requests: usize,
+        groups: usize,
+        evaluated: u64,
+        plain: u64,
+    },
+    /// The report is rejected for this reason.
+    Rejected(Reason),
 }
 
 impl Finding {
@@ -45,14 +60,16 @@ impl Finding {
 
 impl Answer {
     /// The exit status for it.
-    pub fn status(self) -> u8
-        ensures { result ≡ status_of self }
+    pub fn status(&self) -> u8
+        ensures { result ≡ status_of self.now }
     {
         match self {
             Answer::Checked(_) => 0,
             Answer::Replay(Finding::Agrees(_)) => 0,
             Answer::Recorded { .. } => 0,
+            Answer::Accepted { .. } => 0,
             Answer::Replay(Finding::Differs(_)) => 1,
+            Answer::Rejected(_) => 1,
             Answer::Usage => 2,
             Answer::Input(_) => 3,
             Answer::TooLong(_) => 3,
@@ -60,23 +77,33 @@ impl Answer {
     }
 
     /// The line that is printed for it.
-    pub fn line(self, alloc: Global) -> Result<String, AllocError>
-        ensures { IfOk result (λ line. string_bytes line ≡ line_of self) }
+    pub fn line(&self, alloc: Global) -> Result<Vec<u8>, AllocError>
+        ensures { IfOk result (λ line. line.items ≡ line_of self.now) }
     {
-        match self {
-            Answer::Usage => String::from_str(alloc, "usage\n"),
-            Answer::Input(fault) => format!(in alloc; "{fault}\n"),
-            Answer::Checked(counts) => counts_line(alloc, counts),
+        let line = match self {
+            Answer::Rejected(reason) => return rejection_line(alloc, reason),
+            Answer::Usage => String::from_str(alloc, "usage\n")?,
+            Answer::Input(fault) => format!(in alloc; "{fault}\n")?,
+            Answer::Checked(counts) => counts_line(alloc, *counts)?,
             Answer::Replay(Finding::Agrees(moments)) => {
-                format!(in alloc; "agrees: moments {moments}\n")
+                format!(in alloc; "agrees: moments {moments}\n")?
             }
-            Answer::Replay(Finding::Differs(reason)) => difference_line(alloc, reason),
+            Answer::Replay(Finding::Differs(reason)) => difference_line(alloc, *reason)?,
             Answer::Recorded { requests, groups } => {
-                format!(in alloc; "recorded: requests {requests}, groups {groups}\n")
+                format!(in alloc; "recorded: requests {requests}, groups {groups}\n")?
             }
-            Answer::TooLong(TooLong::Trace) => String::from_str(alloc, "trace: too long\n"),
-            Answer::TooLong(TooLong::Report) => String::from_str(alloc, "report: too long\n"),
-        }
+            Answer::TooLong(TooLong::Trace) => String::from_str(alloc, "trace: too long\n")?,
+            Answer::TooLong(TooLong::Report) => String::from_str(alloc, "report: too long\n")?,
+            Answer::Accepted {
+                requests,
+                groups,
+                evaluated,
+                plain,
+            } => format!(in alloc;
+                "accepted: requests {requests}, groups {groups}, evaluated {evaluated}, plain {plain}\n"
+            )?,
+        };
+        Ok(line.into_bytes())
     }
 }
 

@@ -2,7 +2,9 @@
 #![tactic(auto)]
 
 pub mod answer;
+pub mod audit;
 pub mod check;
+pub mod law;
 pub mod outcome;
 pub mod print;
 pub mod record;

@@ -1,20 +1,25 @@
 ghost use Rattle.std.specs.Prelude.{◌≡◌, ◌<◌, ◌≤◌, Err, IfOk, IsOkAnd};
 ghost use Rattle.std.specs.Option.{ForSome};
 ghost use Rattle.outside.specs.Shelves.{UsesShelf};
-ghost use Rattle.commands.specs.Explained.{AskCheck, AskReplay, IsExplained, IsProgramFile, IsUnexplained};
+ghost use Rattle.commands.specs.Explained.{AskAudit, AskCheck, AskReplay, IsAcceptedBy, IsExplained, IsProgramFile, IsRejectedBy, IsUnexplained};
 ghost use Rattle.commands.specs.Outcome.{SaysAbsent, IsOutcome};
 ghost use Rattle.commands.specs.Recorded.{AskRecord, IsRecordedBy};
 ghost use Rattle.commands.specs.Runs.{IsAnswered, IsHalted};
 ghost use Rattle.command_inputs.specs.declared.halt.Halt.TheVariants.{Failed};
 
 use crate::answer::Answer;
+use crate::audit::audit_files;
 use crate::check::check_file;
 use crate::outcome::{Outcome, write_outputs};
 use crate::print::print_line;
 use crate::record::record_files;
 use crate::replay::replay_files;
+use audit_completeness::law::recorded_is_accepted;
+use audit_meaning::law::accepted_explains;
+use command_inputs::law::one_way;
 use command_inputs::{Halt, InputError};
 use command_words::Words;
+use history::law::traces_are_balanced;
 use outside::{Clock, Gate, House, Shelf, Sink};
 use replayer::law::agreement;
 use std::alloc::Global;
@@ -28,7 +33,7 @@ pub fn run<F: Shelf, O: Sink, H: House, C: Clock + Sync, G: Gate + Sync>(
     out: &mut O,
     _house: &mut H,
     clock: &C,
-    _gate: &G,
+    gate: &G,
 ) -> u8
     // With status 0 to 3 the reads came to an answer, its files were written, and its line printed.
     ensures answered { result < 4 → IsAnswered words.now (C.reading clock.now) (F.told shelf.old)
@@ -45,9 +50,18 @@ pub fn run<F: Shelf, O: Sink, H: House, C: Clock + Sync, G: Gate + Sync>(
     // With status 0 of a replay the schedule explains the trace, and with status 1 it doesn't.
     ensures agrees { result ≡ 0 → AskReplay words.now →
         ForSome (F.told shelf.old).files (IsExplained words.now) }
-    ensures differs { result ≡ 1 → ForSome (F.told shelf.old).files (IsUnexplained words.now) }
+    ensures differs { result ≡ 1 → AskReplay words.now →
+        ForSome (F.told shelf.old).files (IsUnexplained words.now) }
 
-    // With status 0 of a recording the trace and the report are those of one history of the jobs.
+    // With status 0 of an audit a schedule that explains the trace is written. With status 1 the
+    // reason of the verdict is told, and the files are as before.
+    ensures accepted { result ≡ 0 → AskAudit words.now →
+        IsAcceptedBy words.now (F.told shelf.old).files (F.told shelf.new).files }
+    ensures rejected { result ≡ 1 → AskAudit words.now → IsRejectedBy words.now
+        (F.told shelf.old).files (F.told shelf.new).files (O.told out.old) (O.told out.new) }
+
+    // With status 0 of a recording the trace and the report are those of one history of the jobs,
+    // and audits accept them.
     ensures recorded { result ≡ 0 → AskRecord words.now → IsRecordedBy words.now
         (C.reading clock.now) (F.told shelf.old).files (F.told shelf.new).files }
 
@@ -55,26 +69,30 @@ pub fn run<F: Shelf, O: Sink, H: House, C: Clock + Sync, G: Gate + Sync>(
     ensures house { _house.new ≡ _house.old }
 {
     agreement();
-    let outcome = match outcome_of(alloc, words, shelf, clock) {
+    accepted_explains();
+    recorded_is_accepted();
+    traces_are_balanced();
+    one_way();
+    let outcome = match outcome_of(alloc, words, shelf, clock, gate) {
         Ok(outcome) => outcome,
         Err(halt) => return halt.status(),
     };
     if let Err(fault) = write_outputs(shelf, &outcome.outputs) {
         return Halt::from(fault).status();
     }
-    let answer = outcome.answer;
-    match print_line(alloc, out, answer) {
-        Ok(()) => answer.status(),
+    match print_line(alloc, out, &outcome.answer) {
+        Ok(()) => outcome.answer.status(),
         Err(halt) => halt.status(),
     }
 }
 
 /// The outcome of the words over the files.
-fn outcome_of<'w, F: Shelf, C: Clock>(
+fn outcome_of<'w, F: Shelf, C: Clock, G: Gate + Sync>(
     alloc: Global,
     words: &'w Words,
     shelf: &mut F,
     clock: &C,
+    gate: &G,
 ) -> Result<Outcome<'w>, Halt>
     ensures outcome { let outcome = IsOutcome words.now (C.reading clock.now) in
         ForSome (F.told shelf.old).files (λ files. IfOk result (outcome files)) }
@@ -97,6 +115,13 @@ fn outcome_of<'w, F: Shelf, C: Clock>(
     }
     if let Some(words) = words.record_words(alloc)? {
         return match record_files(alloc, shelf, words, clock) {
+            Ok(outcome) => Ok(outcome),
+            Err(InputError::Fault(fault)) => Ok(Outcome::says(alloc, Answer::Input(fault))),
+            Err(InputError::Halt(halt)) => Err(halt),
+        };
+    }
+    if let Some(words) = words.audit_words(alloc)? {
+        return match audit_files(alloc, shelf, words, gate) {
             Ok(outcome) => Ok(outcome),
             Err(InputError::Fault(fault)) => Ok(Outcome::says(alloc, Answer::Input(fault))),
             Err(InputError::Halt(halt)) => Err(halt),

@@ -1,0 +1,95 @@
+-- Words come to one outcome over the same files.
+use Rattle.std.proofs.Common.{◌≡◌, ◌∙◌, ℕ, List, Option, Some, None, Result, Ok, Err, inl, inr, refl, ap, sym, subst}
+use Rattle.std.specs.FinMap.{get}
+use Rattle.outside.specs.Files.{Files}
+use Rattle.wire.specs.declared.limits.TheConstants.{MOST_FILE_BYTES, MOST_SCHEDULE_BYTES}
+use Rattle.script_tree.specs.declared.trace.TraceEvent.{TraceEvent}
+use Rattle.trace_format.specs.Events.{request_count}
+use Rattle.audit_meaning.specs.declared.verdict.Verdict.{Verdict}
+use Rattle.audit_meaning.specs.declared.verdict.Verdict.TheVariants.{Accepted, Rejected}
+use Rattle.auditor.specs.Audited.{ReadReport, audited, plainly}
+use Rattle.command_inputs.specs.Inputs.{Input, IsInput}
+use Rattle.command_inputs.specs.OneWay.{AreReadOneWay, IsReadOneWay}
+use Rattle.command_inputs.specs.Program.{program_input}
+use Rattle.command_inputs.specs.Report.{report_input}
+use Rattle.command_inputs.specs.Schedule.{schedule_input}
+use Rattle.command_inputs.specs.State.{state_input}
+use Rattle.command_inputs.specs.Trace.{trace_input}
+use Rattle.command_inputs.specs.declared.fault.InputFault.{InputFault}
+use Rattle.command_words.specs.AuditWords.{AuditWords, audit_words}
+use Rattle.command_words.specs.RecordWords.{RecordWords, record_words}
+use Rattle.command_words.specs.Words.{ReplayNames, check_name, replay_names}
+use Rattle.commands.specs.Audits.{accepted, group_count, IsAudited, IsJudged, IsVerdict, WithDeclarations, WithEvents, WithObjects}
+use Rattle.commands.specs.Laws.{IsOneOutcome}
+use Rattle.commands.specs.Outcome.{IsCheckedFile, IsCounted, IsFound, IsOutcomeOf, IsReplayed, WithProgram, WithState, WithTrace}
+use Rattle.commands.specs.Outputs.{Outcome, says}
+use Rattle.commands.specs.WithInput.{WithInput}
+use Rattle.commands.specs.declared.answer.Answer.TheVariants as answer
+
+-- there is one outcome at most
+abbrev IsOne : (Outcome → Type 0) → Type 0
+IsOne is = (x y : Outcome) → is x → is y → x ≡ y
+
+abbrev of_ok : {A E : Type 0} → A → Result A E
+of_ok x = Ok x
+
+abbrev of_err : {A E : Type 0} → E → Result A E
+of_err f = Err f
+
+ok_is : {A E : Type 0} (x y : A) → of_ok {E = E} x ≡ of_ok {E = E} y → x ≡ y
+ok_is x y e = cc
+
+err_is : {A E : Type 0} (x y : E) → of_err {A = A} x ≡ of_err {A = A} y → x ≡ y
+err_is x y e = cc
+
+not_both : {A E : Type 0} (x : A) (f : E) → of_ok x ≡ of_err f → ⊥
+not_both x f e = cc
+
+-- one input, with one outcome of each thing that it can be
+past_input : {A : Type 0} (input : Input A) (file : Option (List ℕ)) (next : A → Outcome → Type 0) → IsReadOneWay input → ((x : A) → IsOne (next x)) → IsOne (WithInput input file next)
+past_input input file next one each x y (inl h) (inl k) =
+    h.2 ∙ ap (λ f. says (answer.Input f)) (err_is h.0 k.0 (one file (Err h.0) (Err k.0) h.1 k.1)) ∙ sym k.2
+past_input input file next one each x y (inl h) (inr k) = absurd (not_both k.0 h.0 (one file (Ok k.0) (Err h.0) k.1 h.1))
+past_input input file next one each x y (inr h) (inl k) = absurd (not_both h.0 k.0 (one file (Ok h.0) (Err k.0) h.1 k.1))
+past_input input file next one each x y (inr h) (inr k) =
+    let same = ok_is k.0 h.0 (one file (Ok k.0) (Ok h.0) k.1 h.1) in
+    each h.0 x y h.2 (subst (λ z. next z y) same k.2)
+
+one_verdict : (a : AuditWords) (trace : List TraceEvent) (report : ReadReport) (v : Verdict) → IsOne (IsJudged a trace report v)
+one_verdict a trace report (Accepted schedule evaluated plain) x y h k =
+    let told = answer.Accepted (request_count trace) (group_count report) evaluated plain in
+    let same : h.0 ≡ k.0 = h.1.spelled ∙ sym k.1.spelled in
+    h.2 ∙ ap (λ bytes. accepted a told bytes) same ∙ sym k.2
+one_verdict a trace report (Rejected reason) x y h k = h ∙ sym k
+
+module _ (one : AreReadOneWay) (files : Files) where
+  one_audit : (a : AuditWords) → IsOne (IsAudited files a)
+  one_audit a =
+      past_input (program_input MOST_FILE_BYTES) (get files a.program) (WithDeclarations files a) (one.programs MOST_FILE_BYTES)
+      (λ program. past_input (state_input program MOST_FILE_BYTES) (get files a.state) (WithObjects files a program) (one.states program MOST_FILE_BYTES)
+      (λ start. past_input (trace_input MOST_FILE_BYTES) (get files a.trace) (WithEvents files a program start) (one.traces MOST_FILE_BYTES)
+      (λ trace. past_input (report_input MOST_FILE_BYTES) (get files a.report) (IsVerdict a program start trace) (one.reports MOST_FILE_BYTES)
+      (λ report. one_verdict a trace report (plainly (audited program start trace report))))))
+
+  one_replay : (names : ReplayNames) → IsOne (IsReplayed files names)
+  one_replay names =
+      past_input (program_input MOST_FILE_BYTES) (get files names.program) (WithProgram files names) (one.programs MOST_FILE_BYTES)
+      (λ program. past_input (state_input program MOST_FILE_BYTES) (get files names.state) (WithState files names program) (one.states program MOST_FILE_BYTES)
+      (λ start. past_input (trace_input MOST_FILE_BYTES) (get files names.trace) (WithTrace files names program start) (one.traces MOST_FILE_BYTES)
+      (λ trace. past_input (schedule_input MOST_SCHEDULE_BYTES) (get files names.schedule) (IsFound program start trace) (one.schedules MOST_SCHEDULE_BYTES)
+      (λ schedule x y h k. h ∙ sym k))))
+
+  one_check : (name : List ℕ) → IsOne (IsCheckedFile files name)
+  one_check name =
+      past_input (program_input MOST_FILE_BYTES) (get files name) IsCounted (one.programs MOST_FILE_BYTES) (λ program x y h k. h ∙ sym k)
+
+  by_words : (reading : Option ℕ) (names : Option ReplayNames) (name : Option (List ℕ)) (a : Option AuditWords) → IsOne (IsOutcomeOf reading files names name None a)
+  by_words reading (Some names) name a = one_replay names
+  by_words reading None (Some name) a = one_check name
+  by_words reading None None (Some a) = one_audit a
+  by_words reading None None None = λ x y h k. h ∙ sym k
+
+pub is_one_outcome : AreReadOneWay → IsOneOutcome
+is_one_outcome one words reading files x y none h k =
+    let Of : Option RecordWords → Outcome → Type 0 = λ w o. IsOutcomeOf reading files (replay_names words) (check_name words) w (audit_words words) o in
+    by_words one files reading (replay_names words) (check_name words) (audit_words words) x y (subst (λ w. Of w x) none h) (subst (λ w. Of w y) none k)

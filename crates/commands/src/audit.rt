@@ -1,0 +1,135 @@
+ghost use Rattle.std.specs.Prelude.{◌≡◌, IfOk};
+ghost use Rattle.std.specs.Option.{ForSome};
+ghost use Rattle.script_tree.specs.Traces.{IsBalanced};
+ghost use Rattle.object_set.specs.ObjectSets.{IsSetOf, objects_of};
+ghost use Rattle.trace_format.specs.Events.{request_count};
+ghost use Rattle.auditor.specs.Audited.{audited, plainly};
+ghost use Rattle.command_inputs.specs.Faults.{UsesToRead};
+ghost use Rattle.command_words.specs.NamesView.{audit_words_of};
+ghost use Rattle.commands.specs.Audits.{group_count, IsJudged};
+ghost use Rattle.commands.specs.Outcome.{IfAudited, SaysAbsent};
+
+use crate::answer::Answer;
+use crate::outcome::{Outcome, Output};
+use audit_meaning::verdict::Verdict;
+use auditor::audit;
+use command_inputs::{InputError, read_program, read_report, read_state, read_trace};
+use command_words::AuditWords;
+use object_set::ObjectSet;
+use outside::{Gate, Shelf};
+use report::Report;
+use schedule_format::encoding::encode;
+use script_check::program::Program;
+use std::alloc::{AllocError, Global};
+use trace_format::trace_file::{EventHead, TraceFile};
+use wire::limits::MOST_FILE_BYTES;
+
+/// What comes of the audit of these files: the schedule of an accepted report, or the reason for
+/// which it is rejected. They are read in the order of the words, up to the first one at fault.
+pub fn audit_files<'w, F: Shelf, G: Gate + Sync>(
+    alloc: Global,
+    shelf: &mut F,
+    words: AuditWords<'w>,
+    gate: &G,
+) -> Result<Outcome<'w>, InputError>
+    ensures outcome { let words = audit_words_of words.entry in
+        ForSome (F.told shelf.old).files (λ files. IfAudited files words result) }
+    ensures found { IfOk result (λ outcome. ¬ SaysAbsent outcome) }
+    ensures used { UsesToRead (F.told shelf.old) (F.told shelf.new) result }
+{
+    let program = read_program(alloc, shelf, words.program, MOST_FILE_BYTES)?;
+    let start = read_state(alloc, shelf, words.state, MOST_FILE_BYTES, &program)?;
+    let trace = read_trace(alloc, shelf, words.trace, MOST_FILE_BYTES)?;
+    let report = read_report(alloc, shelf, words.report, MOST_FILE_BYTES)?;
+    let verdict = verdict_on(
+        alloc,
+        &program,
+        &start,
+        &trace,
+        &report,
+        words.workers,
+        gate,
+    )?;
+    Ok(judged(alloc, words, &trace, &report, verdict)?)
+}
+
+/// The verdict on a report that was read.
+fn verdict_on<G: Gate + Sync>(
+    alloc: Global,
+    program: &Program,
+    start: &ObjectSet,
+    trace: &TraceFile,
+    report: &Result<Report, u64>,
+    workers: u64,
+    gate: &G,
+) -> Result<Verdict, AllocError>
+    requires balanced { IsBalanced trace.now }
+    requires set { IsSetOf program.now start.now }
+    ensures { IfOk result (λ verdict. verdict
+        ≡ plainly (audited program.now (objects_of start.now) trace.now report.now)) }
+{
+    let workers = u32::try_from(workers).unwrap_or(u32::MAX);
+    match report {
+        Ok(report) => audit(alloc, program, start, trace, Ok(report), workers, gate),
+        Err(at) => audit(alloc, program, start, trace, Err(*at), workers, gate),
+    }
+}
+
+/// The outcome of a verdict on this report of this trace.
+fn judged<'w>(
+    alloc: Global,
+    words: AuditWords<'w>,
+    trace: &TraceFile,
+    report: &Result<Report, u64>,
+    verdict: Verdict,
+) -> Result<Outcome<'w>, AllocError>
+    ensures { let words = audit_words_of words.entry in
+        IfOk result (IsJudged words trace.now report.now verdict) }
+{
+    match verdict {
+        Verdict::Accepted {
+            schedule,
+            evaluated,
+            plain,
+        } => {
+            let answer = Answer::Accepted {
+                requests: request_count(trace),
+                groups: group_count(report),
+                evaluated,
+                plain,
+            };
+            let bytes = encode(alloc, &schedule)?;
+            let mut outputs = Vec::with_capacity(alloc, 1)?;
+            outputs.push(Output {
+                name: words.schedule,
+                bytes,
+            })?;
+            Ok(Outcome { answer, outputs })
+        }
+        Verdict::Rejected(reason) => Ok(Outcome::says(alloc, Answer::Rejected(reason))),
+    }
+}
+
+/// How many requests a trace has.
+fn request_count(trace: &TraceFile) -> usize
+    ensures { result ≡ request_count trace.now }
+{
+    let mut count = 0;
+    for place in 0..trace.len() {
+        match trace.head(place) {
+            EventHead::Asks(_) => count += 1,
+            EventHead::Answers(_) => {}
+        }
+    }
+    count
+}
+
+/// How many groups a report has, where it was read.
+fn group_count(report: &Result<Report, u64>) -> usize
+    ensures { result ≡ group_count report.now }
+{
+    match report {
+        Ok(report) => report.groups.len(),
+        Err(_) => 0,
+    }
+}

@@ -25,8 +25,8 @@ cat >"$room/run" <<'END'
 status=$?
 cat "$room/line"
 case $(cat "$room/line") in
-    'ok: '* | 'recorded: '* | 'agrees: '*) wanted=0 ;;
-    'differs '*) wanted=1 ;;
+    'ok: '* | 'recorded: '* | 'accepted: '* | 'agrees: '*) wanted=0 ;;
+    'rejected '* | 'differs '*) wanted=1 ;;
     usage) wanted=2 ;;
     *': '*) wanted=3 ;;
     *) wanted='4 or 5' ;;

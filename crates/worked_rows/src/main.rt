@@ -1,5 +1,5 @@
-//! Runs the rows of the files that lie beside it, programs that are checked, replays and recordings,
-//! each over memory, and tells those that end in another way than the row says.
+//! Runs the rows of the files that lie beside it, programs that are checked, replays, recordings and
+//! audits, each over memory, and tells those that end in another way than the row says.
 #![tactic(auto)]
 
 mod row;
@@ -8,7 +8,7 @@ mod spelled;
 mod tally;
 
 use crate::row::Row;
-use crate::runs::{checked, recorded, replayed};
+use crate::runs::{audited, checked, recorded, replayed};
 use crate::tally::{Tally, told};
 use std::fs;
 use std::io::{self, ErrorKind};
@@ -20,10 +20,21 @@ const REPLAYS: &str = "replays.txt";
 
 const RECORDS: &str = "records.txt";
 
+const AUDITS: &str = "audits.txt";
+
+/// What the rows of a file tell.
+#[derive(Clone, Copy)]
+enum Kind {
+    Replay,
+    Record,
+    Audit,
+}
+
 fn main(rt: HostRuntime) -> io::Result<()> {
     run_checks(&rt, &fs::read_to_string(&rt, CHECKS)?)?;
-    run_rows(&rt, REPLAYS, &fs::read_to_string(&rt, REPLAYS)?)?;
-    run_rows(&rt, RECORDS, &fs::read_to_string(&rt, RECORDS)?)
+    run_rows(&rt, REPLAYS, Kind::Replay)?;
+    run_rows(&rt, RECORDS, Kind::Record)?;
+    run_rows(&rt, AUDITS, Kind::Audit)
 }
 
 /// Runs the programs that are checked: a line each, with its end before the program.
@@ -41,13 +52,14 @@ fn run_checks(rt: &HostRuntime, text: &str) -> io::Result<()> {
     tally.tell(rt, CHECKS)
 }
 
-/// Runs the replays or the recordings: a paragraph each.
-fn run_rows(rt: &HostRuntime, file: &str, text: &str) -> io::Result<()> {
+/// Runs the rows of a file: a paragraph each.
+fn run_rows(rt: &HostRuntime, file: &str, kind: Kind) -> io::Result<()> {
+    let text = fs::read_to_string(rt, file)?;
     let mut tally = Tally::new();
-    for paragraph in text.split("\n\n") {
+    for paragraph in text.as_str().split("\n\n") {
         let row = read_row(rt, paragraph)?;
         if let Some(name) = row.field("row") {
-            let ended = row_told(rt, file, row)?;
+            let ended = row_told(rt, kind, row)?;
             tally.count(rt, name, row.said("ends"), ended.as_str())?;
         }
     }
@@ -64,12 +76,12 @@ fn read_row<'a>(rt: &HostRuntime, paragraph: &'a str) -> io::Result<Row<'a>> {
     }
 }
 
-/// What a row of a file comes to.
-fn row_told(rt: &HostRuntime, file: &str, row: Row<'_>) -> io::Result<String> {
-    let ended = if file == REPLAYS {
-        replayed(rt.alloc(), row)
-    } else {
-        recorded(rt, row)
+/// What a row comes to.
+fn row_told(rt: &HostRuntime, kind: Kind, row: Row<'_>) -> io::Result<String> {
+    let ended = match kind {
+        Kind::Replay => replayed(rt.alloc(), row),
+        Kind::Record => recorded(rt, row),
+        Kind::Audit => audited(rt.alloc(), row),
     };
     Ok(told(rt.alloc(), ended)?)
 }

@@ -9,9 +9,9 @@ pub struct Row<'a> {
 }
 
 /// What a line may begin with. After `#` it says nothing.
-const KEYS: [&str; 15] = [
+const KEYS: [&str; 16] = [
     "#", "", "row", "program", "state", "schedule", "requests", "turns", "files", "seed", "clock",
-    "ends", "request", "response", "report",
+    "ends", "request", "response", "trace", "report",
 ];
 
 /// The first word of a line, and the rest of it.

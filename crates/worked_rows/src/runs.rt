@@ -1,6 +1,6 @@
 //! The run of a row.
 use crate::row::{Row, text_of};
-use crate::spelled::{schedule_of, trace_of};
+use crate::spelled::{bytes_of, schedule_of, trace_of};
 use command_words::Words;
 use commands::run::run;
 use outside::{FixedClock, MemHouse, MemShelf, MemSink, OpenGate};
@@ -156,7 +156,63 @@ fn recorded_over(alloc: Global, shelf: &mut MemShelf, row: Row<'_>) -> io::Resul
     let has_turns = row.field(TURNS).is_some() || row.field("files").is_some();
     let used = if has_turns { 10 } else { 8 };
     let ended = ended(alloc, &words[..used], shelf, clock)?;
-    with_others(alloc, shelf, row, ended)
+    let ended = with_others(alloc, shelf, row, ended)?;
+    if !ended.as_str().starts_with("0 ") {
+        return Ok(ended);
+    }
+    let audit = audited_over(alloc, shelf, row)?;
+    followed(alloc, ended, "0 accepted", audit.as_str())
+}
+
+/// How an audit ends, and whether it writes another schedule than it should.
+pub fn audited(alloc: Global, row: Row<'_>) -> io::Result<String> {
+    let mut shelf = MemShelf::new(alloc, Vec::new(alloc));
+    put_start(alloc, &mut shelf, row)?;
+    shelf.put(TRACE, &trace_of(alloc, row)?)?;
+    shelf.put(REPORT, &bytes_of(alloc, row.said(REPORT))?)?;
+    audited_over(alloc, &mut shelf, row)
+}
+
+/// The same over the files of a shelf. The schedule of an accepted report is replayed.
+fn audited_over(alloc: Global, shelf: &mut MemShelf, row: Row<'_>) -> io::Result<String> {
+    let words = ["audit", PROGRAM, STATE, TRACE, REPORT, SCHEDULE];
+    let audit = ended(alloc, &words, shelf, 0)?;
+    if has_other_schedule(alloc, shelf, row, audit.as_str())? {
+        return Ok(format!(in alloc; "{audit}, with another schedule")?);
+    }
+    if !audit.as_str().starts_with("0 ") {
+        return Ok(audit);
+    }
+    let words = ["replay", PROGRAM, STATE, TRACE, SCHEDULE];
+    let replay = ended(alloc, &words, shelf, 0)?;
+    followed(alloc, audit, "0 agrees", replay.as_str())
+}
+
+/// How a run ends that is followed by another one, which is to end so.
+fn followed(alloc: Global, ended: String, wanted: &str, later: &str) -> io::Result<String> {
+    if later.starts_with(wanted) {
+        Ok(ended)
+    } else {
+        Ok(format!(in alloc; "{ended}, then {later}")?)
+    }
+}
+
+/// Whether the schedule is another one than the row tells; where it tells none, whether one is there
+/// though the audit rejects, or isn't though it accepts.
+fn has_other_schedule(
+    alloc: Global,
+    shelf: &MemShelf,
+    row: Row<'_>,
+    audit: &str,
+) -> io::Result<bool> {
+    let accepts = audit.starts_with("0 ");
+    let Some(written) = shelf.get(SCHEDULE) else {
+        return Ok(accepts);
+    };
+    let Some(moments) = row.field(SCHEDULE) else {
+        return Ok(!accepts);
+    };
+    Ok(written != schedule_of(alloc, moments)?.as_slice())
 }
 
 /// How it ends, with what is written otherwise than it should.
@@ -193,14 +249,5 @@ fn has_other_report(alloc: Global, shelf: &MemShelf, row: Row<'_>) -> Result<boo
     let Some(told) = row.field(REPORT) else {
         return Ok(!ends_well);
     };
-    Ok(digits_of(alloc, report)?.as_str() != told)
-}
-
-/// The bytes in hexadecimal digits.
-fn digits_of(alloc: Global, bytes: &[u8]) -> Result<String, AllocError> {
-    let mut digits = String::new(alloc);
-    for byte in bytes {
-        digits.push_str(format!(in alloc; "{byte:02x}")?.as_str())?;
-    }
-    Ok(digits)
+    Ok(hex::encode(alloc, report)?.as_str() != told)
 }

@@ -3,8 +3,22 @@ use crate::row::{Row, number_of, parted, text_of};
 use std::alloc::Global;
 use std::io::{self, ErrorKind};
 
-/// The bytes of a trace of the row's events.
+/// The bytes that hexadecimal digits tell.
+pub fn bytes_of(alloc: Global, digits: &str) -> io::Result<Vec<u8>> {
+    hex::decode(alloc, digits)
+        .ok()
+        .ok_or(ErrorKind::InvalidData.into())
+}
+
+/// The bytes of a row's trace, which it tells in hexadecimal digits or by its events.
 pub fn trace_of(alloc: Global, row: Row<'_>) -> io::Result<Vec<u8>> {
+    match row.field("trace") {
+        Some(digits) => bytes_of(alloc, digits),
+        None => events_of(alloc, row),
+    }
+}
+
+fn events_of(alloc: Global, row: Row<'_>) -> io::Result<Vec<u8>> {
     let mut trace = b"SSCOTRC1".to_vec(alloc)?;
     for line in row.text().lines() {
         match parted(line) {

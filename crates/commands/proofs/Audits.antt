@@ -1,6 +1,7 @@
 -- From the outcome of an audit to what its statuses mean.
-use Rattle.std.proofs.Common.{◌≡◌, ◌∙◌, ℕ, List, [], ◌∷◌, Option, Some, option_map, Ok, Err, refl, ap, sym, subst}
-use Rattle.std.specs.FinMap.{insert}
+use Rattle.std.proofs.Common.{◌≡◌, ◌∙◌, ℕ, ◌+◌, ◌≤◌, cond, List, [], ◌∷◌, ◌++◌, length, Option, Some, None, option_map, Ok, Err, refl, ap, sym, subst, append_assoc, append-nil, arith}
+use Rattle.std.proofs.lemmas.List.Sums.{sum_by-append}
+use Rattle.std.specs.FinMap.{get, insert}
 use Rattle.outside.specs.Files.{Files}
 use Rattle.outside.specs.Shelves.{ShelfTold}
 use Rattle.outside.specs.Sinks.{SinkTold}
@@ -8,16 +9,27 @@ use Rattle.script_meaning.specs.Explains.{Explains}
 use Rattle.script_tree.specs.Objects.{Objects}
 use Rattle.script_tree.specs.Programs.{Program}
 use Rattle.script_tree.specs.Traces.{IsBalanced}
+use Rattle.script_tree.specs.declared.limits.TheConstants.{MOST_REQUESTS}
 use Rattle.script_tree.specs.declared.schedule.Moment.{Moment}
 use Rattle.script_tree.specs.declared.trace.TraceEvent.{TraceEvent}
-use Rattle.wire.specs.Files.{Spells}
+use Rattle.script_tree.specs.declared.trace.TraceEvent.TheVariants.{Asked, Answered}
+use Rattle.wire.specs.Files.{MayFollow, Spells, file_spelling}
+use Rattle.wire.specs.declared.limits.TheConstants.{MOST_FILE_BYTES, MOST_SCHEDULE_BYTES}
+use Rattle.trace_format.specs.Events.{is_request, request_count, trace_format}
 use Rattle.report.specs.declared.Report.{Report}
+use Rattle.report_format.specs.Reports.{report_format, records_of}
 use Rattle.schedule_format.specs.Moments.{schedule_format}
+use Rattle.schedule_limit.specs.Fits.{ScheduleFits}
 use Rattle.audit_meaning.specs.Soundness.{AcceptedExplains}
+use Rattle.audit_meaning.specs.Verdicts.{verdict}
 use Rattle.audit_meaning.specs.declared.reason.Reason.{Reason}
 use Rattle.audit_meaning.specs.declared.verdict.Verdict.{Verdict}
 use Rattle.audit_meaning.specs.declared.verdict.Verdict.TheVariants.{Accepted, Rejected}
 use Rattle.auditor.specs.Audited.{ReadReport, audited, plainly}
+use Rattle.command_inputs.specs.Inputs.{IsInput}
+use Rattle.command_inputs.specs.Report.{report_input}
+use Rattle.command_inputs.specs.Schedule.{schedule_input}
+use Rattle.command_inputs.specs.Trace.{trace_input}
 use Rattle.command_words.specs.AuditWords.{AuditWords}
 use Rattle.verdict_lines.specs.Rejections.{rejection_line}
 use Rattle.commands.specs.Audits.{IsJudged, IsVerdict, IsAudited, WithDeclarations, WithEvents, WithObjects}
@@ -85,20 +97,55 @@ accepts a trace report (Rejected reason) outcome h zero = absurd (let e = ap sta
 -- it is the verdict on a report that was read
 explains : AcceptedExplains → (program : Program) (start : Objects) (trace : List TraceEvent) (read : ReadReport) (schedule : List Moment) (evaluated steps : ℕ)
     → IsBalanced trace → audited program start trace read ≡ Accepted schedule evaluated steps
-    → (report : Report) × (read ≡ Ok report) × Explains program start trace schedule
+    → (report : Report) × (read ≡ Ok report) × Explains program start trace schedule × (verdict program start trace report ≡ Accepted schedule evaluated steps)
 explains sound program start trace (Ok report) schedule evaluated steps balanced is =
-    (report, refl, sound program start trace report schedule evaluated steps balanced is)
+    (report, refl, sound program start trace report schedule evaluated steps balanced is, is)
 explains sound program start trace (Err at) schedule evaluated steps balanced is = absurd cc
 
-pub has_schedule : AcceptedExplains → (words : List (List ℕ)) (reading : Option ℕ) (files : Files) (outcome : Outcome) (read new : ShelfTold)
+-- ---- lengths
+
+counted : (before : List TraceEvent) (e : TraceEvent) → request_count (before ++ e ∷ []) ≡ request_count before + request_count (e ∷ [])
+counted before e = sum_by-append (λ x. cond (is_request x) 1 0) before (e ∷ [])
+
+few_from : (before events : List TraceEvent) → MayFollow trace_format before events → request_count before ≤ MOST_REQUESTS → request_count (before ++ events) ≤ MOST_REQUESTS
+few_from before [] follow few = subst (λ es. request_count es ≤ MOST_REQUESTS) (sym (append-nil before)) few
+few_from before (Asked r q ∷ events) follow few =
+    let more = counted before (Asked r q) in
+    let within : request_count (before ++ Asked r q ∷ []) ≤ MOST_REQUESTS = omega (arith, more, follow.0.0.1.1) in
+    subst (λ es. request_count es ≤ MOST_REQUESTS) (append_assoc before (Asked r q ∷ []) events) (few_from (before ++ Asked r q ∷ []) events follow.1 within)
+few_from before (Answered r x ∷ events) follow few =
+    let more = counted before (Answered r x) in
+    let within : request_count (before ++ Answered r x ∷ []) ≤ MOST_REQUESTS = omega (arith, more, few) in
+    subst (λ es. request_count es ≤ MOST_REQUESTS) (append_assoc before (Answered r x ∷ []) events) (few_from (before ++ Answered r x ∷ []) events follow.1 within)
+
+-- a trace that was read has no more requests than a trace may have
+few_requests : (most : ℕ) (file : Option (List ℕ)) (trace : List TraceEvent) → IsInput (trace_input most) file (Ok trace) → request_count trace ≤ MOST_REQUESTS
+few_requests most None trace h = absurd h
+few_requests most (Some bytes) trace h = few_from [] trace h.1.spelled.allowed (omega arith)
+
+-- a report that was read is within its limit
+short_report : (most : ℕ) (file : Option (List ℕ)) (report : Report) → IsInput (report_input most) file (Ok (Ok report)) → length (file_spelling report_format (records_of report)) ≤ most
+short_report most None report h = absurd h
+short_report most (Some bytes) report h = subst (λ bs. length bs ≤ most) h.1.spelled h.0
+
+-- a schedule within its limit is one that can be read
+readable : (file : Option (List ℕ)) (bytes : List ℕ) (schedule : List Moment) → file ≡ Some bytes → Spells schedule_format bytes schedule
+    → length (file_spelling schedule_format schedule) ≤ MOST_SCHEDULE_BYTES → IsInput (schedule_input MOST_SCHEDULE_BYTES) file (Ok (Ok schedule))
+readable file bytes schedule there spells within =
+    subst (λ f. IsInput (schedule_input MOST_SCHEDULE_BYTES) f (Ok (Ok schedule))) (sym there) (subst (λ bs. length bs ≤ MOST_SCHEDULE_BYTES) (sym spells.spelled) within, spells)
+
+pub has_schedule : AcceptedExplains → ScheduleFits → (words : List (List ℕ)) (reading : Option ℕ) (files : Files) (outcome : Outcome) (read new : ShelfTold)
     → AskAudit words → status outcome ≡ 0 → IsOutcome words reading files outcome
     → read.files ≡ Some files → new ≡ with_puts outcome.puts read
     → (left : Files) × (new.files ≡ Some left) × HasSchedule words files left
-has_schedule sound words reading files outcome read new asked zero h told put =
+has_schedule sound fits words reading files outcome read new asked zero h told put =
     let a = asked.0 in
     let j = judged_of files a outcome (λ e. let f = sym e ∙ zero in cc) (of_audit words reading files outcome a asked.1 asked.2 asked.3 asked.4 h) in
     let v = accepts a j.trace j.report (audited j.program j.start j.trace j.report) outcome j.judged zero in
     let e = explains sound j.program j.start j.trace j.report v.schedule v.evaluated v.steps j.balanced v.verdict_is in
+    let spelled : AreAudited files a j.program j.start j.trace (Ok e.0) = subst (λ r. AreAudited files a j.program j.start j.trace r) e.1 j.spelled in
+    let within = fits j.program j.start j.trace e.0 v.schedule v.evaluated v.steps j.balanced
+    (few_requests MOST_FILE_BYTES (get files a.trace) j.trace spelled.trace_file) (short_report MOST_FILE_BYTES (get files a.report) e.0 spelled.report_file) e.3 in
     let left : Files = insert files a.schedule v.bytes in
     let is : new.files ≡ Some left
     = ap (λ (t : ShelfTold). t.files) put
@@ -113,10 +160,10 @@ has_schedule sound words reading files outcome read new asked zero h told put =
         start = j.start;
         trace = j.trace;
         report = e.0;
-        spelled = subst (λ r. AreAudited files a j.program j.start j.trace r) e.1 j.spelled;
+        spelled = spelled;
         schedule = v.schedule;
         explains = e.2;
-        file = (v.bytes, holds_put files a.schedule v.bytes, v.spells);
+        file = readable (get left a.schedule) v.bytes v.schedule (holds_put files a.schedule v.bytes) v.spells within;
         others = λ name apart. stays_put read files a.schedule v.bytes name apart;
       },
     )

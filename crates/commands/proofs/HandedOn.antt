@@ -1,5 +1,5 @@
 -- Audits of what was recorded accept it.
-use Rattle.std.proofs.Common.{◌≡◌, ◌∙◌, ℕ, ◌<◌, ◌≤◌, ◌&&◌, Bool, true, false, List, length, Option, Some, None, Result, Ok, Err, inl, inr, refl, ap, sym, subst, arith}
+use Rattle.std.proofs.Common.{◌≡◌, ◌∙◌, ℕ, ◌≤◌, ◌&&◌, Bool, true, false, List, length, Option, Some, None, Result, Ok, Err, inl, inr, refl, ap, sym, subst}
 use Rattle.std.specs.FinMap.{get}
 use Rattle.std.proofs.lemmas.Bool.{leb-true}
 use Rattle.std.specs.Prelude.{nat_le}
@@ -30,7 +30,6 @@ use Rattle.command_inputs.specs.Report.{report_input}
 use Rattle.command_inputs.specs.Requests.{requests_input}
 use Rattle.command_inputs.specs.State.{state_input}
 use Rattle.command_inputs.specs.Trace.{trace_input}
-use Rattle.command_inputs.specs.declared.fault.InputFault.{InputFault}
 use Rattle.command_words.specs.AuditWords.{AuditWords}
 use Rattle.command_words.specs.RecordWords.{RecordWords}
 use Rattle.commands.specs.Audits.{IsJudged, IsVerdict, WithDeclarations, WithEvents, WithObjects}

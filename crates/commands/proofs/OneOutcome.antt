@@ -1,5 +1,5 @@
 -- Words come to one outcome over the same files.
-use Rattle.std.proofs.Common.{◌≡◌, ◌∙◌, ℕ, List, Option, Some, None, Result, Ok, Err, inl, inr, refl, ap, sym, subst}
+use Rattle.std.proofs.Common.{◌≡◌, ◌∙◌, ℕ, List, Option, Some, None, Result, Ok, Err, inl, inr, ap, sym, subst}
 use Rattle.std.specs.FinMap.{get}
 use Rattle.outside.specs.Files.{Files}
 use Rattle.wire.specs.declared.limits.TheConstants.{MOST_FILE_BYTES, MOST_SCHEDULE_BYTES}
@@ -8,16 +8,15 @@ use Rattle.trace_format.specs.Events.{request_count}
 use Rattle.audit_meaning.specs.declared.verdict.Verdict.{Verdict}
 use Rattle.audit_meaning.specs.declared.verdict.Verdict.TheVariants.{Accepted, Rejected}
 use Rattle.auditor.specs.Audited.{ReadReport, audited, plainly}
-use Rattle.command_inputs.specs.Inputs.{Input, IsInput}
+use Rattle.command_inputs.specs.Inputs.{Input}
 use Rattle.command_inputs.specs.OneWay.{AreReadOneWay, IsReadOneWay}
 use Rattle.command_inputs.specs.Program.{program_input}
 use Rattle.command_inputs.specs.Report.{report_input}
 use Rattle.command_inputs.specs.Schedule.{schedule_input}
 use Rattle.command_inputs.specs.State.{state_input}
 use Rattle.command_inputs.specs.Trace.{trace_input}
-use Rattle.command_inputs.specs.declared.fault.InputFault.{InputFault}
 use Rattle.command_words.specs.AuditWords.{AuditWords, audit_words}
-use Rattle.command_words.specs.RecordWords.{RecordWords, record_words}
+use Rattle.command_words.specs.RecordWords.{RecordWords}
 use Rattle.command_words.specs.Words.{ReplayNames, check_name, replay_names}
 use Rattle.commands.specs.Audits.{accepted, group_count, IsAudited, IsJudged, IsVerdict, WithDeclarations, WithEvents, WithObjects}
 use Rattle.commands.specs.Laws.{IsOneOutcome}

@@ -1,5 +1,5 @@
 -- From the outcome of a recording to what its status 0 means.
-use Rattle.std.proofs.Common.{◌≡◌, ◌≢◌, ◌∙◌, ℕ, Bool, true, false, cond, List, [], ◌∷◌, Option, Some, None, option_map, Ok, inl, inr, refl, ap, sym, subst}
+use Rattle.std.proofs.Common.{◌≡◌, ◌≢◌, ◌∙◌, ℕ, List, [], Option, Some, None, option_map, inl, inr, refl, ap, sym}
 use Rattle.std.specs.FinMap.{insert}
 use Rattle.outside.specs.Files.{Files}
 use Rattle.outside.specs.Shelves.{ShelfTold}
@@ -14,7 +14,7 @@ use Rattle.command_inputs.specs.OneWay.{AreReadOneWay}
 use Rattle.trace_and_report.specs.Recorded.{IsTraceFile, IsReportFile, AreFilesOf}
 use Rattle.trace_and_report.specs.declared.recorded.Recorded.{Recorded as TraceAndReport}
 use Rattle.command_words.proofs.RecordWordsRead.{other_names}
-use Rattle.command_words.specs.RecordWords.{RecordWords, record_words}
+use Rattle.command_words.specs.RecordWords.{RecordWords}
 use Rattle.commands.specs.Outcome.{IsOfJobs, IsOutcome, WithJobs, WithPages, WithStart, WithTurns, written}
 use Rattle.commands.specs.Outputs.{Outcome, with_puts}
 use Rattle.commands.specs.Recorded.{AskRecord, AreJobsOf, AreTurnsOf, HasRecording, Holds}

@@ -1,10 +1,9 @@
 -- From the outcome of a replay to what its status means.
-use Rattle.std.proofs.Common.{◌≡◌, ◌∙◌, subst, ℕ, List, [], Option, Some, None, Result, Ok, Err, refl, ap, sym, inl, inr}
+use Rattle.std.proofs.Common.{◌≡◌, ◌∙◌, subst, ℕ, List, Option, Some, None, Result, Ok, Err, refl, ap, sym, inl, inr}
 use Rattle.outside.specs.Files.{Files}
 use Rattle.script_meaning.specs.Explains.{Explains}
 use Rattle.script_tree.specs.Objects.{Objects}
 use Rattle.script_tree.specs.Programs.{Program}
-use Rattle.script_tree.specs.Requests.{Request}
 use Rattle.script_tree.specs.Traces.{IsBalanced}
 use Rattle.script_tree.specs.declared.schedule.Moment.{Moment}
 use Rattle.script_tree.specs.declared.trace.TraceEvent.{TraceEvent}
@@ -13,8 +12,6 @@ use Rattle.replayer.specs.Differences.{verdict}
 use Rattle.replayer.specs.Laws.{AgreesExactly, ExplainsIfRead}
 use Rattle.command_inputs.specs.Inputs.{Input, IsInput}
 use Rattle.command_inputs.specs.Trace.{trace_input}
-use Rattle.command_words.specs.RecordWords.{RecordWords, record_words}
-use Rattle.command_words.specs.Words.{ReplayNames, check_name, replay_names}
 use Rattle.commands.specs.Lines.{finding_of, status_of}
 use Rattle.commands.specs.Outcome.{IsCounted, IsFound, IsOutcome, WithProgram, WithState, WithTrace}
 use Rattle.commands.specs.Outputs.{Outcome}

@@ -8,11 +8,9 @@ use Rattle.script_tree.specs.Objects.{Objects}
 use Rattle.script_tree.specs.Programs.{Program}
 use Rattle.script_tree.specs.declared.schedule.Moment.{Moment}
 use Rattle.script_tree.specs.declared.trace.TraceEvent.{TraceEvent}
-use Rattle.wire.specs.Files.{Spells}
 use Rattle.wire.specs.declared.limits.TheConstants.{MOST_FILE_BYTES, MOST_SCHEDULE_BYTES}
 use Rattle.replayer.specs.Laws.{ExplainsIfRead}
 use Rattle.report.specs.declared.Report.{Report}
-use Rattle.schedule_format.specs.Moments.{schedule_format}
 use Rattle.audit_meaning.specs.declared.reason.Reason.{Reason}
 use Rattle.audit_meaning.specs.declared.verdict.Verdict.TheVariants.{Rejected}
 use Rattle.auditor.specs.Audited.{ReadReport, audited}
@@ -26,7 +24,6 @@ use Rattle.command_words.specs.AuditWords.{AuditWords, audit_words}
 use Rattle.command_words.specs.RecordWords.{record_words}
 use Rattle.command_words.specs.Words.{ReplayNames, check_name, replay_names}
 use Rattle.commands.specs.Printing.{HasWhole}
-use Rattle.commands.specs.Recorded.{Holds}
 use Rattle.verdict_lines.specs.Rejections.{rejection_line}
 
 -- The words ask for a replay, for a check, or for an audit.
@@ -86,8 +83,8 @@ pub record AreAudited (files : Files) (w : AuditWords) (program : Program) (star
   pub trace_file : IsInput (trace_input MOST_FILE_BYTES) (get files w.trace) (Ok trace)
   pub report_file : IsInput (report_input MOST_FILE_BYTES) (get files w.report) (Ok report)
 
--- Afterwards a schedule that explains the trace stands under its name, and under every other name
--- what stood there.
+-- Afterwards a schedule that explains the trace, and that a replay can read, stands under its name,
+-- and under every other name what stood there.
 pub record HasSchedule (words : List (List ℕ)) (before after : Files) : Type 0 where
   pub asked : AuditWords
   pub asks : audit_words words ≡ Some asked
@@ -98,7 +95,8 @@ pub record HasSchedule (words : List (List ℕ)) (before after : Files) : Type 0
   pub spelled : AreAudited before asked program start trace (Ok report)
   pub schedule : List Moment
   pub explains : Explains program start trace schedule
-  pub file : Holds after asked.schedule (λ bytes. Spells schedule_format bytes schedule)
+  pub file :
+      IsInput (schedule_input MOST_SCHEDULE_BYTES) (get after asked.schedule) (Ok (Ok schedule))
   pub others : (name : List ℕ) → name ≢ asked.schedule → get after name ≡ get before name
 
 -- Where the shelf tells its files, before and after.

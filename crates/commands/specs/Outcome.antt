@@ -26,7 +26,6 @@ use Rattle.command_inputs.specs.Trace.{trace_input}
 use Rattle.command_inputs.specs.Turns.{turns_input}
 use Rattle.command_inputs.specs.declared.fault.InputError.{InputError}
 use Rattle.command_inputs.specs.declared.fault.InputError.TheVariants as error
-use Rattle.command_inputs.specs.declared.fault.InputFault.{InputFault}
 use Rattle.command_words.specs.AuditWords.{AuditWords, audit_words}
 use Rattle.command_words.specs.RecordWords.{RecordWords, record_words}
 use Rattle.command_words.specs.Words.{ReplayNames, check_name, replay_names}

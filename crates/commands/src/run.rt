@@ -22,6 +22,7 @@ use command_words::Words;
 use history::law::traces_are_balanced;
 use outside::{Clock, Gate, House, Shelf, Sink};
 use replayer::law::agreement;
+use schedule_limit::law::schedule_fits;
 use std::alloc::Global;
 
 /// What the words ask for, over the files of a shelf. It puts the files that it makes under their
@@ -70,6 +71,7 @@ pub fn run<F: Shelf, O: Sink, H: House, C: Clock + Sync, G: Gate + Sync>(
 {
     agreement();
     accepted_explains();
+    schedule_fits();
     recorded_is_accepted();
     traces_are_balanced();
     one_way();

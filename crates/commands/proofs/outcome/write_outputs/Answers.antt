@@ -1,4 +1,4 @@
-use Rattle.std.proofs.Common.{◌≡◌, ◌∙◌, get_or, ap, sym}
+use Rattle.std.proofs.Common.{◌≡◌, ◌∙◌, ap, sym}
 use Rattle.outside.specs.Shelves.{with_file}
 use Rattle.commands.specs.Outputs.{Put}
 use Rattle.commands.proofs.Puts.{one_more, refuses}

@@ -1,4 +1,4 @@
-use Rattle.std.proofs.Common.{◌≡◌, ◌∙◌, option_map, ap, sym, subst}
+use Rattle.std.proofs.Common.{◌∙◌, option_map, ap, sym, subst}
 use Rattle.command_words.specs.NamesView.{audit_words_of, names_of, record_words_of}
 use Rattle.commands.specs.Audits.{IsAudited}
 use Rattle.commands.specs.Outcome.{IsRecording, IsReplayed}

@@ -30,7 +30,7 @@ returns-in-Ok-print_line-clause-recorded g c = λ zero asked files told.
 
 pub returns-in-Ok-print_line-clause-accepted : goal.returns-in-Ok-print_line-clause-accepted
 returns-in-Ok-print_line-clause-accepted g c = λ zero asked files told.
-    has_schedule c.accepted_explains.ensures c.args.words.now (g.C.Clock.reading c.args.clock.now) files c.in-Ok.outcome (g.F.Shelf.told c.outcome_of.new.shelf)
+    has_schedule c.accepted_explains.ensures c.schedule_fits.ensures c.args.words.now (g.C.Clock.reading c.args.clock.now) files c.in-Ok.outcome (g.F.Shelf.told c.outcome_of.new.shelf)
     (g.F.Shelf.told c.write_outputs.new.shelf) asked (ap status (sym c.outcome.view_is) ∙ sym c.status-in-Ok-print_line.ensures ∙ zero)
     (c.in-Ok.ensures.outcome files told) (c.outcome_of.ensures.used.files ∙ told)
     (c.in_default.ensures ∙ ap (λ puts. with_puts puts (g.F.Shelf.told c.outcome_of.new.shelf)) (c.deref.ensures.value ∙ ap (λ (o : Outcome). o.puts) c.outcome.view_is))

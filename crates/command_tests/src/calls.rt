@@ -1,6 +1,8 @@
 //! Calls of the shelf and of the output that fail, one at a time.
 
-use crate::runs::{Files, THREE, THREE_SCHEDULE, THREE_TRACE, shelf_of, sink, status_of};
+use crate::runs::{
+    Files, THREE, THREE_REPORT, THREE_SCHEDULE, THREE_TRACE, shelf_of, sink, status_of,
+};
 use outside::{FixedClock, MemSink};
 use std::alloc::{AllocError, Global};
 use std::num::NonZeroUsize;
@@ -10,15 +12,17 @@ const FILES: Files<'static> = &[
     ("p", THREE),
     ("s", b"{}"),
     ("t", THREE_TRACE),
+    ("r", THREE_REPORT),
     ("c", THREE_SCHEDULE),
     ("q", b"[]"),
     ("u", b"[]"),
 ];
 
 /// Each command, and how often it calls the shelf: twice for an input, once for an output.
-const CALLS: [(&str, u64); 3] = [
+const CALLS: [(&str, u64); 4] = [
     ("check p", 2),
     ("replay p s t c", 8),
+    ("audit p s t r c", 9),
     ("record p s q t r --turns u", 10),
 ];
 

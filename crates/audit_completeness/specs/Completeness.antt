@@ -9,7 +9,12 @@ use Rattle.history.specs.Rooms.{IsLegal, IsClosed}
 use Rattle.history.specs.TraceOf.{trace_of}
 use Rattle.history.specs.declared.happening.Happening.{Happening}
 use Rattle.audit_meaning.specs.Verdicts.{verdict}
-use Rattle.audit_meaning.specs.declared.verdict.Verdict.TheVariants.{Accepted}
+use Rattle.audit_meaning.specs.declared.verdict.Verdict.{Verdict}
+use Rattle.audit_meaning.specs.declared.verdict.Verdict.TheVariants.{Accepted, Rejected}
+
+abbrev pub IsAccepted : Verdict → Type 0
+IsAccepted (Accepted schedule evaluated steps) = Unit {0}
+IsAccepted (Rejected reason) = ⊥
 
 -- The trace and the report of a history that a valid program allows, and in which no request is left open, are accepted.
 abbrev pub RecordedIsAccepted : Type 0

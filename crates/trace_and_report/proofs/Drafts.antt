@@ -77,7 +77,7 @@ pub file_append : {A : Type 0} (f : Format A) (xs ys : List A) → file_spelling
 file_append f xs ys =
     ap (λ bs. f.magic ++ bs) (records_append f xs ys) ∙ sym (append_assoc f.magic (records_spelling f xs) (records_spelling f ys))
 
-trace_more : (names : List Named) (named : Named) (old new : List ℕ) → old ≡ file_spelling trace_format (trace_in names)
+pub trace_more : (names : List Named) (named : Named) (old new : List ℕ) → old ≡ file_spelling trace_format (trace_in names)
     → new ≡ old ++ records_spelling trace_format (cons_option (event_in named) []) → new ≡ file_spelling trace_format (trace_in (names ++ named ∷ []))
 trace_more names named old new is more =
     let events : List TraceEvent = cons_option (event_in named) [] in
@@ -132,7 +132,7 @@ arrives names old new rid request is trace arrived operations logs groups wide s
       spelling = (wide, short);
     })
 
-counted_more : (b : Bool) (n k : ℕ) → cond b (n + 1) n ≡ n + length (cons_option (cond b (Some k) None) [])
+pub counted_more : (b : Bool) (n k : ℕ) → cond b (n + 1) n ≡ n + length (cons_option (cond b (Some k) None) [])
 counted_more true n k = refl
 counted_more false n k = sym (add-zero n)
 

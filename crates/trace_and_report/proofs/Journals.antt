@@ -10,11 +10,11 @@ use Rattle.trace_and_report.specs.Naming.{IsNamed, IsOfRoom}
 use Rattle.trace_and_report.specs.declared.journal.FileJournal.{FileJournal}
 use Rattle.trace_and_report.specs.declared.naming.Name.{Name}
 
-names_more : (room : Room) (history : List Happening) (h : Happening) → names_from room (history ++ h ∷ []) ≡ names_from room history ++ name (room_after room history) h ∷ []
+pub names_more : (room : Room) (history : List Happening) (h : Happening) → names_from room (history ++ h ∷ []) ≡ names_from room history ++ name (room_after room history) h ∷ []
 names_more room [] h = refl
 names_more room (g ∷ history) h = ap (λ ns. name room g ∷ ns) (names_more (onward room g) history h)
 
-room_more : (room : Room) (history : List Happening) (h : Happening) → room_after room (history ++ h ∷ []) ≡ onward (room_after room history) h
+pub room_more : (room : Room) (history : List Happening) (h : Happening) → room_after room (history ++ h ∷ []) ≡ onward (room_after room history) h
 room_more room [] h = refl
 room_more room (g ∷ history) h = room_more (onward room g) history h
 

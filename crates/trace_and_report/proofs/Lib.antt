@@ -1,13 +1,13 @@
-mod Alike
+pub mod Alike
 mod Allowed
-mod Drafts
+pub mod Drafts
 pub mod Files
-mod Groupings
-mod Groups
-mod Journals
+pub mod Groupings
+pub mod Groups
+pub mod Journals
 mod Namings
-mod Reports
-mod TraceFollows
-mod TraceLimits
+pub mod Reports
+pub mod TraceFollows
+pub mod TraceLimits
 mod Values
 mod Writings

@@ -74,11 +74,11 @@ groups_allowed (g ∷ gs) p = (p.0, groups_allowed gs p.1)
 
 -- ---- the parts of a report
 
-mapped : {A B C : Type 0} (f : B → C) (g : A → B) (xs : List A) → map f (map g xs) ≡ map (λ x. f (g x)) xs
+pub mapped : {A B C : Type 0} (f : B → C) (g : A → B) (xs : List A) → map f (map g xs) ≡ map (λ x. f (g x)) xs
 mapped f g [] = refl
 mapped f g (x ∷ xs) = ap (λ ys. f (g x) ∷ ys) (mapped f g xs)
 
-counts_so : (whole names : List Named) (operations : List (Option ℕ)) → ((r : ℕ) → counted operations r ≡ length (filter_map (did_in r) whole))
+pub counts_so : (whole names : List Named) (operations : List (Option ℕ)) → ((r : ℕ) → counted operations r ≡ length (filter_map (did_in r) whole))
     → map (count_at operations) (filter_map arrival_in names) ≡ filter_map (count_in whole) names
 counts_so whole [] operations is = refl
 counts_so whole (came r request ∷ names) operations is = λ i. record { rid = r; operations = is r i } ∷ counts_so whole names operations is i

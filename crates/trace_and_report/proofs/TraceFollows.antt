@@ -2,23 +2,17 @@
 use Rattle.std.proofs.Common.{◌≡◌, ℕ, ◌+◌, ◌<◌, ◌≤◌, ◌^◌, List, [], ◌∷◌, ◌++◌, length, ap, cond, arith}
 use Rattle.std.proofs.lemmas.List.{length-append}
 use Rattle.std.proofs.lemmas.List.Sums.{sum_by-cons, sum_by_push}
-use Rattle.script_tree.specs.Requests.{IsRequestWithinLimits}
 use Rattle.script_tree.specs.declared.limits.TheConstants.{MOST_REQUESTS}
 use Rattle.script_tree.specs.declared.trace.TraceEvent.{TraceEvent}
 use Rattle.script_tree.specs.declared.trace.TraceEvent.TheVariants.{Asked, Answered}
 use Rattle.wire.specs.Files.{MayFollow, Spells, IsFileWithin, record_spelling, records_spelling}
 use Rattle.wire.specs.Spellings.{bytes_spelling}
 use Rattle.wire.specs.declared.limits.TheConstants.{MOST_FILE_BYTES}
-use Rattle.trace_format.specs.Events.{trace_format, event_spelling, is_request, request_count, IsEvent, IsResponse}
+use Rattle.trace_format.specs.Events.{trace_format, event_spelling, is_request, request_count, IsEvent}
 use Rattle.history.specs.Names.{Named, came, did, went}
 use Rattle.history.specs.TraceOf.{trace_in}
-use Rattle.trace_and_report.specs.Draft.{HasSpelling}
-use Rattle.trace_and_report.specs.Widths.{Each, IsWide}
-
--- What is spelled of the event has its widths and is within the limits.
-abbrev IsSpellableEvent : TraceEvent → Type 0
-IsSpellableEvent (Asked rid request) = IsWide rid × IsRequestWithinLimits request
-IsSpellableEvent (Answered rid response) = IsWide rid × IsResponse response
+use Rattle.trace_and_report.specs.Draft.{HasSpelling, IsSpellableEvent}
+use Rattle.trace_and_report.specs.Widths.{Each}
 
 events_spellable : (names : List Named) → Each HasSpelling names → Each IsSpellableEvent (trace_in names)
 events_spellable [] each = tt
@@ -52,10 +46,13 @@ follow before (e ∷ events) few (first, each) room =
       follow (before ++ e ∷ []) events (omega (arith, few, count_more before e, count_split e events)) each (omega (arith, parts, room)),
     )
 
-pub trace_read_again : (names : List Named) (bytes : List ℕ) → request_count (trace_in names) ≤ MOST_REQUESTS → Each HasSpelling names
-    → IsFileWithin trace_format MOST_FILE_BYTES (trace_in names) bytes → Spells trace_format bytes (trace_in names)
-trace_read_again names bytes few each file =
-    let trace : List TraceEvent = trace_in names in
+pub events_read_again : (trace : List TraceEvent) (bytes : List ℕ) → request_count trace ≤ MOST_REQUESTS → Each IsSpellableEvent trace
+    → IsFileWithin trace_format MOST_FILE_BYTES trace bytes → Spells trace_format bytes trace
+events_read_again trace bytes few each file =
     let len = length-append trace_format.magic (records_spelling trace_format trace) in
     let same : length bytes ≡ length (trace_format.magic ++ records_spelling trace_format trace) = ap length file.0 in
-    record { spelled = file.0; allowed = follow [] trace (omega (arith, few)) (events_spellable names each) (omega (arith, len, same, file.1)) }
+    record { spelled = file.0; allowed = follow [] trace (omega (arith, few)) each (omega (arith, len, same, file.1)) }
+
+pub trace_read_again : (names : List Named) (bytes : List ℕ) → request_count (trace_in names) ≤ MOST_REQUESTS → Each HasSpelling names
+    → IsFileWithin trace_format MOST_FILE_BYTES (trace_in names) bytes → Spells trace_format bytes (trace_in names)
+trace_read_again names bytes few each file = events_read_again (trace_in names) bytes few (events_spellable names each) file

@@ -6,6 +6,8 @@ use Rattle.script_tree.specs.Requests.{IsRequestWithinLimits}
 use Rattle.script_tree.specs.declared.operation.Choice.{Choice}
 use Rattle.script_tree.specs.declared.operation.Object.{Object}
 use Rattle.script_tree.specs.declared.operation.Op.{Op}
+use Rattle.script_tree.specs.declared.trace.TraceEvent.{TraceEvent}
+use Rattle.script_tree.specs.declared.trace.TraceEvent.TheVariants.{Asked, Answered}
 use Rattle.wire.specs.Files.{file_spelling}
 use Rattle.trace_format.specs.Events.{trace_format, IsResponse}
 use Rattle.report.specs.declared.Count.{Count}
@@ -50,6 +52,11 @@ abbrev pub HasSpelling : Named → Type 0
 HasSpelling (came r request) = IsWide r × IsRequestWithinLimits request
 HasSpelling (did r k op choice) = entry_field.allows (entry_of r k op choice)
 HasSpelling (went r response path) = IsWide r × IsResponse response
+
+-- the same of an event
+abbrev pub IsSpellableEvent : TraceEvent → Type 0
+IsSpellableEvent (Asked rid request) = IsWide rid × IsRequestWithinLimits request
+IsSpellableEvent (Answered rid response) = IsWide rid × IsResponse response
 
 -- It is of these names.
 pub record IsOfNames (names : List Named) (draft : Draft) : Type 0 where

@@ -1,4 +1,4 @@
-ghost use Rattle.std.specs.Prelude.{◌≡◌, ℕ, [], List, IfOk, OnOk};
+ghost use Rattle.std.specs.Prelude.{◌≡◌, [], List, IfOk};
 ghost use Rattle.script_tree.specs.Programs.{Program};
 ghost use Rattle.script_tree.specs.Requests.{IsRequestWithinLimits};
 ghost use Rattle.script_tree.specs.declared.path.Path.{Path as Taken};
@@ -7,18 +7,17 @@ ghost use Rattle.script_fit.specs.FitsOperation.{FitsOperation};
 ghost use Rattle.history.specs.Journals.{CanHappen};
 ghost use Rattle.history.specs.Names.{Named, came, did, went, name, rid_in, number_in};
 ghost use Rattle.history.specs.Rooms.{Room};
-ghost use Rattle.trace_and_report.specs.Draft.{IsOfNames, TakesIn, counted, one_more_of};
+ghost use Rattle.trace_and_report.specs.Draft.{IsOfNames, TakesIn};
 ghost use Rattle.trace_and_report.specs.Grouped.{groups_in, HaveMembers};
 ghost use Rattle.trace_and_report.specs.Written.{AreFiles};
 
+use crate::counts::count;
 use crate::grouped::{Grouped, add_member, no_groups};
 use crate::logs::{Logs, add_entry, no_logs};
-use crate::naming::one_more;
 use crate::recorded::Recorded;
 use crate::widths::Wide;
 use crate::writing::{write_counts, write_groups, write_logs};
 use history::Happening;
-use history::seats::put_at;
 use report::LogEntry;
 use report_format::appending::begin as begin_report;
 use script_tree::operation::{Choice, Op};
@@ -136,21 +135,4 @@ impl Draft {
             groups: paths,
         })
     }
-}
-
-/// One operation more of a request.
-fn count(operations: &mut Vec<Option<u32>>, rid: u32) -> Result<(), AllocError>
-    ensures { OnOk result ((r : ℕ) → counted operations.new.items r
-        ≡ one_more_of rid (counted operations.old.items) r) }
-{
-    let more = one_more(counted(operations, rid))?;
-    put_at(operations, rid, more)
-}
-
-/// How many operations a request did.
-pub(crate) fn counted(operations: &[Option<u32>], rid: u32) -> u32
-    ensures { result ≡ counted operations.now rid }
-{
-    let here = operations.get(rid as usize).copied().flatten();
-    here.unwrap_or(0)
 }

@@ -6,17 +6,17 @@ use std::alloc::{AllocError, Global};
 use std::hash::Hash;
 
 /// Keys in the order of their first use, each with its members in their order.
-pub(crate) type Grouped<K, V> = IndexMap<K, Vec<V>>;
+pub type Grouped<K, V> = IndexMap<K, Vec<V>>;
 
 /// No key.
-pub(crate) fn no_groups<K: Eq + Hash, V>(alloc: Global) -> Grouped<K, V>
+pub fn no_groups<K: Eq + Hash, V>(alloc: Global) -> Grouped<K, V>
     ensures { groups_in result ≡ [] }
 {
     IndexMap::new(alloc)
 }
 
 /// Puts a member behind the others of its key. A new key goes last.
-pub(crate) fn add_member<K: Eq + Hash + Drop, V: Drop>(
+pub fn add_member<K: Eq + Hash + Drop, V: Drop>(
     alloc: Global,
     groups: &mut Grouped<K, V>,
     key: K,

@@ -1,13 +1,14 @@
 //! The files of a recording: the trace and the report of what happened, written while it happens.
 #![tactic(auto)]
 
+pub mod counts;
 mod draft;
-mod grouped;
+pub mod grouped;
 mod journal;
 mod logs;
-mod naming;
+pub mod naming;
 pub mod recorded;
-mod widths;
+pub mod widths;
 mod writing;
 
 pub use journal::FileJournal;

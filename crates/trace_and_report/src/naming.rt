@@ -25,21 +25,21 @@ pub(crate) struct OpenSeat {
 /// The id of the request that something happened to; of an operation also its number among those of
 /// the request, from 1.
 #[derive(Clone, Copy)]
-pub(crate) struct Name {
-    pub(crate) rid: u32,
-    pub(crate) number: u32,
+pub struct Name {
+    pub rid: u32,
+    pub number: u32,
 }
 
 /// The requests that are open, and how many have arrived, while one goes through a history.
 #[derive(Drop)]
-pub(crate) struct Naming {
+pub struct Naming {
     arrived: u32,
     seats: Vec<Option<OpenSeat>>,
 }
 
 impl Naming {
     /// Before anything has happened.
-    pub(crate) fn new(alloc: Global) -> Naming
+    pub fn new(alloc: Global) -> Naming
         ensures { (start : Objects) → IsOfRoom (empty_room start) result }
     {
         Naming {
@@ -49,7 +49,7 @@ impl Naming {
     }
 
     /// Names what happens next. A number that 32 bits don't hold is answered as want of memory.
-    pub(crate) fn pass(&mut self, happening: &Happening) -> Result<Name, AllocError>
+    pub fn pass(&mut self, happening: &Happening) -> Result<Name, AllocError>
         ensures { IsPassed happening.now self.old self.new result }
     {
         match happening {

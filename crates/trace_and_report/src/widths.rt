@@ -14,7 +14,7 @@ use script_tree::value::{Node, Value};
 use std::alloc::AllocError;
 
 /// What has numbers and members.
-pub(crate) trait Wide {
+pub trait Wide {
     /// Its numbers have their bits, and 32 bits count its members.
     ghost is_wide: { Self → Type 0 };
 

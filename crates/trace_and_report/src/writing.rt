@@ -8,7 +8,7 @@ ghost use Rattle.trace_and_report.specs.Widths.{Each};
 ghost use Rattle.trace_and_report.specs.Written.{AreAdded, count_records, group_record, log_record};
 ghost use Rattle.trace_and_report.specs.Written.{HasSpellings};
 
-use crate::draft::counted;
+use crate::counts::counted;
 use crate::grouped::Grouped;
 use crate::logs::Logs;
 use crate::widths::Wide;

@@ -1,7 +1,7 @@
 use Rattle.std.proofs.Common.{◌∙◌, ◌+◌, ap}
 use Rattle.trace_and_report.specs.Draft.{counted}
 use Rattle.trace_and_report.proofs.Drafts.{counts_one, on_ok}
-use Rattle.trace_and_report.proofs.draft.count.Goals as goal
+use Rattle.trace_and_report.proofs.counts.count.Goals as goal
 
 pub returns : goal.returns
 returns c =

@@ -1,0 +1,4 @@
+mod Acceptance
+mod ReportDrafts
+mod TraceDrafts
+mod Walking

@@ -7,6 +7,7 @@ use Rattle.script_tree.specs.Traces.{IsBalanced}
 use Rattle.script_tree.specs.declared.schedule.Moment.{Moment}
 use Rattle.script_tree.specs.declared.trace.TraceEvent.{TraceEvent}
 use Rattle.report.specs.declared.Report.{Report}
+use Rattle.audit_completeness.specs.Completeness.{IsAccepted}
 use Rattle.audit_meaning.specs.Cycles.{cycle_of}
 use Rattle.audit_meaning.specs.GroupFaults.{grouping_fault}
 use Rattle.audit_meaning.specs.Groups.{unsound_group}
@@ -22,7 +23,7 @@ use Rattle.audit_meaning.specs.declared.verdict.Verdict.TheVariants.{Accepted, R
 use Rattle.audit_order.specs.Mirrors.{IsOrdered}
 use Rattle.audit_order.specs.declared.ordering.Ordered.{Ordered}
 use Rattle.audit_order.specs.declared.ordering.Ordered.TheVariants.{Order}
-use Rattle.auditor.specs.Audited.{ReadReport, audited, plainly, IsSound, IsAccepted}
+use Rattle.auditor.specs.Audited.{ReadReport, audited, plainly, IsSound}
 
 -- ---- the verdict
 

@@ -11,6 +11,7 @@ use Rattle.history.specs.ReportOf.{report_of}
 use Rattle.history.specs.Rooms.{IsLegal, IsClosed}
 use Rattle.history.specs.TraceOf.{trace_of}
 use Rattle.history.specs.declared.happening.Happening.{Happening}
+use Rattle.audit_completeness.specs.Completeness.{IsAccepted}
 use Rattle.audit_meaning.specs.Verdicts.{verdict}
 use Rattle.audit_meaning.specs.declared.reason.Reason.TheVariants.{Unreadable}
 use Rattle.audit_meaning.specs.declared.verdict.Verdict.{Verdict}
@@ -37,10 +38,6 @@ plainly (Rejected reason) = Rejected reason
 abbrev pub IsSound : Program → Objects → List TraceEvent → Verdict → Type 0
 IsSound program start trace (Accepted schedule evaluated steps) = Explains program start trace schedule
 IsSound program start trace (Rejected reason) = Unit {0}
-
-abbrev pub IsAccepted : Verdict → Type 0
-IsAccepted (Accepted schedule evaluated steps) = Unit {0}
-IsAccepted (Rejected reason) = ⊥
 
 -- It accepts the trace and the report of each history that the program allows and that leaves no request open.
 abbrev pub Accepts : Program → Objects → List TraceEvent → ReadReport → Verdict → Type 0

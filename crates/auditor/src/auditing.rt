@@ -1,5 +1,6 @@
 ghost use Rattle.std.specs.Prelude.{◌≡◌, IfOk};
 ghost use Rattle.script_tree.specs.Traces.{IsBalanced};
+ghost use Rattle.report_format.specs.Limits.{HasValuesWithinLimits};
 ghost use Rattle.object_set.specs.ObjectSets.{IsSetOf, objects_of};
 ghost use Rattle.audit_meaning.specs.Verdicts.{verdict as verdict_on};
 ghost use Rattle.auditor.specs.Audited.{read_report, audited, plainly, IsSound, Accepts};
@@ -21,8 +22,8 @@ use trace_index::IndexedTrace;
 /// The verdict on the report of a trace, from the objects that the program started on; of a report
 /// that isn't in its grammar the offset of its first bad record is given in its place. A gate is
 /// passed at the start of each group. One worker runs the members of all groups, one by one, until
-/// members are run side by side. A report with values beyond the limits, which no file spells, is
-/// answered as want of memory.
+/// members are run side by side. The values of the report are within the limits, as are those of
+/// each report that a file spells.
 pub fn audit<G: Gate + Sync>(
     alloc: Global,
     program: &Program,
@@ -34,6 +35,7 @@ pub fn audit<G: Gate + Sync>(
 ) -> Result<Verdict, AllocError>
     requires balanced { IsBalanced trace.now }
     requires set { IsSetOf program.now start.now }
+    requires limits { IfOk report (λ report. HasValuesWithinLimits report.now) }
     ensures verdict { let report = read_report report.entry in
         IfOk result (λ verdict. verdict
         ≡ plainly (audited program.now (objects_of start.now) trace.now report)) }
@@ -61,6 +63,7 @@ fn audit_report<G: Gate + Sync>(
 ) -> Result<Verdict, AllocError>
     requires balanced { IsBalanced trace.now }
     requires set { IsSetOf program.now start.now }
+    requires limits { HasValuesWithinLimits report.now }
     ensures { let here = verdict_on program.now (objects_of start.now) trace.now report.now in
         IfOk result (λ verdict. verdict ≡ plainly here) }
 {

@@ -1,12 +1,13 @@
-ghost use Rattle.std.specs.Prelude.{◌≡◌, IfOk};
+ghost use Rattle.std.specs.Prelude.{◌≡◌};
 ghost use Rattle.basis.specs.UnlessMemory.{UnlessMemory};
 ghost use Rattle.script_tree.specs.Traces.{IsBalanced};
+ghost use Rattle.report_format.specs.Limits.{HasValuesWithinLimits};
 ghost use Rattle.object_set.specs.ObjectSets.{IsSetOf, objects_of};
+ghost use Rattle.versioned_store.specs.Logged.{FitLogs};
 ghost use Rattle.audit_meaning.specs.Groups.{unsound_group};
 ghost use Rattle.audit_meaning.specs.Verdicts.{verdict as verdict_on, plain_steps};
 ghost use Rattle.log_checker.specs.Faults.{Gives};
 ghost use Rattle.log_checker.specs.OpMaps.{IsMapOf};
-ghost use Rattle.group_runner.specs.Told.{told_by};
 ghost use Rattle.auditor.specs.Audited.{plainly};
 
 use audit_meaning::reason::Reason;
@@ -20,9 +21,9 @@ use outside::gate::Gate;
 use report::Report;
 use script_check::program::Program;
 use script_code::translate::translate;
-use std::alloc::{AllocError, Global};
+use script_fit::law::fitting_is_tested;
+use std::alloc::Global;
 use trace_index::IndexedTrace;
-use versioned_store::fitting::fit_logs;
 
 /// The verdict where nothing is wrong, else the first reason.
 pub(crate) fn judge<G: Gate + Sync>(
@@ -35,10 +36,12 @@ pub(crate) fn judge<G: Gate + Sync>(
 ) -> Result<Verdict, OrMemory<Reason>>
     requires balanced { IsBalanced trace.now }
     requires set { IsSetOf program.now start.now }
+    requires limits { HasValuesWithinLimits report.now }
     ensures { let here = verdict_on program.now (objects_of start.now) trace.now report.now in
         UnlessMemory (λ verdict. verdict ≡ plainly here)
         (λ reason. here ≡ Verdict.Rejected reason) result }
 {
+    fitting_is_tested();
     let map = check_logs(alloc, start, trace, report)?;
     let nodes = match order_events(alloc, trace, report, &map)? {
         Ordered::Order(nodes) => nodes,
@@ -64,30 +67,13 @@ fn run_members<G: Gate + Sync>(
     map: &OpMap,
     gate: &G,
 ) -> Result<u64, OrMemory<Reason>>
-    requires { IsMapOf report.now map.now }
+    requires mapped { IsMapOf report.now map.now }
+    requires fit { FitLogs start.now report.now.logs }
     ensures { let objects = objects_of start.now in
         Gives (unsound_group program.now objects trace.now report.now)
         (λ steps. steps ≡ plain_steps program.now objects trace.now report.now) result }
 {
     let code = translate(alloc, program)?;
-    let evidence = gather(alloc, start, trace, report, map)?;
+    let evidence = Evidence::gather(alloc, trace, start, report, map)?;
     run_groups(alloc, &code, &evidence, gate)
-}
-
-/// The evidence of a report. One with values beyond the limits, or with entries that aren't the
-/// program's, is answered as want of memory.
-fn gather<'a>(
-    alloc: Global,
-    start: &'a ObjectSet,
-    trace: &'a IndexedTrace<'a>,
-    report: &'a Report,
-    map: &'a OpMap,
-) -> Result<Evidence<'a>, AllocError>
-    requires { IsMapOf report.now map.now }
-    ensures { IfOk result (λ evidence. evidence ≡ told_by trace.now start.now report.now) }
-{
-    if !fit_logs(start, report.logs.as_slice()) {
-        return Err(AllocError);
-    }
-    Evidence::gather(alloc, trace, start, report, map)
 }

@@ -1,4 +1,5 @@
-ghost use Rattle.std.specs.Prelude.{◌<◌, ◌^◌};
+ghost use Rattle.std.specs.Prelude.{◌<◌, ◌^◌, IfOk};
+ghost use Rattle.report_format.specs.Limits.{HasValuesWithinLimits};
 ghost use Rattle.outside.specs.Shelves.{IsReadOnce};
 ghost use Rattle.command_inputs.specs.Faults.{UsesToRead};
 ghost use Rattle.command_inputs.specs.Inputs.{IsReadUnder};
@@ -12,6 +13,7 @@ use basis::OrMemory;
 use outside::Shelf;
 use report::Report;
 use report_format::decoding::decode;
+use report_format::law::values_are_within_limits;
 use std::alloc::Global;
 
 /// Reads the report whose file has this name, or the place of its first bad record.
@@ -24,9 +26,11 @@ pub fn read_report<F: Shelf>(
     requires { most < 2 ^ 63 }
     ensures read { let input = report_input most in
         IsReadUnder (λ report. report) input (F.told shelf.old) name.now result }
+    ensures limits { IfOk result (λ read. IfOk read HasValuesWithinLimits) }
     ensures used { UsesToRead (F.told shelf.old) (F.told shelf.new) result }
     ensures once { IsReadOnce (F.reads shelf.old) (F.reads shelf.new) name.now }
 {
+    values_are_within_limits();
     let bytes = read_whole(alloc, shelf, Role::Report, name, most)?;
     match decode(alloc, &bytes) {
         Ok(report) => Ok(Ok(report)),

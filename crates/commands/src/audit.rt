@@ -1,11 +1,13 @@
 ghost use Rattle.std.specs.Prelude.{◌≡◌, IfOk};
 ghost use Rattle.std.specs.Option.{ForSome};
 ghost use Rattle.script_tree.specs.Traces.{IsBalanced};
+ghost use Rattle.report_format.specs.Limits.{HasValuesWithinLimits};
 ghost use Rattle.object_set.specs.ObjectSets.{IsSetOf, objects_of};
 ghost use Rattle.trace_format.specs.Events.{request_count};
 ghost use Rattle.auditor.specs.Audited.{audited, plainly};
 ghost use Rattle.command_inputs.specs.Faults.{UsesToRead};
 ghost use Rattle.command_words.specs.NamesView.{audit_words_of};
+ghost use Rattle.commands.specs.Asked.{MayAnswer, an_audit};
 ghost use Rattle.commands.specs.Audits.{group_count, IsJudged};
 ghost use Rattle.commands.specs.Outcome.{IfAudited, SaysAbsent};
 
@@ -34,6 +36,7 @@ pub fn audit_files<'w, F: Shelf, G: Gate + Sync>(
 ) -> Result<Outcome<'w>, InputError>
     ensures outcome { let words = audit_words_of words.entry in
         ForSome (F.told shelf.old).files (λ files. IfAudited files words result) }
+    ensures asked { IfOk result (λ outcome. MayAnswer an_audit outcome.answer) }
     ensures found { IfOk result (λ outcome. ¬ SaysAbsent outcome) }
     ensures used { UsesToRead (F.told shelf.old) (F.told shelf.new) result }
 {
@@ -60,15 +63,15 @@ fn verdict_on<G: Gate + Sync>(
     start: &ObjectSet,
     trace: &TraceFile,
     report: &Result<Report, u64>,
-    workers: u64,
+    workers: u32,
     gate: &G,
 ) -> Result<Verdict, AllocError>
     requires balanced { IsBalanced trace.now }
     requires set { IsSetOf program.now start.now }
+    requires limits { IfOk report.now HasValuesWithinLimits }
     ensures { IfOk result (λ verdict. verdict
         ≡ plainly (audited program.now (objects_of start.now) trace.now report.now)) }
 {
-    let workers = u32::try_from(workers).unwrap_or(u32::MAX);
     match report {
         Ok(report) => audit(alloc, program, start, trace, Ok(report), workers, gate),
         Err(at) => audit(alloc, program, start, trace, Err(*at), workers, gate),

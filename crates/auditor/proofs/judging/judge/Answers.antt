@@ -5,6 +5,7 @@ use Rattle.audit_meaning.specs.declared.verdict.Verdict.TheVariants.{Accepted}
 use Rattle.log_checker.proofs.Carried.{carried}
 use Rattle.audit_order.specs.Mirrors.{IsOrdered}
 use Rattle.auditor.specs.Audited.{plainly}
+use Rattle.auditor.proofs.Fitting.{fit_logs}
 use Rattle.auditor.proofs.Verdicts.{faulty, cyclic, orderly, ungrouped, unsound, accepted}
 use Rattle.auditor.proofs.judging.judge.Goals as goal
 
@@ -29,6 +30,12 @@ returns-in_err-check_groups g c =
     let order = orderly program start trace report c.in_ok-nodes.field-0 c.in-Order.nodes faultless c.in_ok-nodes.ensures c.in-Order.is in
     carried _ _ _ c.in_err-check_groups.field-0.0 c.from_residual-in_err-check_groups.result c.from_residual-in_err-check_groups.ensures.1 c.in_err-check_groups.ensures
     (λ reason is. ungrouped program start trace report c.in-Order.nodes reason order is)
+
+pub run_members-requires-clause-fit : goal.run_members-requires-clause-fit
+run_members-requires-clause-fit g c κs within =
+    let program = c.args.program.now in
+    let faultless = (c.in_ok-map.ensures program c.requires.set).0 in
+    fit_logs c.fitting_is_tested.ensures program c.args.start.now c.args.trace.now c.args.report.now c.requires.set faultless c.requires.limits
 
 pub returns-in_err-steps : goal.returns-in_err-steps
 returns-in_err-steps g c =

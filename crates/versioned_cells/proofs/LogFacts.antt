@@ -80,6 +80,12 @@ register_none start vs b p = by p where
   by zero = ap one (sym (b.at 0))
   by (suc q) = ap one (sym (b.at (suc q)))
 
+pub one_begins : (start value : Option Datum) (vs : Versions Datum) → vs ≡ (0, value) ∷ [] → value ≡ start → Begins start vs
+one_begins start value vs is same = record {
+  at = λ p. ap (as_of p None) is ∙ ap (λ b. if b then value else None) (le-leb 0 p (omega arith)) ∙ same;
+  until = subst (AreUntil 0) (sym is) (until_more 0 [] value (λ i d h. absurd (omega arith)));
+}
+
 -- ---- stores
 
 pub stores : (a : Act) (c : Choice) (m : List ℕ → Option Datum) → (acted a c (many m)).0 ≡ many (stored a m)

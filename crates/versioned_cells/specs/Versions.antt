@@ -1,5 +1,5 @@
 -- What stood somewhere over time.
-use Rattle.std.specs.Prelude.{◌≡◌, ◌≢◌, ◌≤◌, ℕ, nat_le, List, [], ◌∷◌, ◌++◌, if◌then◌else◌, Bool, Option, None, unwrap_or}
+use Rattle.std.specs.Prelude.{◌≡◌, ◌≢◌, ◌≤◌, ℕ, nat_le, List, [], ◌∷◌, ◌++◌, if◌then◌else◌, reverse, Bool, Option, None, unwrap_or}
 use Rattle.std.specs.BTreeMap.{is_at}
 use Rattle.std.specs.Cmp.Lexicographic.{slice_cmp}
 use Rattle.std.specs.List.{All}
@@ -61,3 +61,9 @@ changed eq since value vs = if option_eq eq (as_of since None vs) value then vs 
 abbrev pub Changes : {X : Type 0} → (X → X → Bool) → ℕ → List ℕ → Option X → VersionsByKey X → VersionsByKey X → Type 0
 Changes eq since key value old new =
     (k : List ℕ) → history_at k new ≡ (if bytes_eq k key then changed eq since value (history_at k old) else history_at k old)
+
+-- ---- pairs of keys and versions
+
+-- under each key stands what the last of these pairs says
+abbrev pub AreLast : {X : Type 0} → VersionsByKey X → VersionsByKey X → Type 0
+AreLast pairs es = (k : List ℕ) → history_at k es ≡ history_at k (reverse pairs)

@@ -1,6 +1,6 @@
-ghost use Rattle.std.specs.Prelude.{◌≡◌, [], None, OnOk};
+ghost use Rattle.std.specs.Prelude.{◌≡◌, [], None, IfOk, OnOk};
 ghost use Rattle.std.specs.Option.{option_copied};
-ghost use Rattle.versioned_cells.specs.Versions.{history_at, held_at, AreAllUntil, Notes, Changes};
+ghost use Rattle.versioned_cells.specs.Versions.{history_at, held_at, AreAllUntil, AreLast, Notes, Changes};
 
 use crate::history::History;
 use script_tree::text::Text;
@@ -54,18 +54,15 @@ impl<T> Histories<T> {
 }
 
 impl<T: Drop> Histories<T> {
-    /// Begins the history of a key that has none: from this position on this stands there.
-    pub fn begin(
-        &mut self,
+    /// The histories of these keys. Of two of one key the later counts.
+    pub fn from_vec(
         alloc: Global,
-        key: Text,
-        since: u32,
-        value: Option<T>,
-    ) -> Result<(), AllocError>
-        requires { history_at key self.old ≡ [] }
-        ensures { OnOk result (Notes since key value self.old self.new) }
+        histories: Vec<(Text, History<T>)>,
+    ) -> Result<Histories<T>, AllocError>
+        ensures { IfOk result (AreLast histories.items) }
     {
-        add(&mut self.by_key, alloc, key, since, value)
+        let by_key = BTreeMap::from_iter(alloc, histories)?;
+        Ok(Histories { by_key })
     }
 
     /// From this position on this stands under a key.
@@ -145,7 +142,7 @@ fn add<T: Drop>(
     requires { history_at key by_key.old.entries ≡ [] }
     ensures { OnOk result (Notes since key value by_key.old.entries by_key.new.entries) }
 {
-    let history = History::begun(alloc, since, value)?;
+    let history = History::begun(alloc, since, value);
     by_key.insert(key, history)?;
     Ok(())
 }

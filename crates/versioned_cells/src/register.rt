@@ -1,4 +1,5 @@
 ghost use Rattle.std.specs.Prelude.{◌≡◌, IfOk, OnOk, None};
+ghost use Rattle.std.specs.Option.{option_copied};
 ghost use Rattle.script_tree.specs.Objects.{acted, one};
 ghost use Rattle.script_tree.specs.declared.operation.Choice.{Choice as AnyChoice};
 ghost use Rattle.object_cells.specs.Cells.{held};
@@ -35,13 +36,16 @@ pub fn register_history(
 fn begun(alloc: Global, registers: &Registers, name: &Text) -> Result<History<Value>, AllocError>
     ensures { IfOk result (Begins (held registers.now name.now)) }
 {
-    let mut history = History::new(alloc);
-    match registers.find(name) {
-        Some(value) => {
-            history.note(0, Some(value.clone()?))?;
-            Ok(history)
-        }
-        None => Ok(history),
+    Ok(History::begun(alloc, 0, copied(registers.find(name))?))
+}
+
+/// A copy of a value, where there is one.
+fn copied(value: Option<&Value>) -> Result<Option<Value>, AllocError>
+    ensures { IfOk result (λ copy. copy ≡ option_copied value.entry) }
+{
+    match value {
+        Some(value) => Ok(Some(value.clone()?)),
+        None => Ok(None),
     }
 }
 

@@ -27,7 +27,7 @@ use Rattle.object_tables.specs.Keys.{is_key, row_at}
 use Rattle.object_tables.specs.TableSets.{TableSet}
 use Rattle.object_tables.proofs.Keeping.{as_many}
 use Rattle.report.specs.LeftBy.{left_by}
-use Rattle.versioned_cells.specs.Versions.{VersionsByKey, held_at, history_at, AreUntil, AreAllUntil, AreChanges, Notes}
+use Rattle.versioned_cells.specs.Versions.{VersionsByKey, as_of, held_at, history_at, AreUntil, AreAllUntil, AreChanges, Notes}
 use Rattle.versioned_cells.proofs.HistoryFacts.{notes_at}
 use Rattle.versioned_cells.proofs.LogFacts.{left-one, prefix_more}
 use Rattle.versioned_tables.specs.Standing.{RowsOverTime, IsStanding, Stands, AreFrom, AllChange, Advances, IsAnswerAt}
@@ -36,7 +36,7 @@ use Rattle.versioned_tables.proofs.PartRows.{rows_there, none_below, equal_of}
 
 -- ---- one entry more
 
-transaction : (widths : List ℕ) (a : Act) → FitsTables widths a → (ss : List Statement) × (a ≡ Transact ss)
+pub transaction : (widths : List ℕ) (a : Act) → FitsTables widths a → (ss : List Statement) × (a ≡ Transact ss)
 transaction widths Read f = absurd f
 transaction widths (Write d) f = absurd f
 transaction widths (Get k) f = absurd f
@@ -202,7 +202,7 @@ IsFresh rest es = (k : List ℕ) → is_some (row_at k rest) ≡ true → histor
 abbrev pub RowsChange : VersionsByKey Row → Type 0
 RowsChange es = (k : List ℕ) → AreChanges None (history_at k es)
 
-is_key_of : (k k0 : List ℕ) (x : Row) → key x ≡ text k0 → is_key k x ≡ bytes_eq k k0
+pub is_key_of : (k k0 : List ℕ) (x : Row) → key x ≡ text k0 → is_key k x ≡ bytes_eq k k0
 is_key_of k k0 x is = ap (λ d. is_eq (compare (text k) d)) is ∙ is_eq-slice_cmp k k0
 
 pub fresh_more : (w : ℕ) (x copy : Row) (k0 : List ℕ) (rest : Table) (old new : VersionsByKey Row) → key x ≡ text k0 → AreRows w (x ∷ rest) → IsFresh (x ∷ rest) old
@@ -245,6 +245,14 @@ rows_all all rest es none at until changes = record {
   changes = changes;
   rows = λ p k. ap (λ r. or_else (row_at k r) (held_at p es k)) (sym none) ∙ at p k;
   until = until;
+}
+
+-- what begins a table does where its histories are the same under each key
+pub begins_alike : (table : Table) (es others : VersionsByKey Row) → ((k : List ℕ) → history_at k others ≡ history_at k es) → BeginsTable table es → BeginsTable table others
+begins_alike table es others same b = record {
+  rows = λ p k. ap (as_of p None) (same k) ∙ b.rows p k;
+  until = λ k. subst (AreUntil 0) (sym (same k)) (b.until k);
+  changes = λ k. subst (AreChanges None) (sym (same k)) (b.changes k);
 }
 
 pub rows_none : (all : Table) (es : VersionsByKey Row) → es ≡ [] → (p : ℕ) (k : List ℕ) → or_else (row_at k all) (held_at p es k) ≡ row_at k all

@@ -233,6 +233,3 @@ reached hs own keys ss mine e f r = rw (sym e, sym f) r
 
 pub part_is : (p : ℕ) (hs own : RowsOverTime) (keys mine : Keys) (widths : List ℕ) (part : TableSet) → own ≡ hs → mine ≡ keys → IsPartAt p own mine widths part → IsPartAt p hs keys widths part
 part_is p hs own keys mine widths part e f r = rw (sym e, sym f) r
-
-pub notes_are : (since : ℕ) (keys mine : Keys) (left : List Table) (old new : RowsOverTime) → mine ≡ keys → NotesRows since mine left old new → NotesRows since keys left old new
-notes_are since keys mine left old new e n = rw (sym e) n

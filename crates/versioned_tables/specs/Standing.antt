@@ -7,6 +7,7 @@ use Rattle.std.specs.Option.{is_some}
 use Rattle.std.specs.Cmp.Lexicographic.{pointwise}
 use Rattle.std.specs.Ordering.{nat_cmp, eq_by_cmp}
 use Rattle.std.specs.Str.{bytes_eq}
+use Rattle.basis.specs.Lists.{nth}
 use Rattle.script_tree.specs.Datum.{Datum, text}
 use Rattle.script_tree.specs.Fit.{AreTables}
 use Rattle.script_tree.specs.Order.{compare, compares}
@@ -115,6 +116,14 @@ pub record IsPartAt (p : ℕ) (hs : RowsOverTime) (keys : Keys) (widths : List �
 abbrev pub AddsRow : ℕ → Option Row → List Table → List Table → Type 0
 AddsRow t None old new = new ≡ old
 AddsRow t (Some row) old new = (done : Bool) × IsInserted t row old new done
+
+-- This row of a table stands at the position under its key.
+abbrev pub IsFoundAt : ℕ → RowsOverTime → ℕ × Row → Type 0
+IsFoundAt p hs f = (k : List ℕ) → key f.1 ≡ text k → row_then p hs f.0 k ≡ Some f.1
+
+-- The row that was found for a position, where one was, stands there.
+abbrev pub AreFound : RowsOverTime → List (Option (ℕ × Row)) → Type 0
+AreFound hs found = (p : ℕ) (f : ℕ × Row) → nth found p ≡ Some (Some f) → IsFoundAt p hs f
 
 -- ---- what is noted
 

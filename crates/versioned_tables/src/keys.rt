@@ -187,7 +187,7 @@ fn tested_key(test: &Test) -> Option<&Text>
 }
 
 /// The text that a value is.
-fn text_in(value: &Value) -> Option<&Text>
+pub fn text_in(value: &Value) -> Option<&Text>
     ensures { IfSome result (λ bytes. value.now ≡ text bytes.now) }
 {
     match &value.node {

@@ -1,9 +1,10 @@
-ghost use Rattle.std.specs.Prelude.{◌≡◌, ℕ, length, OnOk, IfOk};
+ghost use Rattle.std.specs.Prelude.{◌≡◌, ℕ, length, OnOk, IfOk, IfSome};
 ghost use Rattle.script_tree.specs.Fit.{IsTable};
 ghost use Rattle.script_fit.specs.FitsOperation.{FitsTables};
-ghost use Rattle.versioned_tables.specs.Standing.{Stands, AreFrom, AllChange};
+ghost use Rattle.versioned_tables.specs.Standing.{Stands, AreFrom, AllChange, IsFoundAt, AreFound};
 ghost use Rattle.versioned_tables.specs.OverTime.{TellsTables, IsAnswerThen, FitEntries, BeginsTables, BeginsTable, AdvancesBy, over_time};
 
+use crate::found::{Found, found_at};
 use crate::moves;
 use crate::reads::only_read;
 use object_tables::keys::key_of;
@@ -14,15 +15,24 @@ use script_tree::operation::Act;
 use script_tree::value::{Value, Values};
 use std::alloc::{AllocError, Global};
 use std::marker::Model;
-use versioned_cells::{Histories, next_position};
+use versioned_cells::{Histories, History, next_position};
 
 /// The tables of a program over time: per row its versions, each with the position from which it
-/// stands. An entry that aborts makes none.
+/// stands. An entry that aborts makes none. Of each entry that may change rows the first row is kept
+/// that it looks at, so that it need not be looked for again.
 #[derive(Drop)]
 pub struct VersionedTables {
     alloc: Global,
     widths: Vec<usize>,
     tables: Vec<Histories<Values>>,
+    found: Vec<Option<Found>>,
+}
+
+/// The rows over time, and what was found for each entry.
+#[derive(Drop)]
+struct Built {
+    tables: Vec<Histories<Values>>,
+    found: Vec<Option<Found>>,
 }
 
 impl Model for VersionedTables {
@@ -50,11 +60,12 @@ impl VersionedTables {
         ensures { IfOk result (TellsTables entries.now start.now) }
     {
         let widths = Vec::from_slice(alloc, start.widths())?;
-        let tables = tables_over(alloc, start, widths.as_slice(), entries)?;
+        let Built { tables, found } = tables_over(alloc, start, widths.as_slice(), entries)?;
         Ok(VersionedTables {
             alloc,
             widths,
             tables,
+            found,
         })
     }
 
@@ -70,6 +81,7 @@ impl VersionedTables {
                 self.widths.as_slice(),
                 self.tables.as_slice(),
                 position,
+                found_at(self.found.as_slice(), position),
                 statements,
             ),
             Act::Read
@@ -89,21 +101,23 @@ fn tables_over(
     start: &Tables,
     widths: &[usize],
     entries: &[LogEntry],
-) -> Result<Vec<Histories<Values>>, AllocError>
+) -> Result<Built, AllocError>
     requires fits { FitEntries start.now.widths entries.now }
     requires same { widths.now ≡ start.now.widths }
-    ensures tells { IfOk result (λ tables.
-        TellsTables entries.now start.now (over_time widths.now tables.items)) }
-    ensures count { IfOk result (λ tables. length tables.items ≡ length widths.now) }
-    ensures changes { IfOk result (λ tables. AllChange tables.items) }
+    ensures tells { IfOk result (λ built.
+        TellsTables entries.now start.now (over_time widths.now built.tables.items)) }
+    ensures count { IfOk result (λ built. length built.tables.items ≡ length widths.now) }
+    ensures changes { IfOk result (λ built. AllChange built.tables.items) }
+    ensures found { IfOk result (λ built. AreFound built.tables.items built.found.items) }
 {
     let mut tables = begun(alloc, start)?;
+    let mut found = Vec::with_capacity(alloc, entries.len())?;
     let mut position = 0u32;
     for entry in entries {
-        note_act(alloc, widths, &mut tables, position, &entry.act)?;
+        found.push(note_act(alloc, widths, &mut tables, position, &entry.act)?)?;
         position = next_position(position)?;
     }
-    Ok(tables)
+    Ok(Built { tables, found })
 }
 
 /// What stands at the start.
@@ -122,32 +136,34 @@ fn histories_of(alloc: Global, rows: Rows<'_>) -> Result<Histories<Values>, Allo
     requires { (width : ℕ) × IsTable width rows }
     ensures { IfOk result (BeginsTable rows.entry) }
 {
-    let mut histories = Histories::new(alloc);
+    let mut histories = Vec::new(alloc);
     for row in rows {
-        histories.begin(alloc, key_of(row)?, 0, Some(row.clone()?))?;
+        let history = History::begun(alloc, 0, Some(row.clone()?));
+        histories.push((key_of(row)?, history))?;
     }
-    Ok(histories)
+    Histories::from_vec(alloc, histories)
 }
 
-/// Notes what an act at a position makes of the rows.
+/// Notes what an act at a position makes of the rows, and gives what `moves::advance` does.
 fn note_act(
     alloc: Global,
     widths: &[usize],
     tables: &mut Vec<Histories<Values>>,
     position: u32,
     act: &Act,
-) -> Result<(), AllocError>
+) -> Result<Option<Found>, AllocError>
     requires fits { FitsTables widths.now act.now }
     requires stands { Stands widths.now position tables.old.items }
     requires from { AreFrom position tables.old.items }
     requires count { length tables.old.items ≡ length widths.now }
-    ensures { OnOk result
+    ensures advances { OnOk result
         (AdvancesBy widths.now position act.now tables.old.items tables.new.items) }
+    ensures found { IfOk result (λ found. IfSome found (IsFoundAt position tables.old.items)) }
 {
     match act {
         Act::Transact(statements) => {
             if only_read(statements.as_slice()) {
-                return Ok(());
+                return Ok(None);
             }
             moves::advance(alloc, widths, tables, position, statements)
         }

@@ -7,9 +7,9 @@ loop-key-init c =
     let same : c.in_ok-part.part.widths ≡ c.args.widths.now = c.in_ok-part.ensures.widths ∙ c.in_ok-from_slice.ensures.items in
     part_begins c.args.position c.args.tables.now c.args.widths.now c.in_ok-part.part same c.in_ok-part.ensures.rows
 
-pub add_row-requires : goal.add_row-requires
-add_row-requires c = λ row e.
-    standing_fits_in c.args.widths.now c.loop-key.part.widths c.args.position c.args.tables.now c.key-item.result.0 c.key-item.result.1 row c.loop-key.invariant.same c.requires e
+pub add_row-requires-clause-fits : goal.add_row-requires-clause-fits
+add_row-requires-clause-fits c = λ row e.
+    standing_fits_in c.args.widths.now c.loop-key.part.widths c.args.position c.args.tables.now c.key-item.result.0 c.key-item.result.1 row c.loop-key.invariant.same c.requires.stands e
 
 pub loop-key-preserved : goal.loop-key-preserved
 loop-key-preserved c =

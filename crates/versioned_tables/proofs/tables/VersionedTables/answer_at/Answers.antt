@@ -3,6 +3,7 @@ use Rattle.script_fit.specs.FitsOperation.{FitsTables}
 use Rattle.versioned_tables.specs.OverTime.{OverTime, over_time, IsAnswerThen}
 use Rattle.versioned_tables.specs.Standing.{Stands, IsAnswerAt}
 use Rattle.versioned_tables.proofs.Building.{answers_then, IfOk-map}
+use Rattle.versioned_tables.proofs.Finding.{found_here}
 use Rattle.versioned_tables.proofs.tables.VersionedTables.answer_at.Goals as goal
 
 pub answer_at-requires-clause-fits : goal.answer_at-requires-clause-fits
@@ -23,3 +24,8 @@ returns c =
     (subst (λ hs. IsAnswerAt c.self.inside.widths.items c.args.position hs c.in-Transact.statements d) c.as_slice-in-Transact.ensures.value
     (subst (λ ws. IsAnswerAt ws c.args.position c.as_slice-in-Transact.result.now c.in-Transact.statements d) c.as_slice.ensures.value is))))
     c.answer_at.ensures
+
+pub answer_at-requires-clause-found : goal.answer_at-requires-clause-found
+answer_at-requires-clause-found c =
+    found_here c.args.position c.self.inside.tables.items c.as_slice-in-Transact.result.now c.self.inside.found.items c.as_slice-in-Transact-2.result.now c.found_at.result c.as_slice-in-Transact.ensures.value
+    c.as_slice-in-Transact-2.ensures.value c.self.invariant.found c.found_at.ensures

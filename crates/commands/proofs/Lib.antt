@@ -4,6 +4,7 @@ pub mod Counting
 pub mod Fronts
 pub mod HandedOn
 pub mod OneOutcome
+pub mod OneRecording
 pub mod Outcomes
 pub mod Puts
 pub mod RecordSteps

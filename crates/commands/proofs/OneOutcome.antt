@@ -1,5 +1,5 @@
 -- Words come to one outcome over the same files.
-use Rattle.std.proofs.Common.{◌≡◌, ◌∙◌, ℕ, List, Option, Some, None, Result, Ok, Err, inl, inr, ap, sym, subst}
+use Rattle.std.proofs.Common.{◌≡◌, ◌∙◌, ℕ, List, [], Option, Some, None, Result, Ok, Err, inl, inr, ap, sym, subst}
 use Rattle.std.specs.FinMap.{get}
 use Rattle.outside.specs.Files.{Files}
 use Rattle.wire.specs.declared.limits.TheConstants.{MOST_FILE_BYTES, MOST_SCHEDULE_BYTES}
@@ -7,23 +7,27 @@ use Rattle.script_tree.specs.declared.trace.TraceEvent.{TraceEvent}
 use Rattle.trace_format.specs.Events.{request_count}
 use Rattle.audit_meaning.specs.declared.verdict.Verdict.{Verdict}
 use Rattle.audit_meaning.specs.declared.verdict.Verdict.TheVariants.{Accepted, Rejected}
+use Rattle.one_history.specs.Laws.{RunsAreOne}
 use Rattle.auditor.specs.Audited.{ReadReport, audited, plainly}
 use Rattle.command_inputs.specs.Inputs.{Input}
 use Rattle.command_inputs.specs.OneWay.{AreReadOneWay, IsReadOneWay}
 use Rattle.command_inputs.specs.Program.{program_input}
 use Rattle.command_inputs.specs.Report.{report_input}
+use Rattle.command_inputs.specs.Requests.{requests_input}
 use Rattle.command_inputs.specs.Schedule.{schedule_input}
 use Rattle.command_inputs.specs.State.{state_input}
 use Rattle.command_inputs.specs.Trace.{trace_input}
+use Rattle.command_inputs.specs.Turns.{turns_input}
 use Rattle.command_words.specs.AuditWords.{AuditWords, audit_words}
-use Rattle.command_words.specs.RecordWords.{RecordWords}
+use Rattle.command_words.specs.RecordWords.{RecordWords, record_words}
 use Rattle.command_words.specs.Words.{ReplayNames, check_name, replay_names}
 use Rattle.commands.specs.Audits.{accepted, group_count, IsAudited, IsJudged, IsVerdict, WithDeclarations, WithEvents, WithObjects}
-use Rattle.commands.specs.Laws.{IsOneOutcome}
-use Rattle.commands.specs.Outcome.{IsCheckedFile, IsCounted, IsFound, IsOutcomeOf, IsReplayed, WithProgram, WithState, WithTrace}
+use Rattle.commands.specs.Laws.{IsOneOutcome, IsSettled}
+use Rattle.commands.specs.Outcome.{IsCheckedFile, IsCounted, IsFound, IsOfJobs, IsOutcomeOf, IsRecording, IsReplayed, WithJobs, WithPages, WithProgram, WithStart, WithState, WithTrace, WithTurns}
 use Rattle.commands.specs.Outputs.{Outcome, says}
 use Rattle.commands.specs.WithInput.{WithInput}
 use Rattle.commands.specs.declared.answer.Answer.TheVariants as answer
+use Rattle.commands.proofs.OneRecording.{one_recording}
 
 -- there is one outcome at most
 abbrev IsOne : (Outcome → Type 0) → Type 0
@@ -82,13 +86,28 @@ module _ (one : AreReadOneWay) (files : Files) where
   one_check name =
       past_input (program_input MOST_FILE_BYTES) (get files name) IsCounted (one.programs MOST_FILE_BYTES) (λ program x y h k. h ∙ sym k)
 
-  by_words : (reading : Option ℕ) (names : Option ReplayNames) (name : Option (List ℕ)) (a : Option AuditWords) → IsOne (IsOutcomeOf reading files names name None a)
-  by_words reading (Some names) name a = one_replay names
-  by_words reading None (Some name) a = one_check name
-  by_words reading None None (Some a) = one_audit a
-  by_words reading None None None = λ x y h k. h ∙ sym k
+  one_with_turns : (name : Option (List ℕ)) (next : List ℕ → Outcome → Type 0) → ((turns : List ℕ) → IsOne (next turns)) → IsOne (WithTurns files name next)
+  one_with_turns None next each = each []
+  one_with_turns (Some name) next each = past_input (turns_input MOST_FILE_BYTES) (get files name) next (one.turns MOST_FILE_BYTES) each
 
-pub is_one_outcome : AreReadOneWay → IsOneOutcome
-is_one_outcome one words reading files x y none h k =
-    let Of : Option RecordWords → Outcome → Type 0 = λ w o. IsOutcomeOf reading files (replay_names words) (check_name words) w (audit_words words) o in
-    by_words one files reading (replay_names words) (check_name words) (audit_words words) x y (subst (λ w. Of w x) none h) (subst (λ w. Of w y) none k)
+  one_record : RunsAreOne → (n : ℕ) (w : RecordWords) → IsOne (IsRecording (Some n) files w)
+  one_record runs n w =
+      past_input (program_input MOST_FILE_BYTES) (get files w.program) (WithPages (Some n) files w) (one.programs MOST_FILE_BYTES)
+      (λ program. past_input (state_input program MOST_FILE_BYTES) (get files w.state) (WithStart (Some n) files w program) (one.states program MOST_FILE_BYTES)
+      (λ start. past_input (requests_input MOST_FILE_BYTES) (get files w.requests) (WithJobs (Some n) files w program start) (one.requests MOST_FILE_BYTES)
+      (λ jobs. one_with_turns w.turns (IsOfJobs (Some n) w program start jobs) (one_recording runs n w program start jobs))))
+
+  one_settled : RunsAreOne → (w : RecordWords) (reading : Option ℕ) → IsSettled (Some w) reading → IsOne (IsRecording reading files w)
+  one_settled runs w reading settled = subst (λ r. IsOne (IsRecording r files w)) (sym settled.1) (one_record runs settled.0 w)
+
+  by_words : RunsAreOne → (reading : Option ℕ) (names : Option ReplayNames) (name : Option (List ℕ)) (w : Option RecordWords) (a : Option AuditWords)
+      → IsSettled w reading → IsOne (IsOutcomeOf reading files names name w a)
+  by_words runs reading (Some names) name w a settled = one_replay names
+  by_words runs reading None (Some name) w a settled = one_check name
+  by_words runs reading None None (Some w) a settled = one_settled runs w reading settled
+  by_words runs reading None None None (Some a) settled = one_audit a
+  by_words runs reading None None None None settled = λ x y h k. h ∙ sym k
+
+pub is_one_outcome : AreReadOneWay → RunsAreOne → IsOneOutcome
+is_one_outcome one runs words reading files x y settled h k =
+    by_words one files runs reading (replay_names words) (check_name words) (record_words words) (audit_words words) settled x y h k

@@ -1,3 +1,4 @@
+pub mod Asked
 pub mod Audits
 pub mod Explained
 pub mod Laws

@@ -6,16 +6,19 @@ use Rattle.outside.specs.Sinks.{SinkTold, UsesSink}
 use Rattle.outside.specs.declared.fault.Fault.{Fault}
 use Rattle.command_inputs.specs.Halts.{halt_of, halt_status}
 use Rattle.command_inputs.specs.declared.halt.Halt.TheVariants.{Failed}
+use Rattle.commands.specs.Asked.{MayAnswer, asked_of}
 use Rattle.commands.specs.Lines.{line_of, status_of}
 use Rattle.commands.specs.Outcome.{IsOutcome, SaysAbsent}
 use Rattle.commands.specs.Outputs.{Outcome, IsRefused, with_puts}
 use Rattle.commands.specs.Printing.{HasFront, HasWhole}
 
--- Reads came to this outcome: that of the words, where the shelf tells its files. None failed, and
--- one found its name absent just where the answer is that.
+-- Reads came to this outcome: that of the words, where the shelf tells its files, and always with an
+-- answer of the command that the words ask for. None failed, and one found its name absent just where
+-- the answer is that.
 pub record CameTo (words : List (List ℕ)) (reading : Option ℕ) (old read : ShelfTold)
     (outcome : Outcome) : Type 0 where
   pub outcome' : ForSome old.files (λ files. IsOutcome words reading files outcome)
+  pub answer : MayAnswer (asked_of words) outcome.answer
   pub reads : UsesShelf old read ⊥ (SaysAbsent outcome)
 
 -- Reads came to this outcome, and then all of its files were put under their names.

@@ -1,10 +1,12 @@
 ghost use Rattle.commands.specs.Laws.{IsOneOutcome};
 
 use command_inputs::law::one_way;
+use one_history::law::runs_are_one;
 
-/// Words that ask for no recording come to one outcome over the same files.
+/// Words come to one outcome over the same files, recordings where the clock stands still.
 pub fn one_outcome()
     ensures { IsOneOutcome }
 {
     one_way();
+    runs_are_one();
 }

@@ -2,6 +2,7 @@ ghost use Rattle.std.specs.Prelude.{◌≡◌, IfOk, option_map};
 ghost use Rattle.std.specs.Option.{ForSome};
 ghost use Rattle.command_inputs.specs.Faults.{UsesToRead};
 ghost use Rattle.command_words.specs.NamesView.{record_words_of};
+ghost use Rattle.commands.specs.Asked.{MayAnswer, a_recording};
 ghost use Rattle.commands.specs.Outcome.{IfRecorded, IfTurns, SaysAbsent, written};
 
 use crate::answer::Answer;
@@ -29,6 +30,7 @@ pub fn record_files<'w, F: Shelf, C: Clock>(
     ensures outcome { let words = record_words_of words.entry in
         ForSome (F.told shelf.old).files (λ files.
         IfRecorded (C.reading clock.now) files words result) }
+    ensures asked { IfOk result (λ outcome. MayAnswer a_recording outcome.answer) }
     ensures found { IfOk result (λ outcome. ¬ SaysAbsent outcome) }
     ensures used { UsesToRead (F.told shelf.old) (F.told shelf.new) result }
 {

@@ -1,6 +1,7 @@
 ghost use Rattle.std.specs.Prelude.{◌≡◌, ◌<◌, ◌≤◌, Err, IfOk, IsOkAnd};
 ghost use Rattle.std.specs.Option.{ForSome};
 ghost use Rattle.outside.specs.Shelves.{UsesShelf};
+ghost use Rattle.commands.specs.Asked.{MayAnswer, asked_of};
 ghost use Rattle.commands.specs.Explained.{AskAudit, AskCheck, AskReplay, IsAcceptedBy, IsExplained, IsProgramFile, IsRejectedBy, IsUnexplained};
 ghost use Rattle.commands.specs.Outcome.{SaysAbsent, IsOutcome};
 ghost use Rattle.commands.specs.Recorded.{AskRecord, IsRecordedBy};
@@ -98,6 +99,7 @@ fn outcome_of<'w, F: Shelf, C: Clock, G: Gate + Sync>(
 ) -> Result<Outcome<'w>, Halt>
     ensures outcome { let outcome = IsOutcome words.now (C.reading clock.now) in
         ForSome (F.told shelf.old).files (λ files. IfOk result (outcome files)) }
+    ensures asked { IfOk result (λ outcome. MayAnswer (asked_of words.now) outcome.answer) }
     ensures used { UsesShelf (F.told shelf.old) (F.told shelf.new) (result ≡ Err Failed)
         (IsOkAnd result SaysAbsent) }
 {

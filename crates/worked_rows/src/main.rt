@@ -2,13 +2,15 @@
 //! audits, each over memory, and tells those that end in another way than the row says.
 #![tactic(auto)]
 
+mod failing;
 mod row;
 mod runs;
 mod spelled;
 mod tally;
 
+use crate::failing::wrong_call;
 use crate::row::Row;
-use crate::runs::{audited, checked, recorded, replayed};
+use crate::runs::{Kind, checked, ended};
 use crate::tally::{Tally, told};
 use std::fs;
 use std::io::{self, ErrorKind};
@@ -21,14 +23,6 @@ const REPLAYS: &str = "replays.txt";
 const RECORDS: &str = "records.txt";
 
 const AUDITS: &str = "audits.txt";
-
-/// What the rows of a file tell.
-#[derive(Clone, Copy)]
-enum Kind {
-    Replay,
-    Record,
-    Audit,
-}
 
 fn main(rt: HostRuntime) -> io::Result<()> {
     run_checks(&rt, &fs::read_to_string(&rt, CHECKS)?)?;
@@ -78,10 +72,14 @@ fn read_row<'a>(rt: &HostRuntime, paragraph: &'a str) -> io::Result<Row<'a>> {
 
 /// What a row comes to.
 fn row_told(rt: &HostRuntime, kind: Kind, row: Row<'_>) -> io::Result<String> {
-    let ended = match kind {
-        Kind::Replay => replayed(rt.alloc(), row),
-        Kind::Record => recorded(rt, row),
-        Kind::Audit => audited(rt.alloc(), row),
-    };
-    Ok(told(rt.alloc(), ended)?)
+    Ok(told(rt.alloc(), row_ended(rt, kind, row))?)
+}
+
+/// How it ends, and which call, where it fails, doesn't end it as it should.
+fn row_ended(rt: &HostRuntime, kind: Kind, row: Row<'_>) -> io::Result<String> {
+    let ended = ended(rt, kind, row)?;
+    match wrong_call(rt, kind, row)? {
+        Some(call) => Ok(format!(in rt.alloc(); "{ended}, and another end at {call}")?),
+        None => Ok(ended),
+    }
 }

@@ -31,41 +31,89 @@ const INPUTS: [(&str, &str); 4] = [
     (TURNS, "turns.json"),
 ];
 
+/// The words of a replay and of an audit.
+const REPLAYING: [&str; 5] = ["replay", PROGRAM, STATE, TRACE, SCHEDULE];
+
+const AUDITING: [&str; 6] = ["audit", PROGRAM, STATE, TRACE, REPORT, SCHEDULE];
+
 /// The state where a row says none.
 const NOTHING_STORED: &str = "{}";
 
-fn words_of(alloc: Global, texts: &[&str]) -> Result<Words, AllocError> {
-    let mut words = Words::new(alloc);
-    for text in texts {
-        words.push(text)?;
+/// What the rows of a file tell.
+#[derive(Clone, Copy)]
+pub enum Kind {
+    Replay,
+    Record,
+    Audit,
+}
+
+/// The files that a run writes, in their order.
+pub fn outputs_of(kind: Kind) -> &'static [&'static str] {
+    match kind {
+        Kind::Replay => &[],
+        Kind::Record => &[TRACE, REPORT],
+        Kind::Audit => &[SCHEDULE],
     }
-    Ok(words)
 }
 
-/// The status and the line with which the program ends, with these words, over these files, and where
-/// the clock shows this.
-fn ended(
-    alloc: Global,
-    texts: &[&str],
-    shelf: &mut MemShelf,
+/// A run of the program: its words, and what its clock shows.
+#[derive(Drop)]
+pub struct Run {
+    words: Words,
     clock: u64,
-) -> Result<String, AllocError> {
-    let words = words_of(alloc, texts)?;
-    let mut out = MemSink::new(alloc, Vec::new(alloc), None);
-    let status = status_of(alloc, &words, shelf, &mut out, clock);
-    line_of(alloc, status, out.written())
 }
 
-fn status_of(
-    alloc: Global,
-    words: &Words,
-    shelf: &mut MemShelf,
-    out: &mut MemSink,
-    clock: u64,
-) -> u8 {
-    let mut house = MemHouse::new(alloc, Vec::new(alloc), Vec::new(alloc));
-    let clock = FixedClock(clock);
-    run(alloc, words, shelf, out, &mut house, &clock, &OpenGate)
+impl Run {
+    fn new(alloc: Global, texts: &[&str], clock: u64) -> Result<Run, AllocError> {
+        let mut words = Words::new(alloc);
+        for text in texts {
+            words.push(text)?;
+        }
+        Ok(Run { words, clock })
+    }
+
+    /// The run of a row.
+    pub fn of_row(alloc: Global, kind: Kind, row: Row<'_>) -> io::Result<Run> {
+        match kind {
+            Kind::Replay => Ok(Run::new(alloc, &REPLAYING, 0)?),
+            Kind::Audit => Ok(Run::new(alloc, &AUDITING, 0)?),
+            Kind::Record => Run::recording(alloc, row),
+        }
+    }
+
+    fn recording(alloc: Global, row: Row<'_>) -> io::Result<Run> {
+        let seed = row.field("seed").unwrap_or("0");
+        let clock = row.field("clock").unwrap_or("0").parse();
+        let clock = clock.ok().ok_or(ErrorKind::InvalidData)?;
+        let words = [
+            "record", PROGRAM, STATE, REQUESTS, TRACE, REPORT, "--seed", seed, "--turns", TURNS,
+        ];
+        let has_turns = row.field(TURNS).is_some() || row.field("files").is_some();
+        let used = if has_turns { 10 } else { 8 };
+        Ok(Run::new(alloc, &words[..used], clock)?)
+    }
+
+    /// The status with which it ends over these files.
+    pub fn status(&self, alloc: Global, shelf: &mut MemShelf, out: &mut MemSink) -> u8 {
+        let mut house = MemHouse::new(alloc, Vec::new(alloc), Vec::new(alloc));
+        let clock = FixedClock(self.clock);
+        run(
+            alloc,
+            &self.words,
+            shelf,
+            out,
+            &mut house,
+            &clock,
+            &OpenGate,
+        )
+    }
+
+    /// The status and the line with which it ends over these files.
+    fn ended(&self, alloc: Global, shelf: &mut MemShelf) -> Result<String, AllocError> {
+        let mut out = MemSink::new(alloc, Vec::new(alloc), None);
+        let status = self.status(alloc, shelf, &mut out);
+        line_of(alloc, status, out.written())
+    }
 }
 
 fn line_of(alloc: Global, status: u8, written: &[u8]) -> Result<String, AllocError> {
@@ -123,68 +171,69 @@ fn put_moments(alloc: Global, shelf: &mut MemShelf, row: Row<'_>) -> io::Result<
     Ok(())
 }
 
+/// Puts the inputs of an audit.
+fn put_evidence(alloc: Global, shelf: &mut MemShelf, row: Row<'_>) -> io::Result<()> {
+    put_start(alloc, shelf, row)?;
+    shelf.put(TRACE, &trace_of(alloc, row)?)?;
+    shelf.put(REPORT, &bytes_of(alloc, row.said(REPORT))?)?;
+    Ok(())
+}
+
+/// A shelf with the inputs of a row. The calls of these numbers fail.
+pub fn shelf_of(
+    rt: &HostRuntime,
+    kind: Kind,
+    row: Row<'_>,
+    failing: Vec<u64>,
+) -> io::Result<MemShelf> {
+    let mut shelf = MemShelf::new(rt.alloc(), failing);
+    match kind {
+        Kind::Replay => put_moments(rt.alloc(), &mut shelf, row)?,
+        Kind::Record => put_inputs(rt, &mut shelf, row)?,
+        Kind::Audit => put_evidence(rt.alloc(), &mut shelf, row)?,
+    }
+    Ok(shelf)
+}
+
 /// How the check of a program ends.
 pub fn checked(alloc: Global, program: &str) -> io::Result<String> {
     let mut shelf = MemShelf::new(alloc, Vec::new(alloc));
     put(alloc, &mut shelf, PROGRAM, program)?;
-    Ok(ended(alloc, &["check", PROGRAM], &mut shelf, 0)?)
+    Ok(Run::new(alloc, &["check", PROGRAM], 0)?.ended(alloc, &mut shelf)?)
 }
 
-/// How a replay ends.
-pub fn replayed(alloc: Global, row: Row<'_>) -> io::Result<String> {
-    let mut shelf = MemShelf::new(alloc, Vec::new(alloc));
-    put_moments(alloc, &mut shelf, row)?;
-    let words = ["replay", PROGRAM, STATE, TRACE, SCHEDULE];
-    Ok(ended(alloc, &words, &mut shelf, 0)?)
+/// How a row ends, and whether it writes other files than it should.
+pub fn ended(rt: &HostRuntime, kind: Kind, row: Row<'_>) -> io::Result<String> {
+    let mut shelf = shelf_of(rt, kind, row, Vec::new(rt.alloc()))?;
+    match kind {
+        Kind::Replay => Ok(Run::new(rt.alloc(), &REPLAYING, 0)?.ended(rt.alloc(), &mut shelf)?),
+        Kind::Record => recorded(rt.alloc(), &mut shelf, row),
+        Kind::Audit => audited(rt.alloc(), &mut shelf, row),
+    }
 }
 
-/// How a recording ends, and whether it writes other files than it should.
-pub fn recorded(rt: &HostRuntime, row: Row<'_>) -> io::Result<String> {
-    let mut shelf = MemShelf::new(rt.alloc(), Vec::new(rt.alloc()));
-    put_inputs(rt, &mut shelf, row)?;
-    recorded_over(rt.alloc(), &mut shelf, row)
-}
-
-/// The same over a row's inputs.
-fn recorded_over(alloc: Global, shelf: &mut MemShelf, row: Row<'_>) -> io::Result<String> {
-    let seed = row.field("seed").unwrap_or("0");
-    let clock = row.field("clock").unwrap_or("0").parse();
-    let clock = clock.ok().ok_or(ErrorKind::InvalidData)?;
-    let words = [
-        "record", PROGRAM, STATE, REQUESTS, TRACE, REPORT, "--seed", seed, "--turns", TURNS,
-    ];
-    let has_turns = row.field(TURNS).is_some() || row.field("files").is_some();
-    let used = if has_turns { 10 } else { 8 };
-    let ended = ended(alloc, &words[..used], shelf, clock)?;
+/// How a recording over a row's inputs ends. The files of one that ends well are audited.
+fn recorded(alloc: Global, shelf: &mut MemShelf, row: Row<'_>) -> io::Result<String> {
+    let recording = Run::recording(alloc, row)?;
+    let ended = recording.ended(alloc, shelf)?;
     let ended = with_others(alloc, shelf, row, ended)?;
     if !ended.as_str().starts_with("0 ") {
         return Ok(ended);
     }
-    let audit = audited_over(alloc, shelf, row)?;
+    let audit = audited(alloc, shelf, row)?;
     followed(alloc, ended, "0 accepted", audit.as_str())
 }
 
-/// How an audit ends, and whether it writes another schedule than it should.
-pub fn audited(alloc: Global, row: Row<'_>) -> io::Result<String> {
-    let mut shelf = MemShelf::new(alloc, Vec::new(alloc));
-    put_start(alloc, &mut shelf, row)?;
-    shelf.put(TRACE, &trace_of(alloc, row)?)?;
-    shelf.put(REPORT, &bytes_of(alloc, row.said(REPORT))?)?;
-    audited_over(alloc, &mut shelf, row)
-}
-
-/// The same over the files of a shelf. The schedule of an accepted report is replayed.
-fn audited_over(alloc: Global, shelf: &mut MemShelf, row: Row<'_>) -> io::Result<String> {
-    let words = ["audit", PROGRAM, STATE, TRACE, REPORT, SCHEDULE];
-    let audit = ended(alloc, &words, shelf, 0)?;
+/// How an audit over these files ends. The schedule of an accepted report is replayed.
+fn audited(alloc: Global, shelf: &mut MemShelf, row: Row<'_>) -> io::Result<String> {
+    let audit = Run::new(alloc, &AUDITING, 0)?.ended(alloc, shelf)?;
     if has_other_schedule(alloc, shelf, row, audit.as_str())? {
         return Ok(format!(in alloc; "{audit}, with another schedule")?);
     }
     if !audit.as_str().starts_with("0 ") {
         return Ok(audit);
     }
-    let words = ["replay", PROGRAM, STATE, TRACE, SCHEDULE];
-    let replay = ended(alloc, &words, shelf, 0)?;
+    let replay = Run::new(alloc, &REPLAYING, 0)?.ended(alloc, shelf)?;
     followed(alloc, audit, "0 agrees", replay.as_str())
 }
 

@@ -133,6 +133,8 @@ class Member(Run):
 # ---- the audit
 
 class Audit:
+    runs = Member
+
     def __init__(self, program, objects, trace, report):
         self.program, self.objects = program, objects
         self.asked, self.answered, self.came, self.went = {}, {}, {}, {}
@@ -272,13 +274,18 @@ class Audit:
                 answers[number, count] = name, records.act_bytes(act), answer
         return answers
 
-    def check_group(self, group, numbers, answers):
-        """The steps of its members."""
+    def members_of(self, numbers, answers):
+        """The members of a group, run against the entries."""
         members = []
         for number in numbers:
-            member = Member(self.program, self.asked[number])
+            member = self.runs(self.program, self.asked[number])
             member.follow(lambda count: answers.get((number, count)))
             members.append(member)
+        return members
+
+    def check_group(self, group, numbers, answers):
+        """The steps of its members."""
+        members = self.members_of(numbers, answers)
         for place in range(min(len(member.marks) for member in members)):
             for number, member in zip(numbers, members):
                 if member.marks[place] == BAD:

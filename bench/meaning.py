@@ -325,27 +325,32 @@ def passing(rows, tests):
     ]
 
 
-# ---- programs as flat code: each instruction says whether it is charged, what it does, and with what
+# ---- programs as flat code: each instruction says whether it is charged, what it does, with what, and where it stands: the
+# place of its statement, and its own, that of an operator, a call or another node
 
 class Body:
     """The code of a page or of a function."""
 
     def __init__(self, program, statements):
         self.program, self.code = program, []
+        self.statement = self.node = None
         self.block(statements)
         self.add(False, Run.fall)
 
     def add(self, charged, action, *taken):
-        self.code.append((charged, action, taken))
+        self.code.append((charged, action, taken, (self.statement, self.node)))
         return len(self.code) - 1
 
     def land(self, at):
         """The jump at this place goes to what comes next."""
-        charged, action, taken = self.code[at]
-        self.code[at] = charged, action, (*taken, len(self.code))
+        charged, action, taken, places = self.code[at]
+        self.code[at] = charged, action, (*taken, len(self.code)), places
 
     def block(self, statements):
-        for word, *parts in statements:
+        outer = self.statement, self.node
+        for statement in statements:
+            word, *parts = statement
+            self.statement = self.node = statement.at
             if word in (b"if", b"while"):
                 self.branch(word, *parts)
             elif word == b"for":
@@ -353,6 +358,7 @@ class Body:
             else:
                 self.expression(parts[1])
                 self.add(True, getattr(Run, f"{word.decode()}_"), *([parts[0][0]] if parts[0] else []))
+        self.statement, self.node = outer
 
     def branch(self, word, value, body, other):
         top = len(self.code)
@@ -378,7 +384,9 @@ class Body:
         self.land(top)
 
     def expression(self, tree):
+        outer, self.node = self.node, tree[1]
         getattr(self, tree[0])(*tree[2:])
+        self.node = outer
 
     def value(self, _, value):
         self.add(True, Run.push, value)
@@ -394,15 +402,15 @@ class Body:
             self.expression(inner)
         self.add(True, Run.make, len(members), lambda *values: within(List(values)))
 
-    def prefixed(self, parts, signs):
+    def prefixed(self, parts, signs, places):
         self.expression(parts[0])
-        for sign in reversed(signs):
+        for sign, self.node in zip(reversed(signs), reversed(places)):
             self.add(True, Run.make, 1, PREFIXES[sign])
 
-    def row(self, parts, signs):
+    def row(self, parts, signs, places):
         first, *others = parts
         self.expression(first)
-        for sign, other in zip(signs, others):
+        for sign, self.node, other in zip(signs, places, others):
             if sign in (b"and", b"or"):
                 test = self.add(True, Run.skip, sign == b"or")
                 self.expression(other)
@@ -411,11 +419,11 @@ class Body:
                 self.expression(other)
                 self.add(True, Run.make, 2, OPERATORS[sign])
 
-    def indexed(self, parts):
-        first, *places = parts
+    def indexed(self, parts, places):
+        first, *indices = parts
         self.expression(first)
-        for place in places:
-            self.expression(place)
+        for self.node, index in zip(places, indices):
+            self.expression(index)
             self.add(True, Run.make, 2, member)
 
     def call(self, name, arguments):
@@ -498,7 +506,7 @@ class Run:
         """Until there is an operation or a response."""
         try:
             while not self.operation and not self.response:
-                charged, action, taken = self.code[self.at]
+                charged, action, taken, _ = self.code[self.at]
                 if charged:
                     if self.steps == MOST_STEPS:
                         raise Fault(6)

@@ -30,6 +30,15 @@ class Fault(Exception):
     """A fault of syntax: its kind and its place."""
 
 
+class Statement(tuple):
+    """The tree of a statement, which knows its place."""
+
+    def __new__(cls, at, parts):
+        statement = super().__new__(cls, parts)
+        statement.at = at
+        return statement
+
+
 def content(text):
     """What a text stands for."""
     plain = {b"n": b"\n", b"t": b"\t"}
@@ -75,8 +84,8 @@ class Parser:
     """Makes a tree of tuples.
 
     A declaration and a statement begin with their word. An expression is its sort, its place and its parts, and then:
-    of a "row" the signs between the parts, of "prefixed" its signs, of a "value" what it is. Its sort can also be
-    "indexed", "bracket" or "list"; of a "variable", a "call" and a "transact" a name, a name with arguments, or
+    of a "row" the signs between the parts, of "prefixed" its signs, of both the places of these signs; of "indexed" the
+    places of its brackets, of a "value" what it is. Its sort can also be "bracket" or "list"; of a "variable", a "call" and a "transact" a name, a name with arguments, or
     statements stand in place of the parts. Those are the table, the columns that are selected or tested, the columns
     that are set, the expressions in their order, how many values an `insert` has, their word and the comparers.
     """
@@ -163,6 +172,9 @@ class Parser:
         return statements
 
     def statement(self):
+        return Statement(self.place(), self.statement_parts())
+
+    def statement_parts(self):
         word = self.word(b"let", b"set", b"if", b"while", b"for", b"echo", b"status", b"return", b"do")
         if word in (b"if", b"while"):
             value, body = self.expression(), self.block()
@@ -183,11 +195,12 @@ class Parser:
 
     def row(self, part, *signs, most=MOST):
         first = part()
-        others, between = [], []
+        others, between, places = [], [], []
         while self.peek() in signs and len(others) < most:
+            places.append(self.place())
             between.append(self.word())
             others.append(part())
-        return ("row", first[1], [first, *others], between) if others else first
+        return ("row", first[1], [first, *others], between, places) if others else first
 
     def expression(self):
         return self.row(self.conjunction, b"or")
@@ -205,19 +218,22 @@ class Parser:
         return self.row(self.prefixed, b"*", b"/", b"%")
 
     def prefixed(self):
-        at, signs = self.place(), []
+        at, signs, places = self.place(), [], []
         while len(signs) < MOST and self.peek() in (b"not", b"-"):
+            places.append(self.place())
             signs.append(self.word())
         inner = self.indexed()
-        return ("prefixed", at, [inner], signs) if signs else inner
+        return ("prefixed", at, [inner], signs, places) if signs else inner
 
     def indexed(self):
         first = self.atom()
-        places = []
-        while len(places) < MOST and self.skips(b"["):
-            places.append(self.expression())
+        indices, places = [], []
+        while len(indices) < MOST and self.peek() == b"[":
+            places.append(self.place())
+            self.word(b"[")
+            indices.append(self.expression())
             self.word(b"]")
-        return ("indexed", first[1], [first, *places]) if places else first
+        return ("indexed", first[1], [first, *indices], places) if indices else first
 
     def atom(self):
         at = self.place()

@@ -67,7 +67,8 @@ class Pathed(Run):
 
 
 def plain(value):
-    return [plain(member) for member in value.members] if isinstance(value, List) else value
+    """A value as records have it."""
+    return tuple(map(plain, value.members)) if isinstance(value, List) else value
 
 
 def statement(program, form):

@@ -9,6 +9,8 @@ A workload is a program, a state, and the path and parameters of each request:
     wide       as hit, but each hundredth request walks a list of 1,000 members of a store
     rows       a table of 100,000 rows: each request selects by key and updates one row
     fewer      the same with 1,000 rows
+    page       a table of 40 rows in HTML, built by functions with `escape`, `str` and `+`, a list of 20 numbers walked, a `get`
+               and a `put`; fewer requests
     state      one request on a table of 1,000,000 rows
 """
 
@@ -80,6 +82,24 @@ page "/sell" {
   echo str(left) + " on " + rows[0][0][1];
 }
 """
+PAGE = rb"""store visits;
+function cell(value) { return "<td>" + escape(value) + "</td>"; }
+function row(number) { return "<tr>" + cell(str(number)) + cell("item <" + str(number * 7) + ">") + "</tr>\n"; }
+page "/page" {
+  let seen = get(visits, path());
+  if seen == null { set seen = 0; }
+  do put(visits, path(), seen + 1);
+  let sum = 0;
+  for price in [12, 7, 30, 4, 19, 25, 8, 16, 3, 21, 14, 9, 27, 5, 11, 18, 2, 23, 6, 10] { set sum = sum + price; }
+  let html = "<table>\n";
+  let number = 0;
+  while number < 40 {
+    set html = html + row(number);
+    set number = number + 1;
+  }
+  echo html + "</table>\n<p>" + str(sum) + "</p>\n";
+}
+"""
 
 
 # ---- workloads: a program, a state, the path and parameters of each request, and as much of the state as these ask for
@@ -126,14 +146,24 @@ def rows(count):
     return ROWS, stock(range(count)).encode(), [("/sell", {"item": item(number * 7919 % count)}) for number in range(COUNTS[-1])]
 
 
+def page():
+    return PAGE, b'{"stores":{"visits":[["/page",0]]}}', [("/page", {})] * FEWER[-1]
+
+
 def large_state():
     return ROWS, stock(range(1_000_000)).encode(), [("/sell", {"item": item(7919)})], stock([7919]).encode()
 
 
 KINDS = {
     "straight": straight, "hit": hit, "shop": shop, "heavy": heavy, "wide": wide, "rows": lambda: rows(100_000),
-    "fewer": lambda: rows(1000), "state": large_state,
+    "fewer": lambda: rows(1000), "page": page, "state": large_state,
 }
+LONG = ["heavy", "page"]
+
+
+def counts(kind):
+    """How many requests of a kind are timed."""
+    return FEWER if kind in LONG else [1] if kind == "state" else COUNTS
 
 
 # ---- runs

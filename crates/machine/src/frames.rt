@@ -21,6 +21,8 @@ pub(crate) struct Frames<'c> {
     frames: Vec<Frame<'c>>,
     /// What the function that ended last had at hand. Its memory serves the next one.
     ended: Stack<'c>,
+    /// Where its variables stood: an empty list, whose memory serves the next one too.
+    slots: Vec<Value>,
 }
 
 impl<'c> Model for Frames<'c> {
@@ -45,17 +47,18 @@ impl<'c> Frames<'c> {
         Frames {
             frames: Vec::new(alloc),
             ended: Stack::new(alloc),
+            slots: Vec::new(alloc),
         }
     }
 
-    /// An empty stack, for a function that begins.
-    pub(crate) fn empty_stack(&mut self, alloc: Global) -> Stack<'c>
-        ensures empty { result ≡ [] }
+    /// An empty stack for a function that begins, and memory for its variables.
+    pub(crate) fn room(&mut self, alloc: Global) -> (Stack<'c>, Vec<Value>)
+        ensures empty { result.0 ≡ [] }
         ensures same { self.new ≡ self.old }
     {
         let mut stack = mem::replace(&mut self.ended, Stack::new(alloc));
         stack.clear();
-        stack
+        (stack, mem::replace(&mut self.slots, Vec::new(alloc)))
     }
 
     /// Keeps the stack of a function that ends.
@@ -63,6 +66,14 @@ impl<'c> Frames<'c> {
         ensures { self.new ≡ self.old }
     {
         let _older = mem::replace(&mut self.ended, stack);
+    }
+
+    /// Keeps the memory of its variables.
+    pub(crate) fn keep_slots(&mut self, mut slots: Vec<Value>)
+        ensures { self.new ≡ self.old }
+    {
+        slots.clear();
+        let _older = mem::replace(&mut self.slots, slots);
     }
 
     pub(crate) fn len(&self) -> usize

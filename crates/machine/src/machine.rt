@@ -220,6 +220,7 @@ fn at(
                 stack: Stack::new(alloc),
                 slots: Vec::new(alloc),
                 account: Account::new(alloc),
+                room: Vec::new(alloc),
             },
         },
     }

@@ -169,7 +169,8 @@ impl<'c> Run<'c> {
         ensures frames { OnOk result (length self.new.frames ≡ length self.old.frames + 1) }
     {
         let alloc = self.state.alloc;
-        let values = self.state.stack.take(alloc, count)?;
+        let (stack, room) = self.frames.room(alloc);
+        let values = self.state.stack.take_into(alloc, count, room)?;
         self.state.account.charge()?;
         let Some(start) = functions.get(function) else {
             return Err(Stopped::Fault(ScriptFault::WrongKind));
@@ -179,7 +180,7 @@ impl<'c> Run<'c> {
         }
         let frame = Frame {
             place: place + 1,
-            stack: mem::replace(&mut self.state.stack, self.frames.empty_stack(alloc)),
+            stack: mem::replace(&mut self.state.stack, stack),
             slots: mem::replace(&mut self.state.slots, values),
         };
         self.frames.push(frame)?;
@@ -217,8 +218,9 @@ impl<'c> Run<'c> {
                 stack.push(operand)?;
                 self.place = place;
                 let ended = mem::replace(&mut self.state.stack, stack);
+                let room = mem::replace(&mut self.state.slots, slots);
                 self.frames.keep_stack(ended);
-                self.state.slots = slots;
+                self.frames.keep_slots(room);
                 Ok(Went::On)
             }
         }

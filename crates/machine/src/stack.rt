@@ -87,7 +87,22 @@ impl<'c> Stack<'c> {
         ensures left { OnOk result (self.new ≡ drop count self.old) }
         ensures fits { length self.old ≤ usize.MAX }
     {
-        let mut values = Vec::with_capacity(alloc, count.min(self.cells.len()))?;
+        self.take_into(alloc, count, Vec::new(alloc))
+    }
+
+    /// The same, in the memory of a list whose values are let go.
+    pub(crate) fn take_into(
+        &mut self,
+        alloc: Global,
+        count: usize,
+        mut values: Vec<Value>,
+    ) -> Result<Vec<Value>, AllocError>
+        ensures values { IfOk result (λ values. values.items ≡ topmost count self.old []) }
+        ensures left { OnOk result (self.new ≡ drop count self.old) }
+        ensures fits { length self.old ≤ usize.MAX }
+    {
+        values.clear();
+        values.reserve(count.min(self.cells.len()))?;
         while values.len() < count {
             let Some(cell) = self.cells.pop() else { break };
             values.push(cell.into_operand(alloc)?.into_value()?)?;

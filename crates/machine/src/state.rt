@@ -1,7 +1,8 @@
-ghost use Rattle.std.specs.Prelude.{◌≡◌};
+ghost use Rattle.std.specs.Prelude.{◌≡◌, [], drop, IfOk, OnOk};
 ghost use Rattle.basis.specs.UnlessMemory.{Answers};
 ghost use Rattle.script_meaning.specs.BuiltinCalls.{Call};
 ghost use Rattle.script_values.specs.CallsMade.{made};
+ghost use Rattle.script_code.specs.CodeRun.{topmost};
 ghost use Rattle.machine.specs.Gives.{Pops};
 ghost use Rattle.machine.specs.Does.{Does, DoesFor, Issues, Calls, Rises};
 ghost use Rattle.script_code.specs.declared.instruction.Instruction.TheVariants as instruction;
@@ -20,7 +21,8 @@ use script_tree::syntax::operator::{BinaryOperator, UnaryOperator};
 use script_tree::text::Text;
 use script_tree::value::Value;
 use script_values::{Called, Faulted};
-use std::alloc::Global;
+use std::alloc::{AllocError, Global};
+use std::mem;
 
 /// What the function that runs has at hand, and what the run spent and did. Its methods do the
 /// instructions after which the next one is done.
@@ -31,6 +33,8 @@ pub(crate) struct State<'c> {
     /// The variables.
     pub(crate) slots: Vec<Value>,
     pub(crate) account: Account,
+    /// Memory for the arguments of the next call of a built-in function: an empty list.
+    pub(crate) room: Vec<Value>,
 }
 
 impl<'c> State<'c> {
@@ -79,7 +83,7 @@ impl<'c> State<'c> {
         let right = self.pop()?;
         let left = self.pop()?;
         self.account.charge()?;
-        let value = script_values::binary(self.alloc, operator, left.value(), right.value())?;
+        let value = script_values::binary(self.alloc, operator, left.into_value()?, right.value())?;
         self.stack.push(Operand::own(value))?;
         Ok(Went::On)
     }
@@ -109,6 +113,27 @@ impl<'c> State<'c> {
         Ok(Went::On)
     }
 
+    /// Takes so many arguments.
+    fn arguments(&mut self, count: usize) -> Result<Vec<Value>, AllocError>
+        ensures values { IfOk result (λ values. values.items ≡ topmost count self.old.stack []) }
+        ensures left { OnOk result (self.new.stack ≡ drop count self.old.stack) }
+        ensures slots { self.new.slots ≡ self.old.slots }
+        ensures account { self.new.account ≡ self.old.account }
+    {
+        let room = mem::replace(&mut self.room, Vec::new(self.alloc));
+        self.stack.take_into(self.alloc, count, room)
+    }
+
+    /// Keeps the memory of arguments that were used.
+    fn keep(&mut self, mut arguments: Vec<Value>)
+        ensures stack { self.new.stack ≡ self.old.stack }
+        ensures slots { self.new.slots ≡ self.old.slots }
+        ensures account { self.new.account ≡ self.old.account }
+    {
+        arguments.clear();
+        self.room = arguments;
+    }
+
     /// Calls a built-in function with so many arguments.
     pub(crate) fn call_builtin(
         &mut self,
@@ -120,8 +145,9 @@ impl<'c> State<'c> {
             self.old result self.new }
         ensures rises { Rises self.old result self.new }
     {
-        let values = self.stack.take(self.alloc, count)?;
+        let values = self.arguments(count)?;
         let called = script_values::call_of(self.alloc, request, &[], builtin, values.as_slice());
+        self.keep(values);
         self.called(called)
     }
 
@@ -137,7 +163,7 @@ impl<'c> State<'c> {
             self.old result self.new }
         ensures rises { Rises self.old result self.new }
     {
-        let values = self.stack.take(self.alloc, count)?;
+        let values = self.arguments(count)?;
         let called = script_values::call_of(
             self.alloc,
             request,
@@ -145,6 +171,7 @@ impl<'c> State<'c> {
             builtin,
             values.as_slice(),
         );
+        self.keep(values);
         self.called(called)
     }
 

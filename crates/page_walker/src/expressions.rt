@@ -149,7 +149,7 @@ impl Frame<'_, '_, '_> {
             (climbed self.now variables.now (binary at operator a b.now) left run.old) }
     {
         let right = self.eval(variables, run, b)?;
-        run.node(script_values::binary(self.alloc, operator, &left, &right))
+        run.node(script_values::binary(self.alloc, operator, left, &right))
     }
 
     #[cycle(walk)]

@@ -46,7 +46,10 @@ fn answer(
         Primitive::Literal(value) => Ok(Called::Value(value.clone()?)),
         Primitive::Pass => Ok(Called::Value(first.clone()?)),
         Primitive::Unary(operator) => Ok(Called::Value(unary(operator, first)?)),
-        Primitive::Binary(operator) => Ok(Called::Value(binary(alloc, operator, first, second)?)),
+        Primitive::Binary(operator) => {
+            let first = first.clone()?;
+            Ok(Called::Value(binary(alloc, operator, first, second)?))
+        }
         Primitive::Index => Ok(Called::Value(indexed(alloc, first, second)?)),
         Primitive::List => Ok(Called::Value(listed(copied(alloc, operands)?)?)),
         Primitive::Builtin(builtin) => call_of(alloc, request, &[], builtin, operands),

@@ -13,16 +13,16 @@ use script_tree::value::{Node, Value};
 use std::alloc::Global;
 
 /// The sum of two numbers, or two texts or two lists behind one another.
-pub fn plus(alloc: Global, a: &Value, b: &Value) -> Result<Value, Faulted>
-    ensures { Answers (λ v. v) (plus a.now b.now) result }
+pub fn plus(alloc: Global, a: Value, b: &Value) -> Result<Value, Faulted>
+    ensures { Answers (λ v. v) (plus a b.now) result }
 {
-    match &a.node {
+    match a.node {
         Node::Number(m) => {
             let n = number_in(b)?;
             if_it_fits(m.checked_add(n))
         }
         Node::Text(text) => joined_texts(alloc, text, b),
-        Node::List(values) => joined_lists(alloc, values, b),
+        Node::List(values) => joined_lists(values, b),
         Node::Null | Node::Bool(_) => wrong_kind(),
     }
 }

@@ -17,12 +17,14 @@ pub fn listed(values: Vec<Value>) -> Result<Value, Faulted>
     if_within_limits(Value::list(Values::from_vec(values)?))
 }
 
-/// The values of a list, and behind them those of a value that is to be a list.
-pub fn joined_lists(alloc: Global, values: &Values, b: &Value) -> Result<Value, Faulted>
-    ensures { Answers (λ v. v) (plus (list (data_of values.now)) b.now) result }
+/// The values of a list, and behind them those of a value that is to be a list. A list that nobody
+/// else has grows where it lies.
+pub fn joined_lists(values: Values, b: &Value) -> Result<Value, Faulted>
+    ensures { Answers (λ v. v) (plus (list (data_of values)) b.now) result }
 {
-    let mut all = copied(alloc, values.as_slice())?;
-    for value in list_in(b)?.as_slice() {
+    let others = list_in(b)?;
+    let mut all = values.into_vec()?;
+    for value in others.as_slice() {
         all.push(value.clone()?)?;
     }
     listed(all)

@@ -23,22 +23,23 @@ pub fn unary(operator: UnaryOperator, operand: &Value) -> Result<Value, Faulted>
     }
 }
 
-/// The value of an operator between two operands.
+/// The value of an operator between two operands. The left one is used up: by `+` a text or a list
+/// that nobody else has grows where it lies.
 pub fn binary(
     alloc: Global,
     operator: BinaryOperator,
-    left: &Value,
+    left: Value,
     right: &Value,
 ) -> Result<Value, Faulted>
-    ensures { Answers (λ v. v) (binary_answer operator left.now right.now) result }
+    ensures { Answers (λ v. v) (binary_answer operator left right.now) result }
 {
     match operator {
-        BinaryOperator::Compare(comparison) => compared(comparison, left, right),
+        BinaryOperator::Compare(comparison) => compared(comparison, &left, right),
         BinaryOperator::Plus => plus(alloc, left, right),
-        BinaryOperator::Minus => minus(left, right),
-        BinaryOperator::Times => times(left, right),
-        BinaryOperator::Quotient => quotient(left, right),
-        BinaryOperator::Remainder => remainder(left, right),
+        BinaryOperator::Minus => minus(&left, right),
+        BinaryOperator::Times => times(&left, right),
+        BinaryOperator::Quotient => quotient(&left, right),
+        BinaryOperator::Remainder => remainder(&left, right),
     }
 }
 

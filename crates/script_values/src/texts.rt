@@ -7,6 +7,7 @@ ghost use Rattle.script_meaning.specs.Operators.{escaped, escaped_byte, escaped_
 use crate::faults::{Faulted, if_within_limits};
 use crate::kinds::{text_in, wrong_kind};
 use crate::lists::part;
+use itoa::Buffer;
 use script_tree::text::Text;
 use script_tree::value::{Node, Value};
 use std::alloc::{AllocError, Global};
@@ -19,14 +20,30 @@ fn text_of(alloc: Global, bytes: Vec<u8>) -> Result<Value, Faulted>
     if_within_limits(Value::text(alloc, Text::from_vec(bytes))?)
 }
 
-/// A text, and behind it a value that is to be a text.
-pub fn joined_texts(alloc: Global, text: &Text, b: &Value) -> Result<Value, Faulted>
-    ensures { Answers (λ v. v) (plus (texted text.now) b.now) result }
+/// A text, and behind it a value that is to be a text. A text that nobody else has grows where it
+/// lies.
+pub fn joined_texts(alloc: Global, text: Arc<Text>, b: &Value) -> Result<Value, Faulted>
+    ensures { Answers (λ v. v) (plus (texted text.value) b.now) result }
 {
-    let more = text_in(b)?;
-    let mut bytes = text.as_bytes().to_vec(alloc)?;
-    bytes.extend_from_slice(more.as_bytes())?;
+    let more = text_in(b)?.as_bytes();
+    let mut bytes = bytes_of(alloc, text, more.len())?;
+    bytes.extend_from_slice(more)?;
     text_of(alloc, bytes)
+}
+
+/// The bytes of a text: its own where nobody else has it, else a copy with so much room behind it.
+fn bytes_of(alloc: Global, text: Arc<Text>, room: usize) -> Result<Vec<u8>, AllocError>
+    ensures { IfOk result (λ bytes. bytes.items ≡ text.value) }
+{
+    match Arc::try_unwrap(text) {
+        Ok(text) => Ok(text.into_vec()),
+        Err(shared) => {
+            let source = shared.as_bytes();
+            let mut bytes = Vec::with_capacity(alloc, source.len().saturating_add(room))?;
+            bytes.extend_from_slice(source)?;
+            Ok(bytes)
+        }
+    }
 }
 
 /// The part of a text between two places.
@@ -44,7 +61,7 @@ pub fn printed(alloc: Global, value: &Value) -> Result<Arc<Text>, Faulted>
         Node::Null => Vec::new(alloc),
         Node::Bool(true) => b"true".to_vec(alloc)?,
         Node::Bool(false) => b"false".to_vec(alloc)?,
-        Node::Number(n) => n.to_string(alloc)?.into_bytes(),
+        Node::Number(n) => Buffer::new().format(*n).as_bytes().to_vec(alloc)?,
         Node::Text(text) => return Ok(text.clone()?),
         Node::List(_) => return wrong_kind(),
     };

@@ -5,5 +5,5 @@ use Rattle.script_values.proofs.lists.joined_lists.Goals as goal
 
 pub returns : goal.returns
 returns c =
-    let whole : c.loop-value.all.items ≡ c.args.values.now ++ c.in_ok-list_in.field-0.now = grind (arith, common_steps) in
-    rw (members-data_of c.args.values.now, c.in_ok-list_in.ensures, ← whole) c.listed.ensures
+    let whole : c.loop-value.all.items ≡ c.args.values ++ c.in_ok-others.others.now = grind (arith, common_steps) in
+    rw (members-data_of c.args.values, c.in_ok-others.ensures, ← whole) c.listed.ensures

@@ -2,5 +2,6 @@ mod Cells
 mod Following
 mod Parts
 mod Runs
+mod Slots
 mod Stacks
 mod Trails

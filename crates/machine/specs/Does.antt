@@ -49,6 +49,12 @@ DoesFor q i old result new =
 abbrev pub Does : Instruction → State → Result Went Stopped → State → Type 0
 Does i old result new = (q : Request) → DoesFor q i old result new
 
+-- The state does this instruction and then that one.
+abbrev pub DoesBoth : Instruction → Instruction → State → Result Went Stopped → State → Type 0
+DoesBoth i j old result new =
+    (q : Request) (functions : List ℕ) (next : Next) (fs : List Frame) (pc : ℕ) (ops : List Op) (more : List Datum)
+    → Leaves (next fs (pc + 1 + 1)) ops more result new (step q functions (Some i) (step q functions (Some j) next) fs pc old.stack old.slots.items (progress_of old.account ops more))
+
 -- No step is given back.
 abbrev pub Rises : State → Result Went Stopped → State → Type 0
 Rises old result new = OnOk result (old.account.steps ≤ new.account.steps)
@@ -114,10 +120,10 @@ Falls len place old new = rank len new.place new < rank len place old
 
 -- ---- many instructions
 
--- the instruction that is next, and whatever so many more do
+-- the instruction that is next, and n behind it that are done with it, and whatever so many more do
 abbrev pub StepsOn : Request → List ℕ → List Instruction → Machine → Result Went Stopped → Machine → Type 0
 StepsOn q functions code old result new =
-    (k : ℕ) (ops : List Op) (more : List Datum) → Comes (exec q functions code k) ops more result new (onward (exec q functions code (suc k)) old ops more)
+    (n : ℕ) × ((k : ℕ) (ops : List Op) (more : List Datum) → Comes (exec q functions code k) ops more result new (onward (exec q functions code (n + suc k)) old ops more))
 
 -- after some number of instructions the run is over, or stops
 abbrev pub Stands : Request → List ℕ → List Instruction → (ops : List Op) → (more : List Datum) → Result (Unit {0}) Stopped → Machine → (ℕ → Outcome Flow) → Type 0

@@ -5,7 +5,6 @@ pub mod Follows
 pub mod FrameCode
 pub mod FramesView
 pub mod Gives
-pub mod OperandView
 pub mod Places
 pub mod Statuses
 pub mod Told

@@ -2,9 +2,8 @@ ghost use Rattle.std.specs.Prelude.{◌≡◌, drop, IfOk};
 ghost use Rattle.script_tree.specs.Datum.{list as listed, data_of};
 ghost use Rattle.machine.specs.CellView.{IsNext};
 
-use crate::operand::Operand;
 use script_tree::value::{Value, Values};
-use script_values::{as_list, copied};
+use script_values::{Operand, as_list, copied};
 use std::alloc::{AllocError, Global};
 use std::marker::Model;
 

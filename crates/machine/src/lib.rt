@@ -7,7 +7,6 @@ mod cell;
 mod ending;
 mod frames;
 mod machine;
-mod operand;
 mod run;
 mod spending;
 mod stack;

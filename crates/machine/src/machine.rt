@@ -13,7 +13,6 @@ ghost use Rattle.machine.specs.declared.machine.Phase.TheVariants.{Running};
 use crate::account::{Account, BareMark};
 use crate::ending::{MachineStep, ended, faulted, no_page};
 use crate::frames::Frames;
-use crate::operand::Operand;
 use crate::run::Run;
 use crate::stack::Stack;
 use crate::state::State;
@@ -23,6 +22,7 @@ use script_tree::fault::ScriptFault;
 use script_tree::path::End;
 use script_tree::request::Request;
 use script_tree::value::Value;
+use script_values::Operand;
 use std::alloc::{AllocError, Global};
 
 /// What is next of a run.

@@ -1,4 +1,4 @@
-ghost use Rattle.std.specs.Prelude.{◌≡◌, ◌<◌, ◌+◌, ℕ, length, Ok, OnOk};
+ghost use Rattle.std.specs.Prelude.{◌≡◌, ◌<◌, ◌+◌, ℕ, length, slice_get, Some, Ok, OnOk, IfSome};
 ghost use Rattle.script_tree.specs.Requests.{Request as Asked};
 ghost use Rattle.script_code.specs.declared.instruction.Instruction.TheVariants as instruction;
 ghost use Rattle.machine.specs.Does.{Acts, ActsFor, Falls, Returns, Runs, StepsOn};
@@ -7,7 +7,6 @@ ghost use Rattle.machine.specs.declared.stopped.Went.TheVariants.{On};
 
 use crate::cell::NextMember;
 use crate::frames::{Frame, Frames};
-use crate::operand::Operand;
 use crate::stack::Stack;
 use crate::state::State;
 use crate::stopped::{Stopped, Went};
@@ -16,7 +15,9 @@ use script_code::translate::Code;
 use script_tree::fault::ScriptFault;
 use script_tree::limits::MOST_CALL_DEPTH;
 use script_tree::request::Request;
+use script_tree::syntax::operator::BinaryOperator;
 use script_tree::value::Value;
+use script_values::Operand;
 use std::mem;
 
 /// Where a run is in the code.
@@ -47,6 +48,7 @@ impl<'c> Run<'c> {
     }
 
     /// Begins a loop over a list: what is left of it is the whole list.
+    #[inline(never)]
     fn each(&mut self, place: usize, count: usize, len: usize) -> Result<Went, Stopped>
         requires { IsPlaceOf len place }
         ensures acts { Acts (instruction.Each count) len place self.old result self.new }
@@ -61,7 +63,7 @@ impl<'c> Run<'c> {
         self.jump(place, count, len)
     }
 
-    #[inline(always)]
+    #[inline(never)]
     fn and(&mut self, place: usize, count: usize, len: usize) -> Result<Went, Stopped>
         requires { IsPlaceOf len place }
         ensures acts { Acts (instruction.And count) len place self.old result self.new }
@@ -77,7 +79,7 @@ impl<'c> Run<'c> {
         }
     }
 
-    #[inline(always)]
+    #[inline(never)]
     fn or(&mut self, place: usize, count: usize, len: usize) -> Result<Went, Stopped>
         requires { IsPlaceOf len place }
         ensures acts { Acts (instruction.Or count) len place self.old result self.new }
@@ -124,6 +126,7 @@ impl<'c> Run<'c> {
     }
 
     /// Begins the next turn of a loop over a list, or ends it.
+    #[inline(never)]
     fn turn(&mut self, place: usize, count: usize, len: usize) -> Result<Went, Stopped>
         requires { IsPlaceOf len place }
         ensures acts { Acts (instruction.Turn count) len place self.old result self.new }
@@ -153,6 +156,7 @@ impl<'c> Run<'c> {
     }
 
     /// Calls the function of this number with so many arguments.
+    #[inline(never)]
     fn call(
         &mut self,
         functions: &[usize],
@@ -189,6 +193,7 @@ impl<'c> Run<'c> {
     }
 
     /// Gives the value back from a function; ends a page.
+    #[inline(never)]
     fn give_back(&mut self) -> Result<Went, Stopped>
         ensures acts { (len place : ℕ)
             → Acts instruction.Return len place self.old result self.new }
@@ -226,7 +231,8 @@ impl<'c> Run<'c> {
         }
     }
 
-    /// Does the instruction at a place.
+    /// Does the instruction at a place. It is inlined into the loop of `run`, and would be too large
+    /// for that if the rarer instructions were a part of it: `inline(never)` keeps them out.
     #[inline(always)]
     fn act(
         &mut self,
@@ -251,10 +257,11 @@ impl<'c> Run<'c> {
             Instruction::Index => self.state.index(),
             Instruction::List(count) => self.state.list(*count),
             Instruction::CallBuiltin(builtin, count) => {
-                self.state.call_builtin(request, *builtin, *count)
+                self.state.call_builtin(request, &[], *builtin, *count)
             }
             Instruction::CallStore(builtin, store, count) => {
-                self.state.call_store(request, *builtin, store, *count)
+                let store = store.as_bytes();
+                self.state.call_builtin(request, store, *builtin, *count)
             }
             Instruction::CallUnknown(count) => self.state.call_unknown(*count),
             Instruction::Transact(shapes) => self.state.transact(shapes.as_slice()),
@@ -280,7 +287,7 @@ impl<'c> Run<'c> {
         }
     }
 
-    /// Does the instruction that is next.
+    /// Does the instruction that is next; with an operator the assignment that follows it too.
     #[inline(always)]
     fn step(&mut self, code: &'c Code, request: &Request) -> Result<Went, Stopped>
         ensures gives { StepsOn request.now code.now.functions.items code.now.instructions.items
@@ -291,7 +298,13 @@ impl<'c> Run<'c> {
         let place = self.place;
         match code.instructions.get(place) {
             None => Err(Stopped::Fault(ScriptFault::WrongKind)),
-            Some(instruction) => self.act(code, request, place, instruction),
+            Some(instruction) => match update_at(code, place, instruction) {
+                Some((operator, slot)) => {
+                    self.place = place + 2;
+                    self.state.update(operator, slot)
+                }
+                None => self.act(code, request, place, instruction),
+            },
         }
     }
 
@@ -307,5 +320,21 @@ impl<'c> Run<'c> {
                 Err(stopped) => return Err(stopped),
             }
         }
+    }
+}
+
+/// The operator of the instruction at a place, and the slot to which the next one assigns its value.
+#[inline(always)]
+fn update_at(code: &Code, place: usize, here: &Instruction) -> Option<(BinaryOperator, usize)>
+    requires { place < length code.now.instructions.items }
+    ensures { IfSome result (λ (operator, slot). (here.now ≡ instruction.Binary operator)
+        × (slice_get code.now.instructions.items (place + 1) ≡ Some (instruction.Assign slot))) }
+{
+    let Instruction::Binary(operator) = here else {
+        return None;
+    };
+    match code.instructions.get(place + 1) {
+        Some(Instruction::Assign(slot)) => Some((*operator, *slot)),
+        _ => None,
     }
 }

@@ -3,10 +3,10 @@ ghost use Rattle.script_code.specs.CodeRun.{topmost};
 ghost use Rattle.machine.specs.Gives.{Pops};
 
 use crate::cell::Cell;
-use crate::operand::Operand;
 use crate::stopped::Stopped;
 use script_tree::fault::ScriptFault;
 use script_tree::value::Value;
+use script_values::Operand;
 use std::alloc::{AllocError, Global};
 use std::marker::Model;
 
@@ -87,7 +87,8 @@ impl<'c> Stack<'c> {
         ensures left { OnOk result (self.new ≡ drop count self.old) }
         ensures fits { length self.old ≤ usize.MAX }
     {
-        self.take_into(alloc, count, Vec::new(alloc))
+        let room = Vec::with_capacity(alloc, count.min(self.cells.len()))?;
+        self.take_into(alloc, count, room)
     }
 
     /// The same, in the memory of a list whose values are let go.

@@ -1,14 +1,14 @@
-ghost use Rattle.std.specs.Prelude.{◌≡◌, [], drop, IfOk, OnOk};
+ghost use Rattle.std.specs.Prelude.{◌≡◌, [], drop, slice_set, IfOk, OnOk};
 ghost use Rattle.basis.specs.UnlessMemory.{Answers};
+ghost use Rattle.script_tree.specs.Datum.{Datum};
 ghost use Rattle.script_meaning.specs.BuiltinCalls.{Call};
 ghost use Rattle.script_values.specs.CallsMade.{made};
 ghost use Rattle.script_code.specs.CodeRun.{topmost};
 ghost use Rattle.machine.specs.Gives.{Pops};
-ghost use Rattle.machine.specs.Does.{Does, DoesFor, Issues, Calls, Rises};
+ghost use Rattle.machine.specs.Does.{Does, DoesBoth, DoesFor, Issues, Calls, Rises};
 ghost use Rattle.script_code.specs.declared.instruction.Instruction.TheVariants as instruction;
 
 use crate::account::Account;
-use crate::operand::Operand;
 use crate::stack::Stack;
 use crate::stopped::{Stopped, Wanted, Went};
 use script_code::instruction::Shape;
@@ -18,9 +18,8 @@ use script_tree::operation::Op;
 use script_tree::request::Request;
 use script_tree::syntax::builtin::Builtin;
 use script_tree::syntax::operator::{BinaryOperator, UnaryOperator};
-use script_tree::text::Text;
 use script_tree::value::Value;
-use script_values::{Called, Faulted};
+use script_values::{Called, Faulted, Operand};
 use std::alloc::{AllocError, Global};
 use std::mem;
 
@@ -64,6 +63,7 @@ impl<'c> State<'c> {
         Ok(Went::On)
     }
 
+    #[inline(never)]
     pub(crate) fn unary(&mut self, operator: UnaryOperator) -> Result<Went, Stopped>
         ensures does { Does (instruction.Unary operator) self.old result self.new }
         ensures rises { Rises self.old result self.new }
@@ -83,12 +83,53 @@ impl<'c> State<'c> {
         let right = self.pop()?;
         let left = self.pop()?;
         self.account.charge()?;
-        let value = script_values::binary(self.alloc, operator, left.into_value()?, right.value())?;
+        let value = script_values::binary(self.alloc, operator, left, right)?;
         self.stack.push(Operand::own(value))?;
         Ok(Went::On)
     }
 
+    /// Does a binary operator, and puts its value in this slot. What was there is let go before, so
+    /// that a text or a list grows in its place.
+    #[inline(never)]
+    pub(crate) fn update(&mut self, operator: BinaryOperator, slot: usize) -> Result<Went, Stopped>
+        ensures does { DoesBoth (instruction.Binary operator) (instruction.Assign slot)
+            self.old result self.new }
+        ensures rises { Rises self.old result self.new }
+    {
+        let right = self.pop()?;
+        let left = self.pop()?;
+        self.account.charge()?;
+        self.let_go(slot);
+        let value = script_values::binary(self.alloc, operator, left, right)?;
+        self.account.charge()?;
+        self.put(slot, value);
+        Ok(Went::On)
+    }
+
+    /// Lets go of the value in this slot.
     #[inline(always)]
+    fn let_go(&mut self, slot: usize)
+        ensures slots { (d : Datum) → slice_set self.new.slots.items slot d
+            ≡ slice_set self.old.slots.items slot d }
+        ensures stack { self.new.stack ≡ self.old.stack }
+        ensures account { self.new.account ≡ self.old.account }
+    {
+        self.put(slot, Value::null());
+    }
+
+    /// Puts a value in this slot, if there is one.
+    #[inline(always)]
+    fn put(&mut self, slot: usize, value: Value)
+        ensures slots { self.new.slots.items ≡ slice_set self.old.slots.items slot value }
+        ensures stack { self.new.stack ≡ self.old.stack }
+        ensures account { self.new.account ≡ self.old.account }
+    {
+        if slot < self.slots.len() {
+            self.slots[slot] = value;
+        }
+    }
+
+    #[inline(never)]
     pub(crate) fn index(&mut self) -> Result<Went, Stopped>
         ensures does { Does instruction.Index self.old result self.new }
         ensures rises { Rises self.old result self.new }
@@ -102,6 +143,7 @@ impl<'c> State<'c> {
     }
 
     /// Makes a list of so many values.
+    #[inline(never)]
     pub(crate) fn list(&mut self, count: usize) -> Result<Went, Stopped>
         ensures does { Does (instruction.List count) self.old result self.new }
         ensures rises { Rises self.old result self.new }
@@ -114,6 +156,7 @@ impl<'c> State<'c> {
     }
 
     /// Takes so many arguments.
+    #[inline(always)]
     fn arguments(&mut self, count: usize) -> Result<Vec<Value>, AllocError>
         ensures values { IfOk result (λ values. values.items ≡ topmost count self.old.stack []) }
         ensures left { OnOk result (self.new.stack ≡ drop count self.old.stack) }
@@ -125,6 +168,7 @@ impl<'c> State<'c> {
     }
 
     /// Keeps the memory of arguments that were used.
+    #[inline(always)]
     fn keep(&mut self, mut arguments: Vec<Value>)
         ensures stack { self.new.stack ≡ self.old.stack }
         ensures slots { self.new.slots ≡ self.old.slots }
@@ -134,29 +178,13 @@ impl<'c> State<'c> {
         self.room = arguments;
     }
 
-    /// Calls a built-in function with so many arguments.
+    /// Calls a built-in function with so many arguments; one on a store has the store's name.
+    #[inline(never)]
     pub(crate) fn call_builtin(
         &mut self,
         request: &Request,
+        store: &[u8],
         builtin: Builtin,
-        count: usize,
-    ) -> Result<Went, Stopped>
-        ensures does { DoesFor request.now (instruction.CallBuiltin builtin count)
-            self.old result self.new }
-        ensures rises { Rises self.old result self.new }
-    {
-        let values = self.arguments(count)?;
-        let called = script_values::call_of(self.alloc, request, &[], builtin, values.as_slice());
-        self.keep(values);
-        self.called(called)
-    }
-
-    /// Calls a built-in function on a store, with so many arguments more.
-    pub(crate) fn call_store(
-        &mut self,
-        request: &Request,
-        builtin: Builtin,
-        store: &Text,
         count: usize,
     ) -> Result<Went, Stopped>
         ensures does { DoesFor request.now (instruction.CallStore builtin store.now count)
@@ -164,18 +192,13 @@ impl<'c> State<'c> {
         ensures rises { Rises self.old result self.new }
     {
         let values = self.arguments(count)?;
-        let called = script_values::call_of(
-            self.alloc,
-            request,
-            store.as_bytes(),
-            builtin,
-            values.as_slice(),
-        );
+        let called = script_values::call_of(self.alloc, request, store, builtin, values.as_slice());
         self.keep(values);
         self.called(called)
     }
 
     /// Spends the step of a call, and has its value or issues its operation.
+    #[inline(always)]
     fn called(&mut self, called: Result<Called, Faulted>) -> Result<Went, Stopped>
         ensures does { (c : Call) → Answers (λ x. x) (made c) called
             → Calls c self.old result self.new }
@@ -212,6 +235,7 @@ impl<'c> State<'c> {
     }
 
     /// Calls a name that nothing has.
+    #[inline(never)]
     pub(crate) fn call_unknown(&mut self, count: usize) -> Result<Went, Stopped>
         ensures does { Does (instruction.CallUnknown count) self.old result self.new }
         ensures rises { Rises self.old result self.new }
@@ -221,6 +245,7 @@ impl<'c> State<'c> {
     }
 
     /// Issues the transaction of these statements, with their values.
+    #[inline(never)]
     pub(crate) fn transact(&mut self, shapes: &[Shape]) -> Result<Went, Stopped>
         ensures does { Does (instruction.Transact shapes.now) self.old result self.new }
         ensures rises { Rises self.old result self.new }
@@ -234,6 +259,7 @@ impl<'c> State<'c> {
     }
 
     /// Leaves so many slots.
+    #[inline(never)]
     pub(crate) fn leave(&mut self, count: usize) -> Result<Went, Stopped>
         ensures does { Does (instruction.Leave count) self.old result self.new }
         ensures rises { Rises self.old result self.new }
@@ -243,6 +269,7 @@ impl<'c> State<'c> {
     }
 
     /// Puts the value in a slot of its own.
+    #[inline(never)]
     pub(crate) fn declare(&mut self) -> Result<Went, Stopped>
         ensures does { Does instruction.Declare self.old result self.new }
         ensures rises { Rises self.old result self.new }
@@ -261,12 +288,11 @@ impl<'c> State<'c> {
     {
         let operand = self.pop()?;
         self.account.charge()?;
-        if slot < self.slots.len() {
-            self.slots[slot] = operand.into_value()?;
-        }
+        self.put(slot, operand.into_value()?);
         Ok(Went::On)
     }
 
+    #[inline(never)]
     pub(crate) fn echo(&mut self) -> Result<Went, Stopped>
         ensures does { Does instruction.Echo self.old result self.new }
         ensures rises { Rises self.old result self.new }
@@ -277,6 +303,7 @@ impl<'c> State<'c> {
         Ok(Went::On)
     }
 
+    #[inline(never)]
     pub(crate) fn status(&mut self) -> Result<Went, Stopped>
         ensures does { Does instruction.Status self.old result self.new }
         ensures rises { Rises self.old result self.new }
@@ -287,6 +314,7 @@ impl<'c> State<'c> {
         Ok(Went::On)
     }
 
+    #[inline(never)]
     pub(crate) fn discard(&mut self) -> Result<Went, Stopped>
         ensures does { Does instruction.Discard self.old result self.new }
         ensures rises { Rises self.old result self.new }

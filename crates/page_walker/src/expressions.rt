@@ -25,6 +25,7 @@ use script_tree::syntax::expression::{Expression, ExpressionNode, Expressions, Q
 use script_tree::syntax::operator::BinaryOperator;
 use script_tree::text::Text;
 use script_tree::value::Value;
+use script_values::Operand;
 
 impl Frame<'_, '_, '_> {
     /// The value of an expression.
@@ -149,7 +150,8 @@ impl Frame<'_, '_, '_> {
             (climbed self.now variables.now (binary at operator a b.now) left run.old) }
     {
         let right = self.eval(variables, run, b)?;
-        run.node(script_values::binary(self.alloc, operator, left, &right))
+        let (left, right) = (Operand::own(left), Operand::own(right));
+        run.node(script_values::binary(self.alloc, operator, left, right))
     }
 
     #[cycle(walk)]

@@ -9,7 +9,7 @@ use Rattle.script_meaning.specs.Run.{Cost, taking, Run, ◌>>=◌, ◌>>◌, unl
 use Rattle.script_code.specs.CodeRun.{on_one, on_two, topmost, all_taken, all_filled}
 use Rattle.script_values.specs.CallsMade.{value_made, operation_made, made}
 use Rattle.script_nodes.specs.Evaluated.{gone_on}
-use Rattle.std.proofs.Common.{◌≤◌, ◌<◌, ◌-◌, ◌++◌, ℕ, zero, suc, Bool, true, false, cond, if◌then◌else◌, List, Result, Some, length, inl, inr, sym, ap, ◌∙◌, arith}
+use Rattle.std.proofs.Common.{◌≤◌, ◌<◌, ◌-◌, ◌++◌, ℕ, zero, suc, Bool, true, false, cond, List, Result, length, inl, inr, sym, ap, ◌∙◌, arith}
 use Rattle.std.specs.Prelude.{get_or, nat_lt, slice_get, slice_set, pos}
 use Rattle.std.proofs.lemmas.Bool.{cases_lt}
 use Rattle.std.proofs.lemmas.Bool.Decides.{nat_tests}

@@ -1,5 +1,5 @@
 -- A node has no fault but of its values.
-use Rattle.std.proofs.Common.{ℕ, List, [], Result, Ok, Err, refl}
+use Rattle.std.proofs.Common.{ℕ, List, [], Ok, Err, refl}
 use Rattle.script_tree.specs.Datum.{Datum}
 use Rattle.script_tree.specs.Requests.{Request}
 use Rattle.script_tree.specs.declared.syntax.builtin.Builtin.{Builtin}

@@ -10,8 +10,8 @@ use script_tree::fault::ScriptFault;
 use script_tree::request::Request;
 use script_tree::value::Value;
 use script_values::{
-    Arguments, Called, Faulted, as_list, binary, bool_in, call_of, copied, indexed, listed,
-    printed, status_in, transact_op, unary,
+    Arguments, Called, Faulted, Operand, as_list, binary, bool_in, call_of, copied, indexed,
+    listed, printed, status_in, transact_op, unary,
 };
 use std::alloc::Global;
 use std::sync::ledger::Ledger;
@@ -47,8 +47,8 @@ fn answer(
         Primitive::Pass => Ok(Called::Value(first.clone()?)),
         Primitive::Unary(operator) => Ok(Called::Value(unary(operator, first)?)),
         Primitive::Binary(operator) => {
-            let first = first.clone()?;
-            Ok(Called::Value(binary(alloc, operator, first, second)?))
+            let (left, right) = (Operand::lent(first), Operand::lent(second));
+            Ok(Called::Value(binary(alloc, operator, left, right)?))
         }
         Primitive::Index => Ok(Called::Value(indexed(alloc, first, second)?)),
         Primitive::List => Ok(Called::Value(listed(copied(alloc, operands)?)?)),

@@ -1,2 +1,3 @@
 pub mod CallsMade
+pub mod OperandView
 pub mod Queries

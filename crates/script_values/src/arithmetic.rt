@@ -6,25 +6,38 @@ ghost use Rattle.script_meaning.specs.Operators.{plus, minus, times, quotient, r
 use crate::faults::Faulted;
 use crate::kinds::{number_in, wrong_kind};
 use crate::lists::joined_lists;
-use crate::texts::joined_texts;
+use crate::operand::{Held, Operand};
+use crate::texts::{grown_text, joined_texts};
 use basis::OrMemory;
 use script_tree::fault::ScriptFault;
 use script_tree::value::{Node, Value};
 use std::alloc::Global;
 
 /// The sum of two numbers, or two texts or two lists behind one another.
-pub fn plus(alloc: Global, a: Value, b: &Value) -> Result<Value, Faulted>
-    ensures { Answers (λ v. v) (plus a b.now) result }
+pub fn plus(alloc: Global, a: Operand, b: Operand) -> Result<Value, Faulted>
+    ensures { Answers (λ v. v) (plus a.entry b.entry) result }
 {
-    match a.node {
-        Node::Number(m) => {
-            let n = number_in(b)?;
-            if_it_fits(m.checked_add(n))
-        }
-        Node::Text(text) => joined_texts(alloc, text, b),
-        Node::List(values) => joined_lists(values, b),
-        Node::Null | Node::Bool(_) => wrong_kind(),
+    match a.held {
+        Held::Lent(value) => match &value.node {
+            Node::Number(m) => sum(*m, b.value()),
+            Node::Text(text) => joined_texts(alloc, text, b),
+            Node::List(values) => joined_lists(values.clone()?, b.value()),
+            Node::Null | Node::Bool(_) => wrong_kind(),
+        },
+        Held::Own(value) => match value.node {
+            Node::Number(m) => sum(m, b.value()),
+            Node::Text(text) => grown_text(alloc, text, b),
+            Node::List(values) => joined_lists(values, b.value()),
+            Node::Null | Node::Bool(_) => wrong_kind(),
+        },
     }
+}
+
+fn sum(m: i64, b: &Value) -> Result<Value, Faulted>
+    ensures { Answers (λ v. v) (plus (number m) b.now) result }
+{
+    let n = number_in(b)?;
+    if_it_fits(m.checked_add(n))
 }
 
 pub fn minus(a: &Value, b: &Value) -> Result<Value, Faulted>

@@ -10,6 +10,7 @@ use script_tree::value::Value;
 pub type Faulted = OrMemory<ScriptFault>;
 
 /// The value, where it isn't too large.
+#[inline(always)]
 pub fn if_within_limits(value: Value) -> Result<Value, Faulted>
     ensures { Answers (λ v. v) (if_within_limits value) result }
 {

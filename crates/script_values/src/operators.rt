@@ -7,6 +7,7 @@ use crate::arithmetic::{minus, negated, plus, quotient, remainder, times};
 use crate::faults::Faulted;
 use crate::kinds::{bool_in, number_in, wrong_kind};
 use crate::lists::at_place;
+use crate::operand::Operand;
 use crate::order::compared;
 use script_tree::syntax::operator::{BinaryOperator, UnaryOperator};
 use script_tree::text::Text;
@@ -23,23 +24,23 @@ pub fn unary(operator: UnaryOperator, operand: &Value) -> Result<Value, Faulted>
     }
 }
 
-/// The value of an operator between two operands. The left one is used up: by `+` a text or a list
-/// that nobody else has grows where it lies.
+/// The value of an operator between two operands. `+` uses them up: a text or a list that nobody
+/// else has grows where it lies.
 pub fn binary(
     alloc: Global,
     operator: BinaryOperator,
-    left: Value,
-    right: &Value,
+    left: Operand,
+    right: Operand,
 ) -> Result<Value, Faulted>
-    ensures { Answers (λ v. v) (binary_answer operator left right.now) result }
+    ensures { Answers (λ v. v) (binary_answer operator left.entry right.entry) result }
 {
     match operator {
-        BinaryOperator::Compare(comparison) => compared(comparison, &left, right),
+        BinaryOperator::Compare(comparison) => compared(comparison, left.value(), right.value()),
         BinaryOperator::Plus => plus(alloc, left, right),
-        BinaryOperator::Minus => minus(&left, right),
-        BinaryOperator::Times => times(&left, right),
-        BinaryOperator::Quotient => quotient(&left, right),
-        BinaryOperator::Remainder => remainder(&left, right),
+        BinaryOperator::Minus => minus(left.value(), right.value()),
+        BinaryOperator::Times => times(left.value(), right.value()),
+        BinaryOperator::Quotient => quotient(left.value(), right.value()),
+        BinaryOperator::Remainder => remainder(left.value(), right.value()),
     }
 }
 

@@ -1,4 +1,4 @@
-ghost use Rattle.std.specs.Prelude.{◌≡◌, ◌++◌, ◌∷◌, [], IfOk, OnOk};
+ghost use Rattle.std.specs.Prelude.{◌≡◌, ◌++◌, ◌∷◌, [], IfOk, OnOk, IsTrue, IsFalse};
 ghost use Rattle.basis.specs.UnlessMemory.{Answers};
 ghost use Rattle.script_tree.specs.Datum.{text as texted};
 ghost use Rattle.script_meaning.specs.Operators.{plus, if_within_limits, printed, as_text, part_of};
@@ -7,11 +7,17 @@ ghost use Rattle.script_meaning.specs.Operators.{escaped, escaped_byte, escaped_
 use crate::faults::{Faulted, if_within_limits};
 use crate::kinds::{text_in, wrong_kind};
 use crate::lists::part;
+use crate::operand::Operand;
 use itoa::Buffer;
 use script_tree::text::Text;
 use script_tree::value::{Node, Value};
 use std::alloc::{AllocError, Global};
+use std::mem;
 use std::sync::Arc;
+
+/// The bytes that a text which is put together has room for at least: the least piece of memory has
+/// as many.
+const LEAST_ROOM: usize = 24;
 
 /// The value of these bytes.
 fn text_of(alloc: Global, bytes: Vec<u8>) -> Result<Value, Faulted>
@@ -22,28 +28,43 @@ fn text_of(alloc: Global, bytes: Vec<u8>) -> Result<Value, Faulted>
 
 /// A text, and behind it a value that is to be a text. A text that nobody else has grows where it
 /// lies.
-pub fn joined_texts(alloc: Global, text: Arc<Text>, b: &Value) -> Result<Value, Faulted>
-    ensures { Answers (λ v. v) (plus (texted text.value) b.now) result }
+pub fn grown_text(alloc: Global, mut text: Arc<Text>, more: Operand) -> Result<Value, Faulted>
+    ensures { Answers (λ v. v) (plus (texted text.value) more.entry) result }
 {
-    let more = text_in(b)?.as_bytes();
-    let mut bytes = bytes_of(alloc, text, more.len())?;
-    bytes.extend_from_slice(more)?;
-    text_of(alloc, bytes)
+    if grows(alloc, &mut text, text_in(more.value())?)? {
+        if_within_limits(Value::shared_text(text))
+    } else {
+        joined_texts(alloc, &text, more)
+    }
 }
 
-/// The bytes of a text: its own where nobody else has it, else a copy with so much room behind it.
-fn bytes_of(alloc: Global, text: Arc<Text>, room: usize) -> Result<Vec<u8>, AllocError>
-    ensures { IfOk result (λ bytes. bytes.items ≡ text.value) }
+/// Puts bytes behind a text, where nobody else has it.
+fn grows(alloc: Global, text: &mut Arc<Text>, more: &Text) -> Result<bool, AllocError>
+    ensures grown { IfOk result (λ grown. IsTrue grown
+        → text.new.value ≡ text.old.value ++ more.now) }
+    ensures shared { IfOk result (λ grown. IsFalse grown → text.new.value ≡ text.old.value) }
 {
-    match Arc::try_unwrap(text) {
-        Ok(text) => Ok(text.into_vec()),
-        Err(shared) => {
-            let source = shared.as_bytes();
-            let mut bytes = Vec::with_capacity(alloc, source.len().saturating_add(room))?;
-            bytes.extend_from_slice(source)?;
-            Ok(bytes)
+    match Arc::get_mut(text) {
+        None => Ok(false),
+        Some(own) => {
+            let mut bytes = mem::replace(own, Text::from_vec(Vec::new(alloc))).into_vec();
+            bytes.extend_from_slice(more.as_bytes())?;
+            *own = Text::from_vec(bytes);
+            Ok(true)
         }
     }
+}
+
+/// The same, as a new text.
+pub fn joined_texts(alloc: Global, text: &Text, more: Operand) -> Result<Value, Faulted>
+    ensures { Answers (λ v. v) (plus (texted text.now) more.entry) result }
+{
+    let behind = text_in(more.value())?.as_bytes();
+    let room = text.len().saturating_add(behind.len());
+    let mut bytes = Vec::with_capacity(alloc, room.max(LEAST_ROOM))?;
+    bytes.extend_from_slice(text.as_bytes())?;
+    bytes.extend_from_slice(behind)?;
+    if_within_limits(more.replaced(alloc, Text::from_vec(bytes))?)
 }
 
 /// The part of a text between two places.

@@ -64,7 +64,7 @@ returns-in-CallBuiltin-clause-acts c next ops more ends =
 
 pub returns-in-CallStore-clause-acts : goal.returns-in-CallStore-clause-acts
 returns-in-CallStore-clause-acts c next ops more ends =
-    rw c.in-CallStore.is (c.call_store.ensures.does c.args.code.now.functions.items next c.args.self.now.frames c.args.place ops more)
+    rw (c.in-CallStore.is, ← c.as_bytes-store.ensures) (c.call_builtin-in-CallStore.ensures.does c.args.code.now.functions.items next c.args.self.now.frames c.args.place ops more)
 
 pub returns-in-And-clause-acts : goal.returns-in-And-clause-acts
 returns-in-And-clause-acts c next ops more ends =

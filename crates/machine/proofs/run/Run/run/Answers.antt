@@ -1,4 +1,4 @@
-use Rattle.std.proofs.Common.{List, [], suc, Ok, subst, ℕ}
+use Rattle.std.proofs.Common.{List, [], suc, Ok, subst, ℕ, ◌+◌}
 use Rattle.script_tree.specs.Datum.{Datum}
 use Rattle.script_meaning.specs.Evaluate.{Flow, on}
 use Rattle.script_meaning.specs.Operations.{Op}
@@ -9,7 +9,7 @@ use Rattle.script_tree.specs.Requests.{Request}
 use Rattle.machine.specs.Does.{Comes, onward}
 use Rattle.machine.specs.Gives.{progress_of}
 use Rattle.machine.specs.declared.run.Run.{Run}
-use Rattle.machine.proofs.Runs.{one_more, stops_there}
+use Rattle.machine.proofs.Runs.{more_done, stops_there}
 use Rattle.machine.proofs.run.Run.run.Goals as goal
 
 abbrev from : Request → Code → Run → List Op → List Datum → ℕ → Outcome Flow
@@ -21,8 +21,9 @@ loop-stopped-preserved c = record {
       let code = c.args.code.now in
       let q = c.args.request.now in
       let new = c.step.new.self in
-      one_more (from q code c.args.self.now ops more) (from q code c.loop-stopped.self ops more) (from q code new ops more) (c.loop-stopped.invariant.reaches ops more) (λ k.
-      subst (λ w. Comes (exec q code.functions.items code.instructions.items k) ops more (Ok w) new (from q code c.loop-stopped.self ops more (suc k))) c.in-Ok-On.field-0-is (c.in-Ok-On.ensures.gives k ops more));
+      let n = c.in-Ok-On.ensures.gives.0 in
+      more_done n (from q code c.args.self.now ops more) (from q code c.loop-stopped.self ops more) (from q code new ops more) (c.loop-stopped.invariant.reaches ops more) (λ k.
+      subst (λ w. Comes (exec q code.functions.items code.instructions.items k) ops more (Ok w) new (from q code c.loop-stopped.self ops more (n + suc k))) c.in-Ok-On.field-0-is (c.in-Ok-On.ensures.gives.1 k ops more));
 }
 
 pub returns-in-Ok-Over : goal.returns-in-Ok-Over
@@ -30,11 +31,12 @@ returns-in-Ok-Over c ops more =
     let code = c.args.code.now in
     let q = c.args.request.now in
     let new = c.step.new.self in
-    one_more (from q code c.args.self.now ops more) (from q code c.loop-stopped.self ops more) (λ k. goes (on []) (progress_of new.state.account ops more)) (c.loop-stopped.invariant.reaches ops more) (λ k.
-    subst (λ w. Comes (exec q code.functions.items code.instructions.items k) ops more (Ok w) new (from q code c.loop-stopped.self ops more (suc k))) c.in-Ok-Over.field-0-is (c.in-Ok-Over.ensures.gives k ops more))
+    let n = c.in-Ok-Over.ensures.gives.0 in
+    more_done n (from q code c.args.self.now ops more) (from q code c.loop-stopped.self ops more) (λ k. goes (on []) (progress_of new.state.account ops more)) (c.loop-stopped.invariant.reaches ops more) (λ k.
+    subst (λ w. Comes (exec q code.functions.items code.instructions.items k) ops more (Ok w) new (from q code c.loop-stopped.self ops more (n + suc k))) c.in-Ok-Over.field-0-is (c.in-Ok-Over.ensures.gives.1 k ops more))
 
 pub returns-in-Err : goal.returns-in-Err
 returns-in-Err c ops more =
     let code = c.args.code.now in
     let q = c.args.request.now in
-    stops_there q code.functions.items code.instructions.items ops more c.step.new.self (from q code c.args.self.now ops more) (from q code c.loop-stopped.self ops more) c.in-Err.stopped (c.loop-stopped.invariant.reaches ops more) (λ k. c.in-Err.ensures.gives k ops more)
+    stops_there c.in-Err.ensures.gives.0 q code.functions.items code.instructions.items ops more c.step.new.self (from q code c.args.self.now ops more) (from q code c.loop-stopped.self ops more) c.in-Err.stopped (c.loop-stopped.invariant.reaches ops more) (λ k. c.in-Err.ensures.gives.1 k ops more)

@@ -1,4 +1,4 @@
-use Rattle.std.proofs.Common.{◌+◌, [], ◌∙◌}
+use Rattle.std.proofs.Common.{◌+◌, ◌∙◌}
 use Rattle.script_meaning.specs.BuiltinCalls.{built_in}
 use Rattle.machine.proofs.state.State.call_builtin.Goals as goal
 
@@ -9,4 +9,4 @@ returns-clause-does c functions next fs pc ops more =
     let slots = c.keep.ensures.slots ∙ c.in_ok-values.ensures.slots in
     let account = c.keep.ensures.account ∙ c.in_ok-values.ensures.account in
     rw (← values, ← stack, ← slots, ← account)
-    (c.called.ensures.does (built_in c.args.request.now [] c.args.builtin c.as_slice.result.now) c.call_of-called.ensures (next fs (pc + 1)) ops more)
+    (c.called.ensures.does (built_in c.args.request.now c.args.store.now c.args.builtin c.as_slice.result.now) c.call_of-called.ensures (next fs (pc + 1)) ops more)

@@ -1,7 +1,7 @@
 -- The value of an operand.
 use Rattle.script_tree.specs.Datum.{Datum}
-use Rattle.machine.specs.declared.operand.Held.{Held}
-use Rattle.machine.specs.declared.operand.Held.TheVariants.{Lent, Own}
+use Rattle.script_values.specs.declared.operand.Held.{Held}
+use Rattle.script_values.specs.declared.operand.Held.TheVariants.{Lent, Own}
 
 abbrev pub operand_of : Held → Datum
 operand_of (Lent value) = value.now

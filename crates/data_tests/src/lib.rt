@@ -9,6 +9,8 @@ mod fields;
 #[cfg(test)]
 mod json;
 #[cfg(test)]
+mod members;
+#[cfg(test)]
 mod memory;
 #[cfg(test)]
 mod reports;

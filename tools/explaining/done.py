@@ -1,5 +1,7 @@
 """Summaries for the lines that need no mending: what a program has, and what its requests did."""
 
+import difflib
+
 from layout import counted, cut, listed, wrapped
 from record_text import text_of
 from replays import Watching, asked_line, object_name
@@ -9,6 +11,7 @@ from recording import object_and_act
 
 MOST_ROWS = 12
 MOST_FAILED = 8
+MOST_MISSING = 3
 WORDS = ["page", "function", "store", "table"]
 
 
@@ -53,6 +56,8 @@ class Summary:
         self.pages, self.objects, self.failed, self.missing = {}, {}, {}, {}
 
     def add(self, number, run, response):
+        if run.path not in self.program.pages:
+            self.missing.setdefault(run.path, number)
         page = text_of(run.path) if run.path in self.program.pages else f"no page ({text_of(run.path)})"
         key = f"{page} with {response[0]}" + (f", fault {run.fault}" if run.fault else "")
         self.pages[key] = self.pages.get(key, 0) + 1
@@ -69,7 +74,21 @@ class Summary:
         lines = ["Requests by page and status:", *rows_of([(number, what) for what, number in self.pages.items()])] if self.pages else []
         if self.objects:
             lines += ["Operations by object:", *rows_of([acts_row(name, acts) for name, acts in self.objects.items()])]
-        return lines + self.failed_lines(asked)
+        return lines + self.missing_lines() + self.failed_lines(asked)
+
+    def missing_lines(self):
+        """Why a path has no page, of the first few."""
+        lines = []
+        for path in list(self.missing)[:MOST_MISSING]:
+            front, sign, _ = path.partition(b"?")
+            like = close_paths(front, self.program.pages)
+            is_meant = f" Is {listed([text_of(page) for page in like], joint='or')} meant?" if like else ""
+            more = " What stands behind a `?` isn't parsed: it goes into the job's `params`." if sign else ""
+            lines += wrapped(f"No page has the path {text_of(path)}.{is_meant}{more}")
+        if self.missing:
+            paths = listed([text_of(page) for page in sorted(self.program.pages)], MOST_ROWS)
+            lines += wrapped(f"(A page answers the very path that it names, and there are no variables in paths. Pages: {paths}.)")
+        return lines
 
     def failed_lines(self, asked):
         """Where runs failed, each place once."""
@@ -81,6 +100,14 @@ class Summary:
         if len(self.failed) > MOST_FAILED:
             lines.append(f"({counted(len(self.failed) - MOST_FAILED, 'more place')} where runs failed.)")
         return lines
+
+
+def close_paths(path, pages):
+    """Those paths of pages that are this one, or much like it."""
+    if path in pages:
+        return [path]
+    names = {page.decode("latin-1"): page for page in pages}
+    return [names[name] for name in difflib.get_close_matches(path.decode("latin-1"), names, 2, 0.75)]
 
 
 def acts_row(name, acts):

@@ -80,8 +80,8 @@ class Faults:
             self.note(kind, where, what() if callable(what) else what)
         return holds
 
-    def array(self, tree, where):
-        return self.unless(is_array(tree), 2, where, lambda: f"an array stands here, [..], and not {sort_of(tree)}")
+    def array(self, tree, where, form="[..]"):
+        return self.unless(is_array(tree), 2, where, lambda: f"an array stands here, {form}, and not {sort_of(tree)}")
 
     def object(self, tree, where):
         return self.unless(isinstance(tree, Pairs), 2, where, lambda: f"an object stands here, {{..}}, and not {sort_of(tree)}")
@@ -141,7 +141,8 @@ class Faults:
 
     def cells(self, tree, noun, where, what):
         first = {}
-        for at, pair in enumerate(tree, 1) if self.array(tree, where) else []:
+        form = '[["name", value], ..]' if noun == "register" else '[["key", value], ..]'
+        for at, pair in enumerate(tree, 1) if self.array(tree, where, form) else []:
             here = Where(lambda: f"{where}, the {nth(at)} entry `{spelled(pair)}`")
             if not self.array(pair, here) or not self.unless(len(pair) == 2, 2, here, lambda: wrong_pair(pair)):
                 continue
@@ -160,9 +161,11 @@ class Faults:
 
     def rows(self, tree, where, columns):
         first = {}
-        for at, row in enumerate(tree, 1) if self.array(tree, where) else []:
+        columns_of = [column.decode() for column in columns or []] or [".."]
+        form = f"[{', '.join(columns_of)}] with a value for each column"
+        for at, row in enumerate(tree, 1) if self.array(tree, where, f"[{form}, ..]") else []:
             here = Where(lambda: f"{where}, the {nth(at)} row `{spelled(row)}`")
-            if not self.array(row, here):
+            if not self.array(row, here, form):
                 continue
             values = [self.value(part, here) for part in row]
             if columns is not None:

@@ -144,6 +144,11 @@ def why_unknown(faulty):
     inside = column_of(faulty)
     if inside:
         return [inside]
+    if faulty.before() == b"(" and faulty.before(2) in (b"param", b"read", b"write"):
+        call = letters(faulty.before(2))
+        return [f"`{call}` takes a name as a text, in quotes: `{call}(\"{faulty.name}\"{', ..' if call == 'write' else ''})`."]
+    if faulty.before() == b"set" and (name in faulty.checker.stores or name in faulty.checker.tables):
+        return set_thing(faulty)
     if faulty.before() == b"set":
         places = faulty.checker.declared_at.get(name, [])
         own = [f"`set` changes a variable that there is; where `{faulty.name}` begins write `let {faulty.name} = ..;`."]
@@ -159,6 +164,14 @@ def why_unknown(faulty):
         return [f"`{faulty.name}` is a table, and no value: `transact {{ select .. from {faulty.name}; }}` reads its rows."]
     return [f"Write `let {faulty.name} = ..;` before it, in this block or one round it; or quotes, if the text \"{faulty.name}\" is meant; "
             f"or `param(\"{faulty.name}\")`, if a parameter of the request is."]
+
+
+def set_thing(faulty):
+    """A store or a table that is set as if it were a variable."""
+    if faulty.word in faulty.checker.stores:
+        return [f"`{faulty.name}` is a store, and no variable: `do put({faulty.name}, key, value);` sets a cell of it."]
+    return [f"`{faulty.name}` is a table, and no variable: its rows change in a transaction, `do transact {{ update {faulty.name} set c = 1 "
+            "where ..; };`."]
 
 
 def elsewhere(faulty, places):
@@ -212,6 +225,8 @@ def unknown_function(faulty):
         told.append(f"For this there is `{FORMS[other]}`.")
     elif other == "echo":
         told.append("To add a text to the answer write the statement `echo ..;`.")
+    if faulty.name in ("isset", "empty", "defined", "exists"):
+        told.append("Whether there is a value tells `x == null`, or `x != null`.")
     if faulty.name in ("header", "redirect", "cookie", "session"):
         told.append("A page sees and makes no headers and cookies: it makes a status and a body.")
     told.append(f"{all_of('Declared are', functions, 'The program declares no function')}; built in are {', '.join(FORMS.values())}.")

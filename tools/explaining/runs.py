@@ -331,7 +331,7 @@ def failed(outline, run):
     lines = [f"{text.at(node)}: fault {run.fault} ({FAULT_NAMES[run.fault]}) in {outline.owner(node)}", *text.marked(node, len(word))]
     why = why_failed(run, word)
     lines += wrapped(f"{why[0].upper()}{why[1:]}.")
-    lines += null_advice(run, text) + rows_advice(run, outline)
+    lines += null_advice(run, text) + kind_advice(run, word) + rows_advice(run, outline)
     lines += variables_of(run)
     for code, at, *_ in reversed(run.callers[-3:]):
         lines.append(f"called from {outline.in_line(code[at - 1][3])}")
@@ -351,9 +351,28 @@ def null_advice(run, text):
     return wrapped(f"null is what {gives} for {listed(causes, joint='or')}.") if causes else []
 
 
+def kind_advice(run, word):
+    """How a value of another kind is made one that is taken."""
+    kinds = {type(value) for value in run.taken}
+    if run.fault != 1:
+        return []
+    if word == b"+" and kinds == {bytes, int} or word == b"escape" and kinds == {int}:
+        return wrapped("Of a number `str(n)` makes a text.")
+    if word in OF_BOOLEANS and int in kinds:
+        return wrapped("A number is no condition: compare it, as `n != 0`.")
+    if word == b"for" and kinds == {int}:
+        return wrapped("To count write `let i = 0; while i < n { .. set i = i + 1; }`.")
+    if word == b"[" and len(run.taken) == 2 and isinstance(run.taken[1], bytes):
+        return wrapped("A member of a list is told by its place, from 0 on, and so is a column of a row: `row[0]` is the first.")
+    if word == b"transact" and any(isinstance(value, int) for value in run.taken):
+        return wrapped("The first column of a table is its key, and that is a text: of a number `str(n)` makes one.")
+    return []
+
+
 def rows_advice(run, outline):
-    """What the answer of a transaction looks like, where a place of a list isn't there and the body has a transaction."""
-    if run.fault != 4 or not isinstance(run.taken[0], List) or b"transact" not in outline.body(run.standing[0]):
+    """What the answer of a transaction looks like, where a list isn't as it was taken to be and the body has a transaction."""
+    is_list = bool(run.taken) and isinstance(run.taken[0], List) and run.fault in (1, 4)
+    if not is_list or b"transact" not in outline.body(run.standing[0]):
         return []
     return wrapped(
         "(A `transact` gives a list of answers, one for each of its table statements. That of a `select` is the list of its rows, "

@@ -170,8 +170,8 @@ def of_point(text, at):
     if field and name and field[0] in (b"length", b"size", b"count", b"len"):
         return f"Values have no fields and no methods: in place of `{letters(name[0] + b'.' + field[0])}` write `len({letters(name[0])})`."
     return (
-        "Values have no fields and no methods: write `len(x)` in place of `x.length`, `x[0]` for a place in a list, `append(l, v)` in "
-        "place of `l.push(v)`."
+        "Values have no fields and no methods: write `len(x)` in place of `x.length`, `x[0]` for a place in a list, `set l = append(l, "
+        "v);` in place of `l.push(v)`, a `for` in place of `map` and `join`, and the column alone in place of `t.column`."
     )
 
 

@@ -1,10 +1,11 @@
 """What to write in place of what can't stand in a program, for those who come from another language."""
 
 import difflib
+import re
 
 from layout import letters
 
-from rules import COMPARERS, KEYWORDS, content
+from rules import BUILT_INS, COMPARERS, KEYWORDS, content
 
 MOST_SHOWN = 40
 STATEMENT_WORDS = {b"let", b"set", b"if", b"while", b"for", b"echo", b"status", b"return", b"do"}
@@ -64,6 +65,37 @@ def instead(wrong, right):
     return f"In place of `{wrong}` write `{right}`."
 
 
+def is_declared(failed, sort, name):
+    """Whether a store or a table of this name is declared anywhere in the file."""
+    return re.search(rb"\b" + sort + rb"\s+" + re.escape(name) + rb"\b", failed.text.data) is not None
+
+
+def place_set(failed, name):
+    """What to write where a place of a list, or of what is taken for one, is set."""
+    plain_name = plain(name)
+    if is_declared(failed, b"store", name):
+        return f"`{plain_name}` is a store: write `do put({plain_name}, key, value);`, and read it by `get({plain_name}, key)`."
+    if is_declared(failed, b"table", name):
+        return f"`{plain_name}` is a table: its rows change in a transaction, `do transact {{ update {plain_name} set c = 1 where ..; }};`."
+    if name in BUILT_INS:
+        return f"`{plain_name}` is a built-in function, and no variable: take another name for a list."
+    return (
+        f"A list doesn't change: to set a place of it write a new list, as `set {plain_name} = [1] + slice({plain_name}, 1, "
+        f"len({plain_name}));` for its first."
+    )
+
+
+def method_call(failed, name):
+    """What to write in place of a method that is called on a value, where one is called."""
+    field = re.match(rb"\.(\w+)", failed.text.data[failed.at + len(name) :])
+    if not field:
+        return None
+    told = f"Values have no methods and no fields: functions take the value as an argument, as `len({plain(name)})`."
+    if field[1].lower() in (b"push", b"append", b"add", b"concat", b"unshift"):
+        return f"{told} In place of `{plain(name)}.{plain(field[1])}(v)` write `set {plain(name)} = append({plain(name)}, v);`."
+    return told
+
+
 def was_let(failed, name):
     """Whether a `let`, a `for` or a parameter of this name stands before."""
     for number in range(failed.here):
@@ -113,7 +145,7 @@ def of_file(failed):
             "This `}` closes nothing: it is one too many, or a block before it was closed too early. Look at the braces of the "
             "page or function before it."
         )
-    if word in STATEMENT_WORDS or word == b"{":
+    if word in STATEMENT_WORDS - {b"let", b"set"} or word == b"{":
         return (
             f"A statement stands in the block of a page or of a function: `page \"/a\" {{ {plain(word)} .. }}`. Where it stands "
             "in one, a `}` before it is too many."
@@ -126,6 +158,11 @@ def of_file(failed):
         return "A page answers all methods: `page \"/path\" { .. }`, and `method()` tells which one it was."
     if word in NO_SUCH:
         return NO_SUCH[word]
+    if word in LETS or word in (b"let", b"set"):
+        return (
+            "At the top of a file stand declarations alone, and no variables. A constant is a function, `function title() { return "
+            "\"..\"; }`; what outlives a request stands in a register, a store or a table."
+        )
     return (
         "At the top of a file stand declarations alone: `store NAME;`, `table NAME (COLUMN, ..);`, `function NAME (..) { .. }` "
         "and `page \"/path\" { .. }`."
@@ -180,7 +217,7 @@ def of_leading_name(failed, word):
     if word in FUNCTIONS:
         return "Functions stand at the top of the file, beside the pages: `function NAME (..) { .. }`."
     if after == b"=":
-        value = rest_of(failed, 2)
+        value = rest_of(failed, 2) or ".."
         if was_let(failed, word):
             return instead(f"{name} = {value};", f"set {name} = {value};") + " (`let` where a variable begins, `set` from then on.)"
         return instead(f"{name} = {value};", f"let {name} = {value};") + f" Where the variable is known already, it is `set {name} = ..;`."
@@ -189,16 +226,20 @@ def of_leading_name(failed, word):
     if after in (b"+", b"-") and behind == after:
         return instead(f"{name}{plain(after) * 2}", f"set {name} = {name} {plain(after)} 1;")
     if after == b"[":
-        return (
-            f"A list doesn't change: to set a place of it write a new list, as `set {name} = [1] + slice({name}, 1, "
-            f"len({name}));` for its first."
-        )
+        return place_set(failed, word)
+    method = None if word == b"console" else method_call(failed, word)
+    if method:
+        return method
     if word in PRINTS:
         return instead(name, "echo ..;") + " `echo` takes one expression; texts are joined by `+`."
+    if after == b"(" and word in (b"die", b"exit"):
+        return "A page ends by `return`: `echo ..; return null;`."
     if after == b"(":
+        is_known = word in BUILT_INS or is_declared(failed, b"function", word)
+        unknown = "" if is_known else f" But no function `{name}` is declared, and none is built in."
         return (
             instead(f"{rest_of(failed, 0)};", f"do {rest_of(failed, 0)};") + " (`do` evaluates a call and drops its value; with "
-            "`let x = ..;` it is kept.)"
+            f"`let x = ..;` it is kept.){unknown}"
         )
     return f"A statement begins with its keyword: `let {name} = ..;`, `set {name} = ..;`, `echo {name};` or `do {name}(..);`."
 
@@ -245,10 +286,7 @@ def after_name(failed, first, name):
     if word in (b"+", b"-") and behind == word:
         return instead(f"set {name}{plain(word) * 2};", f"set {name} = {name} {plain(word)} 1;")
     if word == b"[":
-        return (
-            f"A list doesn't change: to set a place of it write a new list, as `set {name} = [1] + slice({name}, 1, "
-            f"len({name}));` for its first."
-        )
+        return place_set(failed, failed.word(-1))
     if word == b"==":
         return f"`==` compares; `{plain(first)} {name} = ..;` takes one `=`."
     if failed.sort() == "name":
@@ -265,6 +303,8 @@ def of_block(failed):
         return "`=` gives a value; to compare two values write `==`."
     if word in COMPARERS:
         return second_comparer(failed)
+    if word == b"is":
+        return compared_by_is(failed)
     if word in NO_SUCH and (word != b"do" or failed.word(1) == b"{"):
         return NO_SUCH[word]
     if word in (b"true", b"false", b"null") or failed.sort() in ("number", "text"):
@@ -275,6 +315,13 @@ def of_block(failed):
         f"The block of `{plain(first)}` stands in braces, also a single statement: `{condition} "
         f"{{ {rest_of(failed, 0)}{';' if word != b';' else ''} }}`. (Round the condition no brackets are needed.)"
     )
+
+
+def compared_by_is(failed):
+    """Two values that are compared by a word."""
+    is_not, left = failed.word(1) == b"not", plain(failed.word(-1))
+    right = plain(failed.word(2 if is_not else 1)) or "null"
+    return f"Values are compared by signs: `{left} {'!=' if is_not else '=='} {right}`."
 
 
 def of_name(failed):
@@ -290,6 +337,8 @@ def of_name(failed):
         return f"A `for` has no brackets and walks over a list: `for x in list {{ .. }}`. {COUNTING}"
     part, which = failed.open_form("part")
     if failed.innermost()[0] == "part":
+        if word == b"(" and failed.word(-1) in (b"where", b"and"):
+            return "A test of a `where` begins with a column, without brackets: `where n > 1 and k == \"a\"`. There is no `or` in it."
         if word == b"*":
             return (
                 "A `select` names its columns, one by one: there is no `*`. How many rows passed is the length of its answer: "
@@ -327,14 +376,17 @@ def of_table_statement(failed):
         return told
     if which == b"insert" and failed.word(-1).lower() == b"into":
         return f"There is no `into`: write `insert {plain(word)} (..);`, with a value for each column."
-    if which == b"insert" and word.lower() == b"values":
-        return f"There is no `values`: write `insert {plain(before)} (..);`, with a value for each column in their order."
+    if which == b"insert" and (word.lower() == b"values" or word == b"(" and before == b")"):
+        return (
+            f"An `insert` doesn't name its columns, and there is no `values`: write `insert {plain(failed.raw(number + 1))} (..);`, with "
+            "a value for each column in their order."
+        )
     if word == b"=" and any(sign in failed.tried for sign in COMPARERS):
         return "A test of a `where` compares by `==`, not by `=`."
     if word == b"or":
         return (
-            "There is no `or` in a `where`: write two table statements, or put an expression with `or` in brackets to compare "
-            "with its value."
+            "There is no `or` in a `where`: its tests are joined by `and`, and each begins with a column, without brackets. Write a "
+            "table statement for each of the two, or select all rows and test them in a loop."
         )
     if word.lower() in (b"order", b"limit", b"group", b"join", b"having"):
         return (
@@ -474,11 +526,15 @@ def of_operator(failed):
     word, before = failed.word(), failed.word(-1)
     if word in COMPARERS:
         return second_comparer(failed)
+    if word == b"is":
+        return compared_by_is(failed)
     if word == b"=":
         return "`=` gives a value to one variable in a `let` or `set`; to compare two values write `==`."
     number, first = failed.open_form("statement")
     if word == b"," and first == b"let":
         return "A `let` makes one variable: write one `let` for each."
+    if word == b"," and first == b"status":
+        return "`status` takes one number, and no brackets: `status 404;`. A text for the answer is added by `echo`."
     if word == b"," and first == b"echo":
         return "`echo` takes one expression: join texts by `+`, with `str(n)` for a number, or write two `echo` statements."
     if word == b"(" and failed.sort(-1) != "name":

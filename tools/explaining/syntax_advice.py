@@ -158,6 +158,8 @@ def of_file(failed):
         return "A page answers all methods: `page \"/path\" { .. }`, and `method()` tells which one it was."
     if word in NO_SUCH:
         return NO_SUCH[word]
+    if word == b"<":
+        return "A program is no page of HTML with code in it: an answer is written by `echo \"<p>..</p>\";` in a page's block."
     if word in LETS or word in (b"let", b"set"):
         return (
             "At the top of a file stand declarations alone, and no variables. A constant is a function, `function title() { return "
@@ -227,11 +229,15 @@ def of_leading_name(failed, word):
         return instead(f"{name}{plain(after) * 2}", f"set {name} = {name} {plain(after)} 1;")
     if after == b"[":
         return place_set(failed, word)
-    method = None if word == b"console" else method_call(failed, word)
+    method = None if word in PRINTS else method_call(failed, word)
     if method:
         return method
     if word in PRINTS:
         return instead(name, "echo ..;") + " `echo` takes one expression; texts are joined by `+`."
+    if word in (b"await", b"async", b"yield", b"defer"):
+        return f"There is no `{name}`: take it away. Each call and each transaction is done before the next statement."
+    if failed.text.data[failed.at + len(word) :].lstrip().startswith(b":="):
+        return f"A variable begins by `let {name} = ..;`, and changes by `set {name} = ..;`."
     if after == b"(" and word in (b"die", b"exit"):
         return "A page ends by `return`: `echo ..; return null;`."
     if after == b"(":
@@ -366,10 +372,12 @@ def of_name(failed):
 
 def of_table_statement(failed):
     number, which = failed.open_form("part")
+    if b"insert" in failed.tried:
+        return of_no_part(failed)
     if failed.innermost()[0] != "part":
         if b"{" in failed.tried and failed.word(-1) == b"transact":
             return "A transaction is written `transact { insert ..; select ..; }`."
-        return of_no_part(failed)
+        return None
     word, before = failed.word(), failed.word(-1)
     told = of_parts_missing(failed, which, word, before)
     if told:
@@ -428,6 +436,8 @@ def of_no_part(failed):
         return "A transaction has at least one table statement."
     if failed.word() == b";":
         return "No `;` stands alone: take it away."
+    if failed.word().lower() in (b"replace", b"upsert", b"merge"):
+        return f"There is no `{plain(failed.word())}`: `delete` the row and `insert` it, in one transaction."
     return (
         "In a transaction stand table statements alone: `insert`, `select`, `update`, `delete` and `expect`. What else is to be "
         "done stands before it or behind it."
@@ -441,6 +451,8 @@ def of_declaration(failed):
     if number is None or failed.innermost() not in (("declaration", number), ("block", failed.here)):
         return None
     word = failed.word()
+    if first == b"page" and word == b"(":
+        return "A page has no parameters of its own: `param(\"name\")` gives one of the request, and null where it has none."
     if failed.here == number + 1:
         return f"Behind `{plain(first)}` stands its {'path' if first == b'page' else 'name'}."
     if first == b"store":
@@ -539,6 +551,8 @@ def of_operator(failed):
         return "`echo` takes one expression: join texts by `+`, with `str(n)` for a number, or write two `echo` statements."
     if word == b"(" and failed.sort(-1) != "name":
         return "Only a name is called: functions are no values."
+    if word in (b"if", b"unless") and first and not is_on_next_line(failed):
+        return f"No condition stands behind a statement: write `if .. {{ {plain(first)} ..; }}`."
     if b";" in failed.tried and (word == b"}" or word in STATEMENT_WORDS or word in (b"page", b"function", b"store", b"table")):
         return missing_semicolon(failed, "each of `let`, `set`, `echo`, `status`, `return` and `do` ends with one")
     if failed.sort(-1) == "number" and failed.sort() == "name" and failed.place(-1) + len(before) == failed.at:

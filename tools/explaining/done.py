@@ -154,7 +154,16 @@ def recorded(found, line):
     report, trace = found.command.label("report"), found.command.label("trace")
     lines = wrapped(f"{trace} and {report} are of one recording of the {counted(len(found.jobs), 'job')} of "
                     f"{found.command.label('requests')}.")
-    return lines + summary_of(found)
+    return lines + summary_of(found) + seats_advice(found)
+
+
+def seats_advice(found):
+    """Where runs failed, that one request may not see what another one is to change."""
+    is_failed = any(found.audit.members[number].fault for number in found.audit.requests)
+    if not is_failed or len(found.jobs) < 2 or "turns" in found.command.inputs:
+        return []
+    return wrapped("(Up to 16 jobs are open at once: one that comes behind another in the file may run before that one has changed "
+                   "anything. What is to be there from the start stands in the state; `--turns` says who runs when.)")
 
 
 def summary_of(found):

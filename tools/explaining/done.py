@@ -7,7 +7,7 @@ from record_text import text_of
 from replays import Watching, asked_line, object_name
 from runs import Outline, failed
 
-from recording import object_and_act
+from recording import SEATS, object_and_act
 
 MOST_ROWS = 12
 MOST_FAILED = 8
@@ -162,7 +162,7 @@ def seats_advice(found):
     is_failed = any(found.audit.members[number].fault for number in found.audit.requests)
     if not is_failed or len(found.jobs) < 2 or "turns" in found.command.inputs:
         return []
-    return wrapped("(Up to 16 jobs are open at once: one that comes behind another in the file may run before that one has changed "
+    return wrapped(f"(Up to {SEATS} jobs are open at once: one that comes behind another in the file may run before that one has changed "
                    "anything. What is to be there from the start stands in the state; `--turns` says who runs when.)")
 
 

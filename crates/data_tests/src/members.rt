@@ -22,8 +22,7 @@ fn tells(alloc: Global, numbers: &[i64], is_one: bool) -> Result<bool, AllocErro
             _ => return Ok(false),
         }
     }
-    let is_told_so = multi.one().is_some() == is_one && multi.is_all() == is_one;
-    Ok(is_told_so && multi.has_members(numbers.len()))
+    Ok(multi.one().is_some() == is_one && multi.is_for(numbers.len()))
 }
 
 /// Equal values are one, for any member; others are one for each.

@@ -20,9 +20,6 @@ each_first d [] i h lt = absurd (omega (arith, lt))
 each_first d (e ∷ es) zero h lt = sym (compare_exact d e (equal_from (compare d e) (and_parts (is_eq (compare d e)) (same d es) h).0))
 each_first d (e ∷ es) (suc i) h lt = each_first d es i (and_parts (is_eq (compare d e)) (same d es) h).1 (omega (arith, lt))
 
-pub first_is_each : (ds : List Datum) → same (get_or ds 0 null) ds ≡ true → (i : ℕ) → i < length ds → get_or ds 0 null ≡ get_or ds i null
-first_is_each ds h i lt = sym (each_first (get_or ds 0 null) ds i h lt)
-
 by_ways : (b : Bool) (ds : List Datum) (i : ℕ) → same (get_or ds 0 null) ds ≡ b → i < length ds
     → member_value (if b then all (get_or ds 0 null) else each ds) i ≡ get_or ds i null
 by_ways true ds i h lt = sym (each_first (get_or ds 0 null) ds i h lt)

@@ -25,11 +25,6 @@ abbrev pub IsCanonical : Many → Type 0
 IsCanonical (all d) = Unit {0}
 IsCanonical (each ds) = same (get_or ds 0 null) ds ≡ false
 
--- one value of all members
-abbrev pub is_all : Many → Bool
-is_all (all d) = true
-is_all (each ds) = false
-
 -- a member's value
 abbrev pub member_value : Many → ℕ → Datum
 member_value (all d) i = d
@@ -40,10 +35,10 @@ abbrev pub IsSplit : Many → Type 0
 IsSplit (all d) = ⊥
 IsSplit (each ds) = Unit {0}
 
--- it has values for n members at least
-abbrev pub HasMembers : Many → ℕ → Type 0
-HasMembers (all d) n = Unit {0}
-HasMembers (each ds) n = n ≤ length ds
+-- it has a value for this member
+abbrev pub HasMember : Many → ℕ → Type 0
+HasMember (all d) i = Unit {0}
+HasMember (each ds) i = i < length ds
 
 -- there is one for each, and none for this member
 abbrev pub LacksMember : Many → ℕ → Type 0
@@ -51,9 +46,9 @@ LacksMember (all d) i = ⊥
 LacksMember (each ds) i = length ds ≤ i
 
 -- it has values for n members, and for no more
-abbrev pub has_members : Many → ℕ → Bool
-has_members (all d) n = true
-has_members (each ds) n = length ds == n
+abbrev pub is_for : Many → ℕ → Bool
+is_for (all d) n = true
+is_for (each ds) n = length ds == n
 
 -- each member has its value of these
 abbrev pub HoldsAll : List Datum → Many → Type 0

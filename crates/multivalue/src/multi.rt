@@ -1,6 +1,6 @@
-ghost use Rattle.std.specs.Prelude.{◌≡◌, ◌+◌, IfOk, MatchOption};
-ghost use Rattle.multivalue.specs.Many.{all, many, same, member_value, is_all, has_members};
-ghost use Rattle.multivalue.specs.Many.{HasMembers, IsSplit, LacksMember};
+ghost use Rattle.std.specs.Prelude.{◌≡◌, IfOk, MatchOption};
+ghost use Rattle.multivalue.specs.Many.{all, many, same, member_value, is_for};
+ghost use Rattle.multivalue.specs.Many.{HasMember, IsSplit, LacksMember};
 
 use script_tree::value::{Value, Values};
 use std::alloc::AllocError;
@@ -14,7 +14,7 @@ enum Form {
 }
 
 /// The values of a group's members at one place, in their order. Where all are equal it is one value,
-/// and only else one for each, which takes a word and a value a member.
+/// and only else one for each, which takes memory for as many.
 #[derive(Drop)]
 pub struct Multi {
     form: Form,
@@ -63,19 +63,9 @@ impl Multi {
         Ok(Multi { form })
     }
 
-    /// Whether all members have one value.
-    pub fn is_all(&self) -> bool
-        ensures { result ≡ is_all self.now }
-    {
-        match &self.form {
-            Form::All(_) => true,
-            Form::Each(_) => false,
-        }
-    }
-
     /// Whether it has values for so many members, and for no more.
-    pub fn has_members(&self, members: usize) -> bool
-        ensures { result ≡ has_members self.now members }
+    pub fn is_for(&self, members: usize) -> bool
+        ensures { result ≡ is_for self.now members }
     {
         match &self.form {
             Form::All(_) => true,
@@ -96,7 +86,7 @@ impl Multi {
     /// A member's value; none where there is one for each and there is no such member.
     pub fn get(&self, member: usize) -> Option<&Value>
         ensures { MatchOption result (LacksMember self.now member)
-            (λ value. value.now ≡ member_value self.now member) }
+            (λ value. HasMember self.now member × (value.now ≡ member_value self.now member)) }
     {
         match &self.form {
             Form::All(value) => Some(value),
@@ -106,7 +96,7 @@ impl Multi {
 
     /// A member's value.
     pub fn at(&self, member: usize) -> &Value
-        requires { HasMembers self.now (member + 1) }
+        requires { HasMember self.now member }
         ensures { result.now ≡ member_value self.now member }
     {
         match &self.form {

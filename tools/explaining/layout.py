@@ -94,6 +94,11 @@ class Text:
     def line_of(self, at):
         return self.data.count(b"\n", 0, at) + 1
 
+    def indent(self, at):
+        """How many blanks and tabs the line of a place begins with."""
+        row = self.line(at)
+        return len(row) - len(row.lstrip(b" \t"))
+
     def at(self, at):
         """FILE:LINE:COLUMN, both from 1, the column in bytes."""
         return f"{self.name}:{self.line_of(at)}:{at - self.line_start(at) + 1}"

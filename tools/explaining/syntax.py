@@ -3,7 +3,7 @@
 import re
 
 from layout import Text, counted, cut, is_are, letters, listed, wrapped
-from syntax_advice import advice
+from syntax_advice import advice, lacking_brace
 
 from rules import COMPARERS, KEYWORDS, MOST, TOKEN, Fault, Parser, content
 
@@ -132,6 +132,19 @@ class Failed:
             elif kind == "word" and word in CLOSING and places:
                 places.pop()
         return places
+
+    def odd_brace(self):
+        """The first `}` at the front of a line that is indented otherwise than the line of its `{`, and that `{`."""
+        places = []
+        for kind, word, at in self.tokens[: self.here]:
+            if kind == "word" and word in CLOSING.values():
+                places.append(at)
+            elif kind == "word" and word in CLOSING and places:
+                opened = places.pop()
+                indent = self.text.indent(at)
+                if word == b"}" and at == self.text.line_start(at) + indent and indent != self.text.indent(opened):
+                    return at, opened
+        return None
 
 
 def explain(found, kind, at):
@@ -311,7 +324,7 @@ def ends_too_early(failed):
         lines += wrapped(f"Close {'it' if len(places) == 1 else 'each of them'}: a `}}` is missing, at the end or where an inner "
                          "block ends."
                          if failed.text.data[places[-1] : places[-1] + 1] == b"{" else "Close each of them.")
-    return lines
+    return lines + lacking_brace(failed)
 
 
 def words_of(words):

@@ -3,7 +3,7 @@
 import difflib
 import re
 
-from layout import letters
+from layout import letters, wrapped
 
 from rules import BUILT_INS, COMPARERS, KEYWORDS, content
 
@@ -141,15 +141,17 @@ def of_file(failed):
     if b"page" not in failed.tried or b"store" not in failed.tried:
         return None
     if word == b"}":
-        return (
+        told = (
             "This `}` closes nothing: it is one too many, or a block before it was closed too early. Look at the braces of the "
             "page or function before it."
         )
+        return [told, *early_brace(failed)]
     if word in STATEMENT_WORDS - {b"let", b"set"} or word == b"{":
-        return (
+        told = (
             f"A statement stands in the block of a page or of a function: `page \"/a\" {{ {plain(word)} .. }}`. Where it stands "
             "in one, a `}` before it is too many."
         )
+        return [told, *early_brace(failed)]
     if word == b";":
         return "No `;` stands behind the block of a page or of a function: take it away."
     if word in FUNCTIONS:
@@ -254,10 +256,29 @@ def of_inner_declaration(failed, word):
     opened = failed.open_brackets()
     where = failed.text.at(opened[-1]) if opened else ""
     row = failed.text.rest_of_line(failed.text.line_start(opened[-1])) if opened else ""
+    shown = [f"    {where} `{row}`", *lacking_brace(failed)]
     if failed.at == failed.text.line_start(failed.at):
-        return [f"A `}}` is missing before it: the block of {where} is still open.", [f"    {where} `{row}`"]]
+        return [f"A `}}` is missing before it: the block of {where} is still open.", shown]
     return [f"`{plain(word)}` stands at the top of the file, and not in a block. If it is at the top, a `}}` is missing before it: "
-            f"the block of {where} is still open.", [f"    {where} `{row}`"]]
+            f"the block of {where} is still open.", shown]
+
+
+def lacking_brace(failed):
+    """Lines that tell which block lacks its brace by the indentation, where that says so."""
+    brace, opened = failed.odd_brace() or (0, 0)
+    if failed.text.indent(brace) >= failed.text.indent(opened):
+        return []
+    row = failed.text.rest_of_line(failed.text.line_start(opened))
+    told = f"By the indentation the `}}` of {failed.text.at(brace)} belongs to a block around, and this one lacks its own:"
+    return [*wrapped(told), f"    {failed.text.at(opened)} `{row}`"]
+
+
+def early_brace(failed):
+    """A sentence that tells by which brace a block was closed too early by the indentation, where that says so."""
+    brace, opened = failed.odd_brace() or (0, 0)
+    if failed.text.indent(brace) <= failed.text.indent(opened):
+        return []
+    return [f"By the indentation the `}}` of {failed.text.at(brace)} is to close a block within, but that one was closed before it."]
 
 
 # ---- forms of statements

@@ -30,10 +30,10 @@ abbrev pub member_value : Many → ℕ → Datum
 member_value (all d) i = d
 member_value (each ds) i = get_or ds i null
 
--- there is one for each
+-- there is one for each, and they are not all equal
 abbrev pub IsSplit : Many → Type 0
 IsSplit (all d) = ⊥
-IsSplit (each ds) = Unit {0}
+IsSplit (each ds) = same (get_or ds 0 null) ds ≡ false
 
 -- it has a value for this member
 abbrev pub HasMember : Many → ℕ → Type 0

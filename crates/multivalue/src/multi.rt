@@ -73,7 +73,7 @@ impl Multi {
         }
     }
 
-    /// The one value of all members; none where it is one for each.
+    /// The one value of all members; none where theirs are not all equal.
     pub fn one(&self) -> Option<&Value>
         ensures { MatchOption result (IsSplit self.now) (λ value. self.now ≡ all value.now) }
     {

@@ -10,7 +10,7 @@ use Rattle.script_meaning.specs.Run.{Outcome, Progress, stops}
 use Rattle.script_meaning.specs.declared.run.Stop.TheVariants.{Fault as fault}
 use Rattle.script_code.specs.CodeRun.{Frame, exec, step}
 use Rattle.script_code.specs.declared.instruction.Instruction.{Instruction}
-use Rattle.script_code.specs.declared.instruction.Instruction.TheVariants.{Binary, Assign}
+use Rattle.script_code.specs.declared.instruction.Instruction.TheVariants.{Push, Load, Binary, Assign}
 use Rattle.script_tree.specs.declared.syntax.operator.BinaryOperator.{BinaryOperator}
 use Rattle.script_tree.specs.declared.fault.ScriptFault.TheVariants.{WrongKind}
 use Rattle.machine.specs.Does.{EndsAt, Comes, Stands}
@@ -51,8 +51,22 @@ module _ (q : Request) (functions : List ℕ) (code : List Instruction) (k : ℕ
       rw e (ap (λ o. step q functions o (exec q functions code k) fs pc stack slots p) here)
 
   -- an operator and the assignment of its value
-  pub both_next : (op : BinaryOperator) (slot : ℕ) → slice_get code pc ≡ Some (Binary op) → slice_get code (pc + 1) ≡ Some (Assign slot)
+  pub update_next : (op : BinaryOperator) (slot : ℕ) → slice_get code pc ≡ Some (Binary op) → slice_get code (pc + 1) ≡ Some (Assign slot)
       → exec q functions code (1 + suc k) fs pc stack slots p ≡ step q functions (Some (Binary op)) (step q functions (Some (Assign slot)) (exec q functions code k)) fs pc stack slots p
-  both_next op slot first second =
+  update_next op slot first second =
       let e : 1 + suc k ≡ suc (suc k) = omega arith in
       rw e (ap (λ o. step q functions o (exec q functions code (suc k)) fs pc stack slots p) first ∙ ap (λ o. step q functions (Some (Binary op)) (step q functions o (exec q functions code k)) fs pc stack slots p) second)
+
+  -- a literal and the operator whose right operand it is
+  pub push_next : (d : Datum) (op : BinaryOperator) → slice_get code pc ≡ Some (Push d) → slice_get code (pc + 1) ≡ Some (Binary op)
+      → exec q functions code (1 + suc k) fs pc stack slots p ≡ step q functions (Some (Push d)) (step q functions (Some (Binary op)) (exec q functions code k)) fs pc stack slots p
+  push_next d op first second =
+      let e : 1 + suc k ≡ suc (suc k) = omega arith in
+      rw e (ap (λ o. step q functions o (exec q functions code (suc k)) fs pc stack slots p) first ∙ ap (λ o. step q functions (Some (Push d)) (step q functions o (exec q functions code k)) fs pc stack slots p) second)
+
+  -- the same with the value of a slot
+  pub load_next : (slot : ℕ) (op : BinaryOperator) → slice_get code pc ≡ Some (Load slot) → slice_get code (pc + 1) ≡ Some (Binary op)
+      → exec q functions code (1 + suc k) fs pc stack slots p ≡ step q functions (Some (Load slot)) (step q functions (Some (Binary op)) (exec q functions code k)) fs pc stack slots p
+  load_next slot op first second =
+      let e : 1 + suc k ≡ suc (suc k) = omega arith in
+      rw e (ap (λ o. step q functions o (exec q functions code (suc k)) fs pc stack slots p) first ∙ ap (λ o. step q functions (Some (Load slot)) (step q functions o (exec q functions code k)) fs pc stack slots p) second)

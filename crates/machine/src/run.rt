@@ -1,4 +1,4 @@
-ghost use Rattle.std.specs.Prelude.{◌≡◌, ◌<◌, ◌+◌, ℕ, length, slice_get, Some, Ok, OnOk, IfSome};
+ghost use Rattle.std.specs.Prelude.{◌≡◌, ◌<◌, ◌+◌, ℕ, length, Ok, OnOk};
 ghost use Rattle.script_tree.specs.Requests.{Request as Asked};
 ghost use Rattle.script_code.specs.declared.instruction.Instruction.TheVariants as instruction;
 ghost use Rattle.machine.specs.Does.{Acts, ActsFor, Falls, Returns, Runs, StepsOn};
@@ -15,7 +15,6 @@ use script_code::translate::Code;
 use script_tree::fault::ScriptFault;
 use script_tree::limits::MOST_CALL_DEPTH;
 use script_tree::request::Request;
-use script_tree::syntax::operator::BinaryOperator;
 use script_tree::value::Value;
 use script_values::Operand;
 use std::mem;
@@ -287,7 +286,8 @@ impl<'c> Run<'c> {
         }
     }
 
-    /// Does the instruction that is next; with an operator the assignment that follows it too.
+    /// Does the instruction that is next. An operator and the assignment of its value are done at
+    /// once, and so are a right operand and its operator.
     #[inline(always)]
     fn step(&mut self, code: &'c Code, request: &Request) -> Result<Went, Stopped>
         ensures gives { StepsOn request.now code.now.functions.items code.now.instructions.items
@@ -298,12 +298,20 @@ impl<'c> Run<'c> {
         let place = self.place;
         match code.instructions.get(place) {
             None => Err(Stopped::Fault(ScriptFault::WrongKind)),
-            Some(instruction) => match update_at(code, place, instruction) {
-                Some((operator, slot)) => {
+            Some(instruction) => match (instruction, code.instructions.get(place + 1)) {
+                (Instruction::Binary(operator), Some(Instruction::Assign(slot))) => {
                     self.place = place + 2;
-                    self.state.update(operator, slot)
+                    self.state.update(*operator, *slot)
                 }
-                None => self.act(code, request, place, instruction),
+                (Instruction::Push(value), Some(Instruction::Binary(operator))) => {
+                    self.place = place + 2;
+                    self.state.push_and_binary(value, *operator)
+                }
+                (Instruction::Load(slot), Some(Instruction::Binary(operator))) => {
+                    self.place = place + 2;
+                    self.state.load_and_binary(*slot, *operator)
+                }
+                _ => self.act(code, request, place, instruction),
             },
         }
     }
@@ -320,21 +328,5 @@ impl<'c> Run<'c> {
                 Err(stopped) => return Err(stopped),
             }
         }
-    }
-}
-
-/// The operator of the instruction at a place, and the slot to which the next one assigns its value.
-#[inline(always)]
-fn update_at(code: &Code, place: usize, here: &Instruction) -> Option<(BinaryOperator, usize)>
-    requires { place < length code.now.instructions.items }
-    ensures { IfSome result (λ (operator, slot). (here.now ≡ instruction.Binary operator)
-        × (slice_get code.now.instructions.items (place + 1) ≡ Some (instruction.Assign slot))) }
-{
-    let Instruction::Binary(operator) = here else {
-        return None;
-    };
-    match code.instructions.get(place + 1) {
-        Some(Instruction::Assign(slot)) => Some((*operator, *slot)),
-        _ => None,
     }
 }

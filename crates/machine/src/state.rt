@@ -88,6 +88,48 @@ impl<'c> State<'c> {
         Ok(Went::On)
     }
 
+    /// Puts a literal on the stack, and does a binary operator: the literal is its right operand.
+    #[inline(always)]
+    pub(crate) fn push_and_binary(
+        &mut self,
+        value: &'c Value,
+        operator: BinaryOperator,
+    ) -> Result<Went, Stopped>
+        ensures does { DoesBoth (instruction.Push value.now) (instruction.Binary operator)
+            self.old result self.new }
+        ensures rises { Rises self.old result self.new }
+    {
+        self.account.charge()?;
+        let left = self.pop()?;
+        self.account.charge()?;
+        let value = script_values::binary(self.alloc, operator, left, Operand::lent(value))?;
+        self.stack.push(Operand::own(value))?;
+        Ok(Went::On)
+    }
+
+    /// The same with the value of a slot in place of a literal.
+    #[inline(always)]
+    pub(crate) fn load_and_binary(
+        &mut self,
+        slot: usize,
+        operator: BinaryOperator,
+    ) -> Result<Went, Stopped>
+        ensures does { DoesBoth (instruction.Load slot) (instruction.Binary operator)
+            self.old result self.new }
+        ensures rises { Rises self.old result self.new }
+    {
+        self.account.charge()?;
+        let left = self.pop()?;
+        self.account.charge()?;
+        let right = match self.slots.get(slot) {
+            Some(value) => Operand::lent(value),
+            None => Operand::own(Value::null()),
+        };
+        let value = script_values::binary(self.alloc, operator, left, right)?;
+        self.stack.push(Operand::own(value))?;
+        Ok(Went::On)
+    }
+
     /// Does a binary operator, and puts its value in this slot. What was there is let go before, so
     /// that a text or a list grows in its place.
     #[inline(never)]

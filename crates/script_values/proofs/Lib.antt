@@ -1,3 +1,4 @@
 mod Digits
 mod FirstThree
+mod PlainTexts
 mod Ranges

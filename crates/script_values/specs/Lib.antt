@@ -1,3 +1,4 @@
 pub mod CallsMade
 pub mod OperandView
+pub mod Plain
 pub mod Queries

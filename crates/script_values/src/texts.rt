@@ -3,6 +3,7 @@ ghost use Rattle.basis.specs.UnlessMemory.{Answers};
 ghost use Rattle.script_tree.specs.Datum.{text as texted};
 ghost use Rattle.script_meaning.specs.Operators.{plus, if_within_limits, printed, as_text, part_of};
 ghost use Rattle.script_meaning.specs.Operators.{escaped, escaped_byte, escaped_bytes, kind_of};
+ghost use Rattle.script_values.specs.Plain.{is_plain, are_plain};
 
 use crate::faults::{Faulted, if_within_limits};
 use crate::kinds::{text_in, wrong_kind};
@@ -96,12 +97,34 @@ pub fn as_text(alloc: Global, value: &Value) -> Result<Value, Faulted>
     if_within_limits(Value::shared_text(printed(alloc, value)?))
 }
 
-/// The text with what HTML reads as its own spelled out.
+/// The text with what HTML reads as its own spelled out. One in which there is nothing of it is the
+/// same text still, not a copy.
+#[tactic(auto, using(crate::proofs::PlainTexts::plain_text_stays))]
 pub fn escaped(alloc: Global, value: &Value) -> Result<Value, Faulted>
     ensures { Answers (λ v. v) (escaped value.now) result }
 {
-    let bytes = escaped_bytes(alloc, text_in(value)?.as_bytes())?;
-    text_of(alloc, bytes)
+    let text = text_in(value)?;
+    if are_plain(text.as_bytes()) {
+        if_within_limits(Value::shared_text(text.clone()?))
+    } else {
+        text_of(alloc, escaped_bytes(alloc, text.as_bytes())?)
+    }
+}
+
+fn are_plain(bytes: &[u8]) -> bool
+    ensures { result ≡ are_plain bytes.now }
+{
+    bytes.iter().all(|byte| is_plain(*byte))
+}
+
+/// Whether HTML reads this byte as itself.
+fn is_plain(byte: u8) -> bool
+    ensures { result ≡ is_plain byte }
+{
+    match byte {
+        b'&' | b'<' | b'>' | b'"' | b'\'' => false,
+        _ => true,
+    }
 }
 
 fn escaped_bytes(alloc: Global, bytes: &[u8]) -> Result<Vec<u8>, AllocError>

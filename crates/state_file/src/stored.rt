@@ -149,11 +149,27 @@ fn put_stores(
         (PutsStores stores.items objects.old objects.new)) }
 {
     while let Some((name, entries)) = stores.pop() {
-        if !put_cells(objects, &name, entries.into_vec())? {
+        if !put_store(objects, name, entries.into_vec())? {
             return Ok(false);
         }
     }
     Ok(true)
+}
+
+/// The same of one store, whose name is let go here.
+fn put_store(
+    objects: &mut ObjectSet,
+    store: Text,
+    entries: Vec<(Text, Value)>,
+) -> Result<bool, AllocError>
+    requires there { has_store objects.old.stores store ≡ true }
+    requires empty { (k : List ℕ) → held_in objects.old.stores store k ≡ None }
+    requires within { are_entries_within_limits entries.items ≡ true }
+    ensures done { IfOk result (λ done. done ≡ not (has_twice (keys_of entries.items))) }
+    ensures put { IfOk result (λ done. OnTrue done
+        (PutsCells store entries.items objects.old objects.new)) }
+{
+    put_cells(objects, &store, entries)
 }
 
 /// The same of one store's keys.

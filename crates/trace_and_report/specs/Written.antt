@@ -2,20 +2,21 @@
 use Rattle.std.specs.Prelude.{◌≡◌, ℕ, ◌≤◌, ◌<◌, List, ◌++◌, map, filter_map, length, Option, Some, None}
 use Rattle.script_tree.specs.declared.operation.Object.{Object}
 use Rattle.script_tree.specs.declared.path.Path.{Path}
-use Rattle.wire.specs.Files.{file_spelling, records_spelling}
+use Rattle.wire.specs.Files.{file_spelling, record_spelling, records_spelling}
 use Rattle.wire.specs.declared.limits.TheConstants.{MOST_FILE_BYTES}
 use Rattle.trace_format.specs.Events.{trace_format}
 use Rattle.report.specs.declared.LogEntry.{LogEntry}
+use Rattle.report_format.specs.Operations.{IsObject}
 use Rattle.report_format.specs.Parts.{AllAllowed}
 use Rattle.report_format.specs.Reports.{any_record_field, entry_field, records_of, report_format, IsSpellable}
-use Rattle.report_format.specs.Spelled.{log_with}
+use Rattle.report_format.specs.Spelled.{Spelled, log_with, spelled}
 use Rattle.report_format.specs.declared.format.ReportRecord.{ReportRecord}
 use Rattle.report_format.specs.declared.format.ReportRecord.TheVariants as it
 use Rattle.history.specs.Names.{Named}
 use Rattle.history.specs.ReportOf.{report_in}
 use Rattle.history.specs.TraceOf.{trace_in}
 use Rattle.trace_and_report.specs.Draft.{HasSpelling, arrival_in, count_at}
-use Rattle.trace_and_report.specs.Widths.{Each}
+use Rattle.trace_and_report.specs.Widths.{Each, IsWide}
 use Rattle.trace_and_report.specs.declared.recorded.Recorded.{Recorded}
 use Rattle.trace_and_report.specs.declared.recorded.TooLong.{TooLong}
 use Rattle.trace_and_report.specs.declared.recorded.TooLong.TheVariants as past
@@ -24,6 +25,12 @@ use Rattle.trace_and_report.specs.declared.recorded.TooLong.TheVariants as past
 pub record AreAdded (records : List ReportRecord) (old new : List ℕ) : Type 0 where
   pub behind : new ≡ old ++ records_spelling report_format records
   pub allowed : AllAllowed any_record_field records
+
+-- A log stands behind the bytes, and its object and its count are as wide as a report has them.
+pub record IsLogWritten (object : Object) (entries : Spelled) (old new : List ℕ) : Type 0 where
+  pub named : IsObject object
+  pub counted : IsWide entries.count
+  pub behind : (es : List LogEntry) → entries ≡ spelled es → new ≡ old ++ record_spelling report_format (it.Log (log_with object es))
 
 -- the records of the counts of these requests
 abbrev pub count_records : List (Option ℕ) → List ℕ → List ReportRecord

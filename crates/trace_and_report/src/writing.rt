@@ -6,14 +6,15 @@ ghost use Rattle.trace_and_report.specs.Draft.{spelled_log};
 ghost use Rattle.trace_and_report.specs.Grouped.{entries_in, groups_in, HaveMembers};
 ghost use Rattle.trace_and_report.specs.Widths.{Each};
 ghost use Rattle.trace_and_report.specs.Written.{AreAdded, count_records, group_record, log_record};
-ghost use Rattle.trace_and_report.specs.Written.{HasSpellings};
+ghost use Rattle.trace_and_report.specs.Written.{HasSpellings, IsLogWritten};
 
 use crate::counts::counted;
 use crate::grouped::Grouped;
 use crate::logs::Logs;
 use crate::widths::Wide;
 use report::{Count, Group};
-use report_format::appending::{add_count, add_group, add_log};
+use report_format::appending::{SpelledEntries, add_count, add_group, add_log};
+use script_tree::operation::Object;
 use script_tree::path::Path;
 use std::alloc::AllocError;
 
@@ -44,11 +45,18 @@ pub(crate) fn write_logs(out: &mut Vec<u8>, logs: Logs) -> Result<(), AllocError
         → OnOk result (AreAdded (map log_record gs) out.old.items out.new.items) }
 {
     for (object, entries) in logs {
-        object.keep_widths()?;
-        entries.len().keep_widths()?;
-        add_log(out, &object, &entries)?;
+        write_log(out, object, entries)?;
     }
     Ok(())
+}
+
+/// Writes a log, and drops it then.
+fn write_log(out: &mut Vec<u8>, object: Object, entries: SpelledEntries) -> Result<(), AllocError>
+    ensures { OnOk result (IsLogWritten object entries out.old.items out.new.items) }
+{
+    object.keep_widths()?;
+    entries.len().keep_widths()?;
+    add_log(out, &object, &entries)
 }
 
 /// Writes the groups of requests that took one path.

@@ -54,11 +54,18 @@ fn jobs_left(alloc: Global, reader: &mut Reader<'_>) -> Result<Option<Requests>,
             return Ok(None);
         }
         match next_job(alloc, reader)? {
-            Some(request) => requests.push(PackedRequest::pack(alloc, &request)?)?,
+            Some(request) => requests.push(packed(alloc, request)?)?,
             None => return Ok(None),
         }
     }
     Ok(Some(Items::from_vec(requests)))
+}
+
+/// The request in one piece of memory; the one with many is let go.
+fn packed(alloc: Global, request: Request) -> Result<PackedRequest, AllocError>
+    ensures { IfOk result (λ packed. packed ≡ request) }
+{
+    PackedRequest::pack(alloc, &request)
 }
 
 /// The request of the job that comes next.

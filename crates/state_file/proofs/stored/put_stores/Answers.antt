@@ -26,8 +26,8 @@ loop-name-init c = (
   c.requires.there,
 )
 
-pub put_cells-requires-clause-empty : goal.put_cells-requires-clause-empty
-put_cells-requires-clause-empty c =
+pub put_store-requires-clause-empty : goal.put_store-requires-clause-empty
+put_store-requires-clause-empty c =
     let i = c.loop-name.invariant in
     let last = i.0 in
     let name = c.in-Some.name in
@@ -45,8 +45,8 @@ returns-then-not-branch-clause-done c =
     let entries = c.in-Some.entries in
     let front = c.pop.new.self.items in
     let all : c.args.stores.items ≡ front ++ (name, entries) ∷ last = i.1 ∙ ap (λ (ss : List (Named (List Entry))). ss ++ last) c.in-Some.ensures.items ∙ append_assoc front ((name, entries) ∷ []) last in
-    let twice = c.in_ok-put_cells.ensures.done ∙ ap (λ es. not (has_twice (keys_of es))) c.into_vec.ensures in
-    sym (ap (λ ss. not (some_key_is_twice ss)) all ∙ ap not (twice_key front name entries last c.in_ok-put_cells.field-0 twice c.if-not-branch.true))
+    let twice = c.in_ok-put_store.ensures.done ∙ ap (λ es. not (has_twice (keys_of es))) c.into_vec.ensures in
+    sym (ap (λ ss. not (some_key_is_twice ss)) all ∙ ap not (twice_key front name entries last c.in_ok-put_store.field-0 twice c.if-not-branch.true))
 
 pub loop-name-preserved : goal.loop-name-preserved
 loop-name-preserved c =
@@ -56,13 +56,13 @@ loop-name-preserved c =
     let entries = c.in-Some.entries in
     let front = c.pop.new.self.items in
     let old = c.loop-name.objects in
-    let new = c.put_cells.new.objects in
+    let new = c.put_store.new.objects in
     let all : c.args.stores.items ≡ front ++ (name, entries) ∷ last = i.1 ∙ ap (λ (ss : List (Named (List Entry))). ss ++ last) c.in-Some.ensures.items ∙ append_assoc front ((name, entries) ∷ []) last in
-    let twice = c.in_ok-put_cells.ensures.done ∙ ap (λ es. not (has_twice (keys_of es))) c.into_vec.ensures in
-    let put : PutsCells name entries old new = subst (λ es. PutsCells name es old new) c.into_vec.ensures (subst (λ done. OnTrue done (PutsCells name c.into_vec.result.items old new)) c.if-not-branch.false c.in_ok-put_cells.ensures.put) in (
+    let twice = c.in_ok-put_store.ensures.done ∙ ap (λ es. not (has_twice (keys_of es))) c.into_vec.ensures in
+    let put : PutsCells name entries old new = subst (λ es. PutsCells name es old new) c.into_vec.ensures (subst (λ done. OnTrue done (PutsCells name c.into_vec.result.items old new)) c.if-not-branch.false c.in_ok-put_store.ensures.put) in (
       (name, entries) ∷ last,
       all,
-      no_twice_key name entries last c.in_ok-put_cells.field-0 twice c.if-not-branch.false i.2,
+      no_twice_key name entries last c.in_ok-put_store.field-0 twice c.if-not-branch.false i.2,
       record {
         cells = one_more name entries last old.stores new.stores i.3.cells put.cells;
         others = record {

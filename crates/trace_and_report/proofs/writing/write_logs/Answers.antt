@@ -1,6 +1,5 @@
 use Rattle.std.proofs.Common.{subst}
 use Rattle.trace_and_report.specs.Grouped.{entries_in}
-use Rattle.trace_and_report.specs.Widths.{IsWide}
 use Rattle.trace_and_report.proofs.Groups.{kept_are}
 use Rattle.trace_and_report.proofs.Writings.{AreUnderWay, begin, goes_on, ends}
 use Rattle.trace_and_report.proofs.writing.write_logs.Goals as goal
@@ -13,20 +12,8 @@ loop-object-init c = λ gs are may.
 pub loop-object-preserved : goal.loop-object-preserved
 loop-object-preserved c = λ gs are may.
     let under = subst (λ left. AreUnderWay gs left c.args.out.now.items c.loop-object.out.items) c.in-Some.ensures.steps (c.loop-object.invariant gs are may) in
-    goes_on gs c.in-Some.object c.in-Some.entries c.next.new.self c.args.out.now.items c.loop-object.out.items c.add_log.new.out.items under
-    c.in_ok-keep_widths.ensures (subst IsWide c.len.ensures c.in_ok-keep_widths-2.ensures) (λ es is. c.in_ok-add_log.ensures es is)
-
-pub loop-object-preserved-in_ok-add_log : goal.loop-object-preserved-in_ok-add_log
-loop-object-preserved-in_ok-add_log c = λ gs are may.
-    let under = subst (λ left. AreUnderWay gs left c.args.out.now.items c.loop-object.out.items) c.in-Some.ensures.steps (c.loop-object.invariant gs are may) in
-    goes_on gs c.in-Some.object c.in-Some.entries c.next.new.self c.args.out.now.items c.loop-object.out.items c.add_log.new.out.items under
-    c.in_ok-keep_widths.ensures (subst IsWide c.len.ensures c.in_ok-keep_widths-2.ensures) (λ es is. c.in_ok-add_log.ensures es is)
-
-pub loop-object-preserved-in_ok-add_log-2 : goal.loop-object-preserved-in_ok-add_log-2
-loop-object-preserved-in_ok-add_log-2 c = λ gs are may.
-    let under = subst (λ left. AreUnderWay gs left c.args.out.now.items c.loop-object.out.items) c.in-Some.ensures.steps (c.loop-object.invariant gs are may) in
-    goes_on gs c.in-Some.object c.in-Some.entries c.next.new.self c.args.out.now.items c.loop-object.out.items c.add_log.new.out.items under
-    c.in_ok-keep_widths.ensures (subst IsWide c.len.ensures c.in_ok-keep_widths-2.ensures) (λ es is. c.in_ok-add_log.ensures es is)
+    let log = c.in_ok-write_log.ensures in
+    goes_on gs c.in-Some.object c.in-Some.entries c.next.new.self c.args.out.now.items c.loop-object.out.items c.write_log.new.out.items under log.named log.counted log.behind
 
 pub returns : goal.returns
 returns c = λ gs are may.

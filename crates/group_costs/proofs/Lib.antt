@@ -1,0 +1,3 @@
+mod Blind
+pub mod Same
+mod Shared

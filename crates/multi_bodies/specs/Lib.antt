@@ -1,0 +1,2 @@
+pub mod BodiesOf
+pub mod Printing

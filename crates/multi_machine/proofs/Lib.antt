@@ -1,0 +1,2 @@
+mod Lockstep
+mod Together

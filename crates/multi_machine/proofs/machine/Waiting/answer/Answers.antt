@@ -1,0 +1,26 @@
+use Rattle.std.proofs.Common.{true, false, length, Ok, IfOk, sym, ap, subst, ◌∙◌}
+use Rattle.multi_run.specs.Answering.{AllAnswered}
+use Rattle.multi_machine.specs.Together.{StandsAfter, AllEnd, IsStep}
+use Rattle.multi_machine.proofs.Together.{stands_answered, refused_ends}
+use Rattle.multi_machine.proofs.machine.Waiting.answer.Goals as goal
+
+pub returns-in-Ok-true : goal.returns-in-Ok-true
+returns-in-Ok-true g c program qs told told' a same =
+    let w = c.args.self in
+    let m = c.args.answers in
+    let new = c.answer.new.self in
+    let spent = c.args.evaluations.now in
+    let members = ap length (c.requests.ensures.requests ∙ a.requests) in
+    let answered = subst (λ n. AllAnswered n m w.run (Ok true) new) members (subst (λ b. AllAnswered (length c.requests.result.now) m w.run (Ok b) new) c.in-Ok-true.field-0-test c.in-Ok-true.ensures.answered) in
+    let stands = subst (λ q. StandsAfter program q w.code.now told' new spent) (sym a.requests) (stands_answered program qs told told' spent w m new a same answered) in
+    subst (λ q. IfOk c.go_on.result (IsStep program q told' c.go_on.new.evaluations)) a.requests (c.go_on.ensures program told' stands)
+
+pub returns-in-Ok-false : goal.returns-in-Ok-false
+returns-in-Ok-false g c program qs told told' a same =
+    let w = c.args.self in
+    let m = c.args.answers in
+    let new = c.answer.new.self in
+    let spent = c.args.evaluations.now in
+    let members = ap length (c.requests.ensures.requests ∙ a.requests) in
+    let answered = subst (λ n. AllAnswered n m w.run (Ok false) new) members (subst (λ b. AllAnswered (length c.requests.result.now) m w.run (Ok b) new) c.in-Ok-false.field-0-test c.in-Ok-false.ensures.answered) in
+    subst (AllEnd program qs told' spent) (sym c.at_fault-ended.ensures) (refused_ends program qs told told' spent w m new a same answered)

@@ -1,0 +1,3 @@
+pub mod Lockstep
+pub mod Responses
+pub mod Together

@@ -1,0 +1,5 @@
+pub mod Agreed
+pub mod Below
+pub mod Gathered
+pub mod Parameters
+pub mod Prices

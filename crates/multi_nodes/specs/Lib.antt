@@ -1,0 +1,3 @@
+pub mod Answers
+pub mod Charges
+pub mod Members

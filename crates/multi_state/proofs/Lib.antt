@@ -1,0 +1,8 @@
+pub mod Following
+mod Laws
+pub mod Marks
+mod NodesDo
+pub mod Parts
+pub mod Stacks
+mod Statuses
+pub mod Totals

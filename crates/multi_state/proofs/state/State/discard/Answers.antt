@@ -1,0 +1,29 @@
+use Rattle.std.proofs.Common.{[], ◌∷◌, refl, sym}
+use Rattle.script_code.specs.declared.instruction.Instruction.TheVariants as instruction
+use Rattle.script_nodes.specs.declared.primitive.Primitive.TheVariants as node
+use Rattle.multi_nodes.specs.Members.{members_at}
+use Rattle.multi_state.specs.Does.{onward}
+use Rattle.multi_state.specs.Stacks.{stack_at}
+use Rattle.multi_state.proofs.Following.{value_does, value_halts}
+use Rattle.multi_state.proofs.Laws.{discard_is}
+use Rattle.multi_state.proofs.state.State.discard.Goals as goal
+
+pub returns-in-Ok-clause-does : goal.returns-in-Ok-clause-does
+returns-in-Ok-clause-does g c =
+    let qs = c.args.group.now in
+    let old = c.args.self.now in
+    let m = c.in_ok-operand.operand in
+    let mid = record old { stack = c.pop.new.self } in
+    let then' = c.value.new.self in
+    let new = then' in
+    let x = c.in-Ok._values in
+    value_does c.args.evaluations.now c.value.new.evaluations qs instruction.Discard node.Pass (m ∷ []) old new (λ a i d. onward a (stack_at i mid.stack) (members_at i mid.slots.items)) (λ a i r. discard_is qs old mid refl m c.in_ok-operand.ensures a i r) x then'.account refl
+    (λ a i. λ z. onward a (stack_at i (sym c.in-Ok.ensures.stack z)) (members_at i (sym c.in-Ok.ensures.slots z).items)) c.in-Ok.ensures.does
+
+pub returns-clause-does : goal.returns-clause-does
+returns-clause-does g c =
+    let qs = c.args.group.now in
+    let old = c.args.self.now in
+    let m = c.in_ok-operand.operand in
+    let mid = record old { stack = c.pop.new.self } in
+    value_halts c.args.evaluations.now c.value.new.evaluations qs instruction.Discard node.Pass (m ∷ []) old c.value.new.self (λ a i d. onward a (stack_at i mid.stack) (members_at i mid.slots.items)) (λ a i r. discard_is qs old mid refl m c.in_ok-operand.ensures a i r) c.in-Err.apart c.in-Err.ensures.does

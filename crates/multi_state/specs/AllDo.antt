@@ -1,0 +1,75 @@
+-- A part of a run that each member of a group does.
+use Rattle.std.specs.Prelude.{◌≡◌, ◌<◌, ◌+◌, ℕ, Bool, List, length, get_or, Result, Ok, Err}
+use Rattle.script_tree.specs.Datum.{Datum}
+use Rattle.script_tree.specs.Requests.{Request}
+use Rattle.script_meaning.specs.Run.{Progress, Outcome, stops, Run, give, take_answer, ◌>>=◌}
+use Rattle.script_meaning.specs.declared.run.Stop.TheVariants.{Fault as fault}
+use Rattle.script_nodes.specs.Evaluated.{node_run}
+use Rattle.script_nodes.specs.NodeLaws.{noted}
+use Rattle.script_nodes.specs.declared.primitive.Primitive.{Primitive}
+use Rattle.multivalue.specs.Many.{Many, member_value}
+use Rattle.multivalue.specs.declared.apart.Apart.{Apart}
+use Rattle.multivalue.specs.declared.apart.Apart.TheVariants.{Memory, Fault, Differ}
+use Rattle.multi_nodes.specs.Answers.{nothing}
+use Rattle.multi_nodes.specs.Charges.{cost_at}
+use Rattle.multi_nodes.specs.Members.{answer_at}
+use Rattle.multi_state.specs.Progress.{Charges, total, Unseen, progress_at}
+use Rattle.multi_state.specs.declared.account.Account.{Account}
+use Rattle.multi_state.specs.declared.given.Given.{Given}
+use Rattle.multi_state.specs.declared.given.Given.TheVariants.{Values, Wants}
+
+-- ---- one member
+
+-- Its outcome is this with what was returned, or it stops at the fault. Where there was no memory, and where members
+-- differ, nothing is said.
+abbrev pub Gives : {X A : Type 0} → (seen : X → Run A) → Result X Apart → Progress → Outcome A → Type 0
+Gives seen (Ok x) p o = o ≡ seen x p
+Gives seen (Err Memory) p o = Unit {0}
+Gives seen (Err (Fault f)) p o = o ≡ stops (fault f) p
+Gives seen (Err Differ) p o = Unit {0}
+
+-- ---- all members
+
+-- From these charges the group comes to others, by which the count of nodes rises, and this holds of each of n members.
+abbrev pub Comes : (n before after' : ℕ) → (Charges → Charges → ℕ → Unseen → Type 0) → Type 0
+Comes n before after' P = (cs : Charges) → (ds : Charges) × (after' + total n cs ≡ before + total n ds) × ((i : ℕ) → i < n → (u : Unseen) → P cs ds i u)
+
+-- The same, unless there was no memory, or members differ.
+abbrev pub AllDo : {X : Type 0} → (n before after' : ℕ) → Result X Apart → (Charges → Charges → ℕ → Unseen → Type 0) → Type 0
+AllDo n before after' (Ok x) P = Comes n before after' P
+AllDo n before after' (Err Memory) P = Unit {0}
+AllDo n before after' (Err (Fault f)) P = Comes n before after' P
+AllDo n before after' (Err Differ) P = Unit {0}
+
+-- This holds of each of n members, whose charges stay as they are, unless there was no memory, or members differ.
+abbrev pub AllGo : {X : Type 0} → (n : ℕ) → Result X Apart → (Charges → ℕ → Unseen → Type 0) → Type 0
+AllGo n (Ok x) P = (cs : Charges) (i : ℕ) → i < n → (u : Unseen) → P cs i u
+AllGo n (Err Memory) P = Unit {0}
+AllGo n (Err (Fault f)) P = (cs : Charges) (i : ℕ) → i < n → (u : Unseen) → P cs i u
+AllGo n (Err Differ) P = Unit {0}
+
+-- ---- nodes
+
+-- a member's node
+abbrev pub node_at : List Request → Primitive → List Many → ℕ → Run Datum
+node_at qs p ms i = node_run (cost_at qs p ms i) (answer_at qs p ms i)
+
+-- a member has its value, or takes the answer to its operation
+abbrev pub given_at : ℕ → Given → Run Datum
+given_at i (Values m) = give (member_value m i)
+given_at i (Wants ops) = take_answer (get_or ops i nothing)
+
+-- Each member does a node, and this is what it comes to.
+abbrev pub NodesDo : (before after' : ℕ) → List Request → Primitive → List Many → Account → Result Given Apart → Account → Type 0
+NodesDo before after' qs p ms old result new =
+    AllDo (length qs) before after' result (λ cs ds i u. Gives (given_at i) result (progress_at new ds i u) (node_at qs p ms i (progress_at old cs i u)))
+
+-- Each member does a node that is no operation, and has this value.
+abbrev pub ValuesDo : (before after' : ℕ) → List Request → Primitive → List Many → Account → Result Many Apart → Account → Type 0
+ValuesDo before after' qs p ms old result new =
+    AllDo (length qs) before after' result (λ cs ds i u. Gives (λ m. give (member_value m i)) result (progress_at new ds i u) (node_at qs p ms i (progress_at old cs i u)))
+
+-- Each member decides by the value of a node, and all decide so.
+abbrev pub AllDecide : (before after' : ℕ) → List Request → Primitive → List Many → Account → Result Bool Apart → Account → Type 0
+AllDecide before after' qs p ms old result new =
+    AllDo (length qs) before after' result (λ cs ds i u. Gives give result (progress_at new ds i u) ((node_at qs p ms i >>= noted) (progress_at old cs i u)))

@@ -1,0 +1,6 @@
+pub mod AllDo
+pub mod Does
+pub mod Progress
+pub mod Spending
+pub mod Stacks
+pub mod Totals

@@ -1,10 +1,9 @@
 -- The verdict by what each check finds, and what it means.
-use Rattle.std.proofs.Common.{◌≡◌, ◌∙◌, ℕ, List, Option, Some, None, Ok, Err, refl, sym, ap, subst}
+use Rattle.std.proofs.Common.{◌≡◌, ◌∙◌, List, Option, Some, None, Ok, Err, refl, sym, ap, subst}
 use Rattle.basis.specs.Lists.{or_else}
 use Rattle.script_tree.specs.Objects.{Objects}
 use Rattle.script_tree.specs.Programs.{Program}
 use Rattle.script_tree.specs.Traces.{IsBalanced}
-use Rattle.script_tree.specs.declared.schedule.Moment.{Moment}
 use Rattle.script_tree.specs.declared.trace.TraceEvent.{TraceEvent}
 use Rattle.report.specs.declared.Report.{Report}
 use Rattle.audit_completeness.specs.Completeness.{IsAccepted}
@@ -23,7 +22,7 @@ use Rattle.audit_meaning.specs.declared.verdict.Verdict.TheVariants.{Accepted, R
 use Rattle.audit_order.specs.Mirrors.{IsOrdered}
 use Rattle.audit_order.specs.declared.ordering.Ordered.{Ordered}
 use Rattle.audit_order.specs.declared.ordering.Ordered.TheVariants.{Order}
-use Rattle.auditor.specs.Audited.{ReadReport, audited, plainly, IsSound}
+use Rattle.auditor.specs.Audited.{ReadReport, audited, IsSound}
 
 -- ---- the verdict
 
@@ -76,21 +75,8 @@ module _ (program : Program) (start : Objects) (trace : List TraceEvent) (report
 
 -- ---- what it means
 
-abbrev IsAcceptedSo : Verdict → List Moment → Type 0
-IsAcceptedSo v schedule = (evaluated : ℕ) × (steps : ℕ) × (v ≡ Accepted schedule evaluated steps)
-
-plainly_so : (v : Verdict) (schedule : List Moment) (evaluated steps : ℕ) → plainly v ≡ Accepted schedule evaluated steps → IsAcceptedSo v schedule
-plainly_so (Accepted schedule e s) other evaluated steps is = (e, s, ap (λ x. Accepted x e s) (ap schedule_in is))
-  where
-    schedule_in : Verdict → List Moment
-    schedule_in (Accepted x a b) = x
-    schedule_in (Rejected r) = schedule
-plainly_so (Rejected reason) other evaluated steps is = absurd (subst IsAccepted (sym is) tt)
-
 pub sound : AcceptedExplains → (program : Program) (start : Objects) (trace : List TraceEvent) (report : ReadReport) (v : Verdict)
-    → IsBalanced trace → v ≡ plainly (audited program start trace report) → IsSound program start trace v
+    → IsBalanced trace → v ≡ audited program start trace report → IsSound program start trace v
 sound law program start trace report (Rejected reason) balanced is = tt
 sound law program start trace (Err at) (Accepted schedule evaluated steps) balanced is = absurd (subst IsAccepted is tt)
-sound law program start trace (Ok report) (Accepted schedule evaluated steps) balanced is =
-    let so = plainly_so (verdict program start trace report) schedule evaluated steps (sym is) in
-    law program start trace report schedule so.0 so.1 balanced so.2
+sound law program start trace (Ok report) (Accepted schedule evaluated steps) balanced is = law program start trace report schedule evaluated steps balanced (sym is)

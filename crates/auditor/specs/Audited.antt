@@ -12,10 +12,11 @@ use Rattle.history.specs.Rooms.{IsLegal, IsClosed}
 use Rattle.history.specs.TraceOf.{trace_of}
 use Rattle.history.specs.declared.happening.Happening.{Happening}
 use Rattle.audit_completeness.specs.Completeness.{IsAccepted}
-use Rattle.audit_meaning.specs.Verdicts.{verdict}
+use Rattle.audit_meaning.specs.Verdicts.{evaluated_nodes, plain_steps, verdict}
 use Rattle.audit_meaning.specs.declared.reason.Reason.TheVariants.{Unreadable}
 use Rattle.audit_meaning.specs.declared.verdict.Verdict.{Verdict}
 use Rattle.audit_meaning.specs.declared.verdict.Verdict.TheVariants.{Accepted, Rejected}
+use Rattle.group_lockstep.specs.declared.spent.Spent.{Spent}
 
 -- a report as it was read: its data, or where its first bad record stands
 abbrev pub ReadReport : Type 0
@@ -29,10 +30,10 @@ abbrev pub audited : Program → Objects → List TraceEvent → ReadReport → 
 audited program start trace (Ok report) = verdict program start trace report
 audited program start trace (Err at) = Rejected (Unreadable at)
 
--- The same where members run one by one: as many nodes are evaluated as steps are spent.
-abbrev pub plainly : Verdict → Verdict
-plainly (Accepted schedule evaluated steps) = Accepted schedule steps steps
-plainly (Rejected reason) = Rejected reason
+-- It is what all members spend: so many nodes are evaluated, and so many steps are made.
+pub record IsSpent (program : Program) (start : Objects) (trace : List TraceEvent) (report : Report) (spent : Spent) : Type 0 where
+  pub evaluated' : spent.evaluated ≡ evaluated_nodes program start trace report
+  pub plain' : spent.plain ≡ plain_steps program start trace report
 
 -- Where it accepts, its schedule explains the trace.
 abbrev pub IsSound : Program → Objects → List TraceEvent → Verdict → Type 0

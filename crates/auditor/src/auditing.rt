@@ -3,7 +3,7 @@ ghost use Rattle.script_tree.specs.Traces.{IsBalanced};
 ghost use Rattle.report_format.specs.Limits.{HasValuesWithinLimits};
 ghost use Rattle.object_set.specs.ObjectSets.{IsSetOf, objects_of};
 ghost use Rattle.audit_meaning.specs.Verdicts.{verdict as verdict_on};
-ghost use Rattle.auditor.specs.Audited.{read_report, audited, plainly, IsSound, Accepts};
+ghost use Rattle.auditor.specs.Audited.{read_report, audited, IsSound, Accepts};
 
 use crate::judging::judge;
 use audit_completeness::law::recorded_is_accepted;
@@ -38,7 +38,7 @@ pub fn audit<G: Gate + Sync>(
     requires limits { IfOk report (λ report. HasValuesWithinLimits report.now) }
     ensures verdict { let report = read_report report.entry in
         IfOk result (λ verdict. verdict
-        ≡ plainly (audited program.now (objects_of start.now) trace.now report)) }
+        ≡ audited program.now (objects_of start.now) trace.now report) }
     ensures sound { IfOk result (IsSound program.now (objects_of start.now) trace.now) }
     ensures complete { let report = read_report report.entry in
         IfOk result (Accepts program.now (objects_of start.now) trace.now report) }
@@ -65,7 +65,7 @@ fn audit_report<G: Gate + Sync>(
     requires set { IsSetOf program.now start.now }
     requires limits { HasValuesWithinLimits report.now }
     ensures { let here = verdict_on program.now (objects_of start.now) trace.now report.now in
-        IfOk result (λ verdict. verdict ≡ plainly here) }
+        IfOk result (λ verdict. verdict ≡ here) }
 {
     let trace = IndexedTrace::new(alloc, trace)?;
     match judge(alloc, program, start, &trace, report, gate) {

@@ -5,16 +5,17 @@ ghost use Rattle.report_format.specs.Limits.{HasValuesWithinLimits};
 ghost use Rattle.object_set.specs.ObjectSets.{IsSetOf, objects_of};
 ghost use Rattle.versioned_store.specs.Logged.{FitLogs};
 ghost use Rattle.audit_meaning.specs.Groups.{unsound_group};
-ghost use Rattle.audit_meaning.specs.Verdicts.{verdict as verdict_on, plain_steps};
+ghost use Rattle.audit_meaning.specs.Verdicts.{verdict as verdict_on};
 ghost use Rattle.log_checker.specs.Faults.{Gives};
 ghost use Rattle.log_checker.specs.OpMaps.{IsMapOf};
-ghost use Rattle.auditor.specs.Audited.{plainly};
+ghost use Rattle.auditor.specs.Audited.{IsSpent};
 
 use audit_meaning::reason::Reason;
 use audit_meaning::verdict::Verdict;
 use audit_order::{Ordered, order_events, schedule_of};
 use basis::OrMemory;
-use group_runner::{Evidence, run_groups};
+use group_lockstep::{Spent, run_groups};
+use group_runner::Evidence;
 use log_checker::{OpMap, check_groups, check_logs};
 use object_set::ObjectSet;
 use outside::gate::Gate;
@@ -38,7 +39,7 @@ pub(crate) fn judge<G: Gate + Sync>(
     requires set { IsSetOf program.now start.now }
     requires limits { HasValuesWithinLimits report.now }
     ensures { let here = verdict_on program.now (objects_of start.now) trace.now report.now in
-        UnlessMemory (λ verdict. verdict ≡ plainly here)
+        UnlessMemory (λ verdict. verdict ≡ here)
         (λ reason. here ≡ Verdict.Rejected reason) result }
 {
     fitting_is_tested();
@@ -48,16 +49,16 @@ pub(crate) fn judge<G: Gate + Sync>(
         Ordered::Cycle(nodes) => return Err(OrMemory::Other(Reason::Cycle(nodes))),
     };
     check_groups(alloc, trace, report)?;
-    let steps = run_members(alloc, program, start, trace, report, &map, gate)?;
+    let spent = run_members(alloc, program, start, trace, report, &map, gate)?;
     let schedule = schedule_of(alloc, report, &map, nodes.as_slice())?;
     Ok(Verdict::Accepted {
         schedule,
-        evaluated: steps,
-        plain: steps,
+        evaluated: spent.evaluated,
+        plain: spent.plain,
     })
 }
 
-/// What is wrong with the first group that isn't sound, else the steps that all members spend.
+/// What is wrong with the first group that isn't sound, else what all members spend.
 fn run_members<G: Gate + Sync>(
     alloc: Global,
     program: &Program,
@@ -66,12 +67,12 @@ fn run_members<G: Gate + Sync>(
     report: &Report,
     map: &OpMap,
     gate: &G,
-) -> Result<u64, OrMemory<Reason>>
+) -> Result<Spent, OrMemory<Reason>>
     requires mapped { IsMapOf report.now map.now }
     requires fit { FitLogs start.now report.now.logs }
     ensures { let objects = objects_of start.now in
         Gives (unsound_group program.now objects trace.now report.now)
-        (λ steps. steps ≡ plain_steps program.now objects trace.now report.now) result }
+        (IsSpent program.now objects trace.now report.now) result }
 {
     let code = translate(alloc, program)?;
     let evidence = Evidence::gather(alloc, trace, start, report, map)?;

@@ -8,7 +8,7 @@ use Rattle.script_tree.specs.Programs.{Program}
 use Rattle.script_tree.specs.declared.trace.TraceEvent.{TraceEvent}
 use Rattle.wire.specs.declared.limits.TheConstants.{MOST_FILE_BYTES}
 use Rattle.audit_meaning.specs.declared.verdict.Verdict.{Verdict}
-use Rattle.auditor.specs.Audited.{ReadReport, audited, plainly}
+use Rattle.auditor.specs.Audited.{ReadReport, audited}
 use Rattle.command_inputs.specs.Inputs.{IsInput, IsRead}
 use Rattle.command_inputs.specs.Program.{program_input}
 use Rattle.command_inputs.specs.Report.{report_input}
@@ -49,7 +49,7 @@ module _ (files : Files) (a : AuditWords) (program : Program) (start : Objects)
 
     -- all of them were read, and this is the outcome of the verdict
     pub audits : (report : ReadReport) (v : Verdict) (outcome : Outcome)
-        → IsInput (report_input MOST_FILE_BYTES) (get files a.report) (Ok report) → v ≡ plainly (audited program start trace report)
+        → IsInput (report_input MOST_FILE_BYTES) (get files a.report) (Ok report) → v ≡ audited program start trace report
         → IsJudged a trace report v outcome → IsAudited files a outcome
     audits report v outcome report_file is judged =
         past_trace (Ok outcome) (goes_on (λ o. o) _ _ report (IsVerdict a program start trace) (Ok outcome) report_file

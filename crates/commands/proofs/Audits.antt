@@ -25,7 +25,7 @@ use Rattle.audit_meaning.specs.Verdicts.{verdict}
 use Rattle.audit_meaning.specs.declared.reason.Reason.{Reason}
 use Rattle.audit_meaning.specs.declared.verdict.Verdict.{Verdict}
 use Rattle.audit_meaning.specs.declared.verdict.Verdict.TheVariants.{Accepted, Rejected}
-use Rattle.auditor.specs.Audited.{ReadReport, audited, plainly}
+use Rattle.auditor.specs.Audited.{ReadReport, audited}
 use Rattle.command_inputs.specs.Inputs.{IsInput}
 use Rattle.command_inputs.specs.Report.{report_input}
 use Rattle.command_inputs.specs.Schedule.{schedule_input}
@@ -81,7 +81,7 @@ record Accepts (a : AuditWords) (v : Verdict) (outcome : Outcome) : Type 0 where
   pub spells : Spells schedule_format bytes schedule
   pub puts_are : outcome.puts ≡ (a.schedule, bytes) ∷ []
 
-accepts : (a : AuditWords) (trace : List TraceEvent) (report : ReadReport) (v : Verdict) (outcome : Outcome) → IsJudged a trace report (plainly v) outcome
+accepts : (a : AuditWords) (trace : List TraceEvent) (report : ReadReport) (v : Verdict) (outcome : Outcome) → IsJudged a trace report v outcome
     → status outcome ≡ 0 → Accepts a v outcome
 accepts a trace report (Accepted schedule evaluated steps) outcome h zero = record {
   schedule = schedule;
@@ -170,7 +170,7 @@ has_schedule sound fits words reading files outcome read new asked zero h told p
 
 -- ---- status 1
 
-rejects : (a : AuditWords) (trace : List TraceEvent) (report : ReadReport) (v : Verdict) (outcome : Outcome) → IsJudged a trace report (plainly v) outcome
+rejects : (a : AuditWords) (trace : List TraceEvent) (report : ReadReport) (v : Verdict) (outcome : Outcome) → IsJudged a trace report v outcome
     → status outcome ≡ 1 → (reason : Reason) × (v ≡ Rejected reason) × (outcome ≡ says (answer.Rejected reason))
 rejects a trace report (Accepted schedule evaluated steps) outcome h one = absurd (let e = ap status (sym h.2) ∙ one in cc)
 rejects a trace report (Rejected reason) outcome h one = (reason, refl, h)

@@ -22,7 +22,7 @@ use Rattle.trace_and_report.specs.Recorded.{IsTraceFile, IsReportFile}
 use Rattle.audit_completeness.specs.Completeness.{RecordedIsAccepted}
 use Rattle.audit_meaning.specs.declared.verdict.Verdict.{Verdict}
 use Rattle.audit_meaning.specs.declared.verdict.Verdict.TheVariants.{Accepted}
-use Rattle.auditor.specs.Audited.{ReadReport, plainly}
+use Rattle.auditor.specs.Audited.{ReadReport}
 use Rattle.command_inputs.specs.Inputs.{Input, IsInput}
 use Rattle.command_inputs.specs.OneWay.{AreReadOneWay, IsReadOneWay}
 use Rattle.command_inputs.specs.Program.{program_input}
@@ -76,10 +76,10 @@ few_jobs most (Some bytes) jobs h = leb-true (length jobs) MOST_REQUESTS (both_t
 -- an accepted report has status 0
 accepted : (a : AuditWords) (trace : List TraceEvent) (report : ReadReport) (v : Verdict) (outcome : Outcome)
     → (schedule : List Moment) × (evaluated : ℕ) × (steps : ℕ) × (v ≡ Accepted schedule evaluated steps)
-    → IsJudged a trace report (plainly v) outcome → status outcome ≡ 0
+    → IsJudged a trace report v outcome → status outcome ≡ 0
 accepted a trace report v outcome is h =
-    let judged : IsJudged a trace report (plainly (Accepted is.0 is.1 is.2)) outcome
-    = subst (λ w. IsJudged a trace report (plainly w) outcome) is.3 h in
+    let judged : IsJudged a trace report (Accepted is.0 is.1 is.2) outcome
+    = subst (λ w. IsJudged a trace report w outcome) is.3 h in
     ap status judged.2
 
 pub audits_accept : RecordedIsAccepted → TracesAreBalanced → AreReadOneWay → (before after : Files) (w : RecordWords)

@@ -8,7 +8,7 @@ use Rattle.trace_format.specs.Events.{request_count}
 use Rattle.audit_meaning.specs.declared.verdict.Verdict.{Verdict}
 use Rattle.audit_meaning.specs.declared.verdict.Verdict.TheVariants.{Accepted, Rejected}
 use Rattle.one_history.specs.Laws.{RunsAreOne}
-use Rattle.auditor.specs.Audited.{ReadReport, audited, plainly}
+use Rattle.auditor.specs.Audited.{ReadReport, audited}
 use Rattle.command_inputs.specs.Inputs.{Input}
 use Rattle.command_inputs.specs.OneWay.{AreReadOneWay, IsReadOneWay}
 use Rattle.command_inputs.specs.Program.{program_input}
@@ -72,7 +72,7 @@ module _ (one : AreReadOneWay) (files : Files) where
       (λ program. past_input (state_input program MOST_FILE_BYTES) (get files a.state) (WithObjects files a program) (one.states program MOST_FILE_BYTES)
       (λ start. past_input (trace_input MOST_FILE_BYTES) (get files a.trace) (WithEvents files a program start) (one.traces MOST_FILE_BYTES)
       (λ trace. past_input (report_input MOST_FILE_BYTES) (get files a.report) (IsVerdict a program start trace) (one.reports MOST_FILE_BYTES)
-      (λ report. one_verdict a trace report (plainly (audited program start trace report))))))
+      (λ report. one_verdict a trace report (audited program start trace report)))))
 
   one_replay : (names : ReplayNames) → IsOne (IsReplayed files names)
   one_replay names =

@@ -11,7 +11,7 @@ use Rattle.schedule_format.specs.Moments.{schedule_format}
 use Rattle.trace_format.specs.Events.{request_count}
 use Rattle.audit_meaning.specs.declared.verdict.Verdict.{Verdict}
 use Rattle.audit_meaning.specs.declared.verdict.Verdict.TheVariants as verdict
-use Rattle.auditor.specs.Audited.{ReadReport, audited, plainly}
+use Rattle.auditor.specs.Audited.{ReadReport, audited}
 use Rattle.command_inputs.specs.Program.{program_input}
 use Rattle.command_inputs.specs.Report.{report_input}
 use Rattle.command_inputs.specs.State.{state_input}
@@ -46,7 +46,7 @@ IsJudged words trace report (verdict.Rejected reason) outcome = outcome ≡ says
 -- The outcome of the verdict on the report.
 abbrev pub IsVerdict : AuditWords → Program → Objects → List TraceEvent → ReadReport → Outcome → Type 0
 IsVerdict words program start trace report =
-    IsJudged words trace report (plainly (audited program start trace report))
+    IsJudged words trace report (audited program start trace report)
 
 abbrev pub WithEvents : Files → AuditWords → Program → Objects → List TraceEvent → Outcome → Type 0
 WithEvents files words program start trace =

@@ -4,7 +4,7 @@ ghost use Rattle.script_tree.specs.Traces.{IsBalanced};
 ghost use Rattle.report_format.specs.Limits.{HasValuesWithinLimits};
 ghost use Rattle.object_set.specs.ObjectSets.{IsSetOf, objects_of};
 ghost use Rattle.trace_format.specs.Events.{request_count};
-ghost use Rattle.auditor.specs.Audited.{audited, plainly};
+ghost use Rattle.auditor.specs.Audited.{audited};
 ghost use Rattle.command_inputs.specs.Faults.{UsesToRead};
 ghost use Rattle.command_words.specs.NamesView.{audit_words_of};
 ghost use Rattle.commands.specs.Asked.{MayAnswer, an_audit};
@@ -70,7 +70,7 @@ fn verdict_on<G: Gate + Sync>(
     requires set { IsSetOf program.now start.now }
     requires limits { IfOk report.now HasValuesWithinLimits }
     ensures { IfOk result (λ verdict. verdict
-        ≡ plainly (audited program.now (objects_of start.now) trace.now report.now)) }
+        ≡ audited program.now (objects_of start.now) trace.now report.now) }
 {
     match report {
         Ok(report) => audit(alloc, program, start, trace, Ok(report), workers, gate),

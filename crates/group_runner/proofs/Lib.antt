@@ -1,8 +1,7 @@
-mod AllGroups
 mod Entries
 mod Found
-mod Grouped
+pub mod Grouped
 mod Leasts
 mod Places
-mod Runs
+pub mod Runs
 mod Signs

@@ -66,27 +66,27 @@ impl<'a> Evidence<'a> {
         })
     }
 
-    pub(crate) fn trace(&self) -> &IndexedTrace<'a>
+    pub fn trace(&self) -> &IndexedTrace<'a>
         ensures { result.now ≡ self.now.trace }
     {
         self.trace
     }
 
-    pub(crate) fn groups(&self) -> &[Group]
+    pub fn groups(&self) -> &[Group]
         ensures { result.now ≡ self.now.report.groups }
     {
         self.report.groups.as_slice()
     }
 
     /// How many operations a request counts; 0 where it has no count.
-    pub(crate) fn count(&self, rid: u32) -> u32
+    pub fn count(&self, rid: u32) -> u32
         ensures { result ≡ count_of self.now.report rid }
     {
         self.map.count(rid)
     }
 
     /// The answer to a request's operation of this number, where the report has it.
-    pub(crate) fn answer(&self, rid: u32, number: u32, op: &Op) -> Result<Option<Value>, AllocError>
+    pub fn answer(&self, rid: u32, number: u32, op: &Op) -> Result<Option<Value>, AllocError>
         ensures { IfOk result (λ answer. answer ≡ answer_to self.now rid number (Wants op.now)) }
     {
         let Some((log_number, position)) = self.map.find(rid, number) else {

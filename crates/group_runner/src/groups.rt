@@ -4,17 +4,15 @@ ghost use Rattle.script_code.specs.Translated.{IsCodeOf};
 ghost use Rattle.log_checker.specs.Faults.{Gives};
 ghost use Rattle.report.specs.Groups.{IsSome};
 ghost use Rattle.group_runner.specs.MembersTold.{IsGroupRunOf};
-ghost use Rattle.group_runner.specs.Told.{fault_of, steps_of, unsound_in, steps_in};
+ghost use Rattle.group_runner.specs.Told.{fault_of, steps_of};
 
 use crate::evidence::Evidence;
 use crate::findings::Findings;
 use crate::runner::Runner;
 use audit_meaning::reason::Reason;
 use basis::OrMemory;
-use outside::gate::Gate;
 use script_code::translate::Code;
 use std::alloc::{AllocError, Global};
-use trace_index::narrow;
 
 /// The steps of several members. More than 64 bits hold are answered as want of memory.
 fn together(steps: u64, more: u64) -> Result<u64, AllocError>
@@ -48,47 +46,31 @@ fn run_members(runner: Runner<'_>, first_rid: u32, others: &[u32]) -> Result<Gro
     Ok(GroupRun { findings, steps })
 }
 
-/// Runs a group of this number: the first that is wrong with it, else the steps that its members
-/// spend.
-fn run_group(runner: Runner<'_>, number: u32, rids: &[u32]) -> Result<u64, OrMemory<Reason>>
+/// Runs the members of a group of this number, one after the other: the first that is wrong with the
+/// group, else the steps that its members spend.
+pub fn run_one_by_one(
+    alloc: Global,
+    code: &Code,
+    evidence: &Evidence<'_>,
+    number: u32,
+    rids: &[u32],
+) -> Result<u64, OrMemory<Reason>>
     requires { IsSome rids.now }
-    ensures { (program : AnyProgram) → IsCodeOf program runner.entry.code.now
-        → Gives (fault_of program runner.entry.evidence.now number rids.now)
-        (λ steps. steps ≡ steps_of program runner.entry.evidence.now rids.now) result }
+    ensures { (program : AnyProgram) → IsCodeOf program code.now
+        → Gives (fault_of program evidence.now number rids.now)
+        (λ steps. steps ≡ steps_of program evidence.now rids.now) result }
 {
     let Some((first_rid, others)) = rids.split_first() else {
         unreachable!()
+    };
+    let runner = Runner {
+        alloc,
+        code,
+        evidence,
     };
     let run = run_members(runner, *first_rid, others)?;
     match run.findings.reason(number)? {
         Some(reason) => Err(OrMemory::Other(reason)),
         None => Ok(run.steps),
     }
-}
-
-/// Runs each member of each group, the groups in their order: the first that is wrong with the first
-/// group that isn't sound, else the steps that all members spend. A gate is passed at the start of
-/// each group.
-pub fn run_groups<G: Gate + Sync>(
-    alloc: Global,
-    code: &Code,
-    evidence: &Evidence<'_>,
-    gate: &G,
-) -> Result<u64, OrMemory<Reason>>
-    ensures { (program : AnyProgram) → IsCodeOf program code.now
-        → Gives (unsound_in program evidence.now)
-        (λ steps. steps ≡ steps_in program evidence.now) result }
-{
-    let runner = Runner {
-        alloc,
-        code,
-        evidence,
-    };
-    let mut steps = 0u64;
-    for (number, group) in evidence.groups().iter().enumerate() {
-        gate.pass(number as u64, 1);
-        let spent = run_group(runner, narrow(number)?, group.rids())?;
-        steps = together(steps, spent)?;
-    }
-    Ok(steps)
 }

@@ -1,5 +1,5 @@
-//! The groups of a report, run against it: each member on the machine, with the answers that the logs
-//! give.
+//! A group of a report, run against it: each member on the machine, one after the other, with the
+//! answers that the logs give.
 #![tactic(auto)]
 
 pub mod evidence;
@@ -11,4 +11,5 @@ mod run;
 mod runner;
 
 pub use evidence::Evidence;
-pub use groups::run_groups;
+pub use groups::run_one_by_one;
+pub use runner::is_same_response;

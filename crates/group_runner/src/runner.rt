@@ -187,7 +187,8 @@ impl<'a> Runner<'a> {
     }
 }
 
-fn is_same_response(response: &Response, traced: &Option<Response>) -> bool
+/// Whether this response is the one of the trace, where it has one.
+pub fn is_same_response(response: &Response, traced: &Option<Response>) -> bool
     ensures { result ≡ gives_response response.now traced.now }
 {
     match traced {

@@ -1,0 +1,4 @@
+mod AllGroups
+mod Each
+mod Members
+mod Steps

@@ -100,14 +100,52 @@ def statement_of(tables, statement):
 # ---- the marks of a member
 
 BAD = "bad"
+ISSUING = "issuing"
+
+
+def is_same(a, b):
+    """Whether two values are equal."""
+    if a is b:
+        return True
+    if type(a) is List and type(b) is List:
+        return len(a.members) == len(b.members) and all(map(is_same, a.members, b.members))
+    return type(a) is type(b) and type(a) is not List and a == b
+
+
+def is_shared(first, step):
+    """Whether a member's step is spent on just what the first member's is. No operation is like another."""
+    if ISSUING in (first, step):
+        return False
+    (asked, values), (asked_here, values_here) = first, step
+    return asked == asked_here and len(values) == len(values_here) and all(map(is_same, values, values_here))
 
 
 class Member(Run):
-    """A run that leaves marks."""
+    """A run that leaves marks, and notes what each step is spent on: an operation, or these values, and perhaps the request."""
 
     def __init__(self, program, asked):
-        self.marks = []
+        self.marks, self.spent_on = [], []
         super().__init__(program, *asked)
+
+    def spends(self, action, taken):
+        if action is Run.push:
+            values = []
+        elif action is Run.load:
+            values = [self.variables[taken[0]]]
+        elif action in (Run.make, Run.ask, Run.issue):
+            values = self.stack[len(self.stack) - taken[0] :]
+        elif action is Run.call:
+            values = self.stack[len(self.stack) - len(self.program.functions[taken[0]]) :]
+        else:
+            values = [self.stack[-1][0] if action is Run.turn else self.stack[-1]]
+        self.spent_on.append((self.asked() if action is Run.ask else None, values))
+
+    def asked(self):
+        return self.method, self.path, self.parameters, self.content
+
+    def issues(self):
+        """The last step is spent on an operation."""
+        self.spent_on[-1] = ISSUING
 
     def noted(self, value):
         self.marks.append(super().noted(value))
@@ -116,6 +154,7 @@ class Member(Run):
     def follow(self, entry_of):
         """Runs on against the entries, each of which is its object, its act and its answer."""
         while self.operation:
+            self.issues()
             name, act = object_and_act(self.program, self.operation)
             has_name, has_act, answer = entry_of(self.issued) or (None, None, None)
             if (has_name, has_act) != (name, records.act_bytes(act)):
@@ -151,7 +190,7 @@ class Audit:
         """The choice of each operation."""
 
     def all(self):
-        """The steps of all requests and the schedule, where no reason holds."""
+        """What is evaluated, the steps of all requests, and the schedule, where no reason holds."""
         self.check_logs_and_counts()
         for name, entries in self.logs:
             for position, entry in enumerate(entries):
@@ -160,8 +199,9 @@ class Audit:
         order = self.order()
         self.check_members()
         answers = self.answers()
-        steps = sum(self.check_group(number, members, answers) for number, members in enumerate(self.groups))
-        return steps, [self.moment(node) for node in order]
+        costs = [self.check_group(number, members, answers) for number, members in enumerate(self.groups)]
+        evaluated, plain = (sum(cost[kind] for cost in costs) for kind in (0, 1))
+        return evaluated, plain, [self.moment(node) for node in order]
 
     # ---- counts, entries and members
 
@@ -284,7 +324,7 @@ class Audit:
         return members
 
     def check_group(self, group, numbers, answers):
-        """The steps of its members."""
+        """What is evaluated for it, and the steps of its members."""
         members = self.members_of(numbers, answers)
         for place in range(min(len(member.marks) for member in members)):
             for number, member in zip(numbers, members):
@@ -298,13 +338,12 @@ class Audit:
         for number, member in zip(numbers, members):
             if list(member.response) != self.answered[number]:
                 raise Rejected(20, request(number))
-        return sum(member.steps for member in members)
+        return self.cost(numbers, members), sum(member.steps for member in members)
 
-
-def evaluated(plain):
-    """What is told as evaluated. Each member is run by itself for now, so that it is the number of all steps; where a step of a
-    group is done once, it is the sum that docs/formats.md tells."""
-    return plain
+    def cost(self, numbers, members):
+        """How many nodes are evaluated for a group without fault: one a step where all members take the same, else one for each."""
+        steps = zip(*(member.spent_on for member in members))
+        return sum(1 if all(is_shared(step[0], other) for other in step) else len(step) for step in steps)
 
 
 def audit_of(program, state, trace, report):
@@ -312,12 +351,12 @@ def audit_of(program, state, trace, report):
     try:
         program, objects, trace = inputs_of(program, state, trace)
         audit = Audit(program, objects, trace, records.read(report, "report"))
-        plain, schedule = audit.all()
+        evaluated, plain, schedule = audit.all()
     except Faulty as fault:
         return 3, fault.args[0], None
     except records.Unreadable as place:
         return 1, b"rejected 1: unreadable at %d\n" % place.args, None
     except Rejected as reason:
         return 1, f"rejected {reason.args[0]}: {reason.args[1]}\n".encode(), None
-    counts = len(audit.requests), len(audit.groups), evaluated(plain), plain
+    counts = len(audit.requests), len(audit.groups), evaluated, plain
     return 0, b"accepted: requests %d, groups %d, evaluated %d, plain %d\n" % counts, records.write("schedule", schedule)

@@ -511,10 +511,14 @@ class Run:
                     if self.steps == MOST_STEPS:
                         raise Fault(6)
                     self.steps += 1
+                    self.spends(action, taken)
                 self.at += 1
                 action(self, *taken)
         except Fault as fault:
             self.fail(*fault.args)
+
+    def spends(self, action, taken):
+        """Is told each step, before what it is spent on is done."""
 
     def answer(self, value):
         self.operation = None

@@ -11,6 +11,7 @@ A workload is a program, a state, and the path and parameters of each request:
     fewer      the same with 1,000 rows
     page       a table of 40 rows in HTML, built by functions with `escape`, `str` and `+`, a list of 20 numbers walked, a `get`
                and a `put`; fewer requests
+    same       the same page, asked as often as others
     state      one request on a table of 1,000,000 rows
 """
 
@@ -150,13 +151,17 @@ def page():
     return PAGE, b'{"stores":{"visits":[["/page",0]]}}', [("/page", {})] * FEWER[-1]
 
 
+def same():
+    return PAGE, b'{"stores":{"visits":[["/page",0]]}}', [("/page", {})] * COUNTS[-1]
+
+
 def large_state():
     return ROWS, stock(range(1_000_000)).encode(), [("/sell", {"item": item(7919)})], stock([7919]).encode()
 
 
 KINDS = {
     "straight": straight, "hit": hit, "shop": shop, "heavy": heavy, "wide": wide, "rows": lambda: rows(100_000),
-    "fewer": lambda: rows(1000), "page": page, "state": large_state,
+    "fewer": lambda: rows(1000), "page": page, "same": same, "state": large_state,
 }
 LONG = ["heavy", "page"]
 

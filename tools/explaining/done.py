@@ -182,15 +182,11 @@ def summary_of(found):
 def shared(found, line):
     """How much of the run was done for several requests at once."""
     evaluated, plain = (int(part.split(" ")[-1]) for part in line.split(", ")[2:])
-    least = min(found.evaluated)
     told = f"The runs take {counted(plain, 'step')}, of which {evaluated:,} were evaluated"
     if not plain:
         return []
     if evaluated < plain:
         return wrapped(f"{told}: {100 - 100 * evaluated // plain}% were shared, since members of a group did them with the same operands.")
-    if least < evaluated:
-        return wrapped(f"{told}: each request was run by itself. Done once for a group where the operands are the same, {least:,} "
-                       f"would be evaluated, {100 * least // plain}%.")
     is_grouped = any(len(group) > 1 for group in found.audit.groups)
     why = "no step of a group has the same operands in several members" if is_grouped else "each group has one member"
     return wrapped(f"{told}: nothing was shared, since {why}.")

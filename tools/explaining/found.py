@@ -9,7 +9,7 @@ import stat
 
 from json_files import JsonFault, read_jobs, read_turns
 from layout import Text
-from runs import KeptAudit, shared_steps
+from runs import KeptAudit
 from states import StateFault, objects_of
 
 from auditing import Rejected
@@ -37,8 +37,6 @@ class Found:
         self.data, self.line, self.why = {}, None, None
         self.program = self.objects = self.trace = self.report = self.schedule = self.jobs = self.audit = self.made = None
         self.turns = []
-        self.evaluated = set()
-        """What may be told as evaluated: each member by itself, or what members have in common once."""
 
     def find(self):
         """Reads the inputs and comes to the line."""
@@ -133,12 +131,11 @@ class Found:
         """The line of an audit of the trace and the report, and why it is that one."""
         self.audit = KeptAudit(self.program, self.fresh_objects(), self.trace, self.report)
         try:
-            plain, self.made = self.audit.all()
+            evaluated, plain, self.made = self.audit.all()
         except Rejected as reason:
             self.why = reason
             return f"rejected {reason.args[0]}: {reason.args[1]}"
-        self.evaluated = {plain, shared_steps(self.audit)}
-        return f"accepted: requests {len(self.audit.requests)}, groups {len(self.audit.groups)}, evaluated {plain}, plain {plain}"
+        return f"accepted: requests {len(self.audit.requests)}, groups {len(self.audit.groups)}, evaluated {evaluated}, plain {plain}"
 
     def record(self):
         """The line that the written files give, or why they are none of these jobs."""
@@ -158,11 +155,7 @@ class Found:
 
     def is_line(self, line):
         """Whether the program may print this line for the files."""
-        if line == self.line:
-            return True
-        if self.line.startswith("accepted") and self.command.name == "audit":
-            return any(line == self.line.replace(f"evaluated {max(self.evaluated)}", f"evaluated {number}") for number in self.evaluated)
-        return self.may_be_too_long(line)
+        return line == self.line or self.may_be_too_long(line)
 
     def may_be_too_long(self, line):
         """Whether what `record` is to write may pass its limit: a trace by its greatest responses, a report by its operations."""

@@ -76,7 +76,10 @@ COUNTED = (Run.make, Run.issue, Run.ask)
 
 
 class WatchedMember(Watched, Member):
-    """A member of a group that does the same."""
+    """A member of a group that does the same. What its steps are spent on isn't kept."""
+
+    def issues(self):
+        pass
 
 
 class Step:
@@ -129,6 +132,16 @@ class KeptAudit(Audit):
         members = super().members_of(numbers, answers)
         self.members.update(zip(numbers, members))
         return members
+
+    def cost(self, numbers, members):
+        """The same, with the steps of one member at a time laid beside those of the first."""
+        if len(numbers) == 1:
+            return members[0].steps
+        steps = []
+        for at, number in enumerate(numbers):
+            stepped = Stepped(self.program, self.asked[number], steps, at == 0)
+            stepped.follow(lambda count: self.replied.get((number, count)))
+        return sum(len(numbers) if step.issues or not step.is_same else 1 for step in steps)
 
     def check_logs_and_counts(self):
         seen = set()
@@ -188,21 +201,6 @@ class KeptAudit(Audit):
         if len(order) < len(before):
             raise Rejected(13, self.cycle(before, set(before) - set(order)))
         return order
-
-
-def shared_steps(audit):
-    """What an audit evaluates that does a group's steps once where their operands are the same."""
-    evaluated = 0
-    for numbers in audit.groups:
-        if len(numbers) == 1:
-            evaluated += audit.members[numbers[0]].steps
-            continue
-        steps = []
-        for at, number in enumerate(numbers):
-            stepped = Stepped(audit.program, audit.asked[number], steps, at == 0)
-            stepped.follow(lambda count: audit.replied.get((number, count)))
-        evaluated += sum(len(numbers) if step.issues or not step.is_same else 1 for step in steps)
-    return evaluated
 
 
 # ---- where things stand in a program

@@ -1,0 +1,147 @@
+-- An accepted report evaluates at most as many nodes as its requests spend steps.
+use Rattle.std.proofs.Common.{◌≡◌, ◌∙◌, ◌≤◌, ℕ, suc, ◌+◌, true, List, [], ◌∷◌, ◌++◌, length, take, map, flat_map, Option, Some, None, refl, sym, ap, subst, arith, true≢false}
+use Rattle.std.proofs.lemmas.Bool.{not-false}
+use Rattle.basis.specs.Lists.{nth}
+use Rattle.script_tree.specs.Datum.{Datum}
+use Rattle.script_tree.specs.Declarations.{NumberedPage, page_in}
+use Rattle.script_tree.specs.Objects.{Objects}
+use Rattle.script_tree.specs.Programs.{Program}
+use Rattle.script_tree.specs.Requests.{Request}
+use Rattle.script_tree.specs.Traces.{request_of, response_of}
+use Rattle.script_tree.specs.declared.path.Path.{Path}
+use Rattle.script_tree.specs.declared.request.Response.{Response}
+use Rattle.script_tree.specs.declared.schedule.Moment.{Moment}
+use Rattle.script_tree.specs.declared.trace.TraceEvent.{TraceEvent}
+use Rattle.report.specs.declared.Report.{Report}
+use Rattle.script_meaning.specs.Conduct.{Ends, ended, on_page, start, unless_left}
+use Rattle.script_meaning.specs.Costs.{costs_on, keeping, page_run}
+use Rattle.script_meaning.specs.Evaluate.{Flow}
+use Rattle.script_meaning.specs.Replay.{ending_of}
+use Rattle.script_meaning.specs.Run.{Outcome, goes, stops}
+use Rattle.script_meaning.specs.declared.run.Stop.TheVariants.{Wants as wants, Fault as fault, AnswerFault as answer_fault}
+use Rattle.group_costs.specs.Keeping.{KeepingChangesNothing}
+use Rattle.audit_meaning.specs.GroupFaults.{grouping_fault, members}
+use Rattle.audit_meaning.specs.Groups.{gives, steps_to, end_by, end_of, costs, costs_by, cost_of_group, cost_of_all, steps_of_all, if_unlike, if_fewer, mark_fault, longest, marks, group_fault, unsound_group}
+use Rattle.audit_meaning.specs.Lists.{befores, numbers}
+use Rattle.audit_meaning.specs.Members.{told, performed}
+use Rattle.audit_meaning.specs.declared.node.Node.{Node}
+use Rattle.audit_meaning.specs.declared.verdict.Verdict.{Verdict}
+use Rattle.audit_meaning.specs.declared.verdict.Verdict.TheVariants.{Accepted, Rejected}
+use Rattle.audit_meaning.specs.Verdicts.{judged, verdict, evaluated_nodes, plain_steps}
+use Rattle.audit_meaning.specs.declared.reason.Reason.{Reason}
+use Rattle.basis.specs.Lists.{first_answer}
+use Rattle.audit_meaning.proofs.Places.{first_none, or_none, answer_none, befores_at}
+use Rattle.evaluated_limit.specs.AtMost.{EvaluatedIsAtMostPlain}
+use Rattle.evaluated_limit.proofs.Counts.{as_many, steps_in}
+use Rattle.evaluated_limit.proofs.Sums.{group_at_most, total}
+
+-- ---- a request
+
+over_spends : (xs : List Datum) (x : Response) (path : Path) (y : Option Response) → gives (unless_left xs (Ends x path)) y ≡ true → path.steps ≡ steps_to (unless_left xs (Ends x path))
+over_spends [] x path y h = refl
+over_spends (d ∷ ds) x path y h = absurd (true≢false (sym h))
+
+ended_spends : (n : ℕ) (r : Outcome Flow) (y : Option Response) → gives (ended n r).ending y ≡ true → steps_in r ≡ steps_to (ended n r).ending
+ended_spends n (goes flow p) y h = over_spends p.answers _ _ y h
+ended_spends n (stops (wants op) p) y h = absurd (true≢false (sym h))
+ended_spends n (stops (fault f) p) y h = over_spends p.answers _ _ y h
+ended_spends n (stops answer_fault p) y h = over_spends p.answers _ _ y h
+
+no_steps : (xs : List Datum) (x : Response) (path : Path) → path.steps ≡ 0 → 0 ≡ steps_to (unless_left xs (Ends x path))
+no_steps [] x path h = sym h
+no_steps (d ∷ ds) x path h = refl
+
+page_spends : KeepingChangesNothing → (program : Program) (request : Request) (answers : List Datum) (y : Option Response) (page : Option NumberedPage) → gives (on_page program request answers page).ending y ≡ true
+    → length (costs_on program request answers page) ≡ steps_to (on_page program request answers page).ending
+page_spends law program request answers y None h = no_steps answers _ _ refl
+page_spends law program request answers y (Some page) h =
+    let same = law.same program request answers page (Some []) in
+    let kept = page_run program request (keeping (Some []) (start answers)) page in
+    as_many program request answers page
+    ∙ ended_spends page.number kept y (ap (λ c. gives c.ending y) same ∙ h)
+    ∙ ap (λ c. steps_to c.ending) same
+
+module _ (law : KeepingChangesNothing) (P : Program) (O : Objects) (T : List TraceEvent) (R : Report) where
+  request_spends : (r : ℕ) (o : Option Request) → gives (end_by P O T R r o) (response_of T r) ≡ true → length (costs_by P O T R r o) ≡ steps_to (end_by P O T R r o)
+  unfolding ending_of
+  request_spends r None h = absurd (true≢false (sym h))
+  request_spends r (Some q) h = page_spends law P q (told R O r (performed P O R r q)) (response_of T r) (page_in P q.path) h
+
+  spends : (r : ℕ) → if_unlike P O T R r ≡ None → length (costs P O T R r) ≡ steps_to (end_of P O T R r)
+  unfolding costs
+  spends r h = request_spends r (request_of T r) (not-false _ (answer_none _ _ h))
+
+  -- ---- a group
+
+  all_spend : (rs : List ℕ) → ((i r : ℕ) → nth rs i ≡ Some r → if_unlike P O T R r ≡ None) → total (map (costs P O T R) rs) ≡ steps_of_all P O T R rs
+  all_spend [] h = refl
+  all_spend (r ∷ rs) h =
+      let first = spends r (h 0 r refl) in
+      let others = all_spend rs (λ i x at. h (suc i) x at) in
+      omega (arith, first, others)
+
+  none_unlike : (n : ℕ) (g : List ℕ) → group_fault P O T R n g ≡ None → (i r : ℕ) → nth g i ≡ Some r → if_unlike P O T R r ≡ None
+  unfolding group_fault
+  none_unlike n g h i r at =
+      let later = or_none (first_answer (mark_fault P O T R n g) (numbers 0 (longest (map (marks P O T R) g)))) _ h in
+      let parts = or_none (first_answer (if_fewer P O T R) g) (first_answer (if_unlike P O T R) g) later.1 in
+      first_none (if_unlike P O T R) g i r parts.1 at
+
+  group_spends : (n : ℕ) (g : List ℕ) → group_fault P O T R n g ≡ None → cost_of_group P O T R g ≤ steps_of_all P O T R g
+  group_spends n g h =
+      let cost = group_at_most (map (costs P O T R) g) in
+      let all = all_spend g (none_unlike n g h) in
+      omega (arith, cost, all)
+
+  -- ---- all groups
+
+  steps_both : (xs ys : List ℕ) → steps_of_all P O T R (xs ++ ys) ≡ steps_of_all P O T R xs + steps_of_all P O T R ys
+  steps_both [] ys = omega arith
+  steps_both (x ∷ xs) ys = let h = steps_both xs ys in omega (arith, h)
+
+  groups_spend : (gs : List (List ℕ)) → ((i : ℕ) (g : List ℕ) → nth gs i ≡ Some g → (n : ℕ) × (group_fault P O T R n g ≡ None)) → cost_of_all P O T R gs ≤ steps_of_all P O T R (flat_map (λ (g : List ℕ). g) gs)
+  groups_spend [] h = omega arith
+  groups_spend (g ∷ gs) h =
+      let sound = h 0 g refl in
+      let first = group_spends sound.0 g sound.1 in
+      let others = groups_spend gs (λ i x at. h (suc i) x at) in
+      let both = steps_both g (flat_map (λ (x : List ℕ). x) gs) in
+      omega (arith, first, others, both)
+
+  nodes_spent : unsound_group P O T R ≡ None → evaluated_nodes P O T R ≤ plain_steps P O T R
+  unfolding unsound_group evaluated_nodes plain_steps members
+  nodes_spent sound =
+      groups_spend R.groups (λ i g at. (
+        length (take i R.groups),
+        first_none (λ b. group_fault P O T R (length b.0) b.1) (befores R.groups) i (take i R.groups, g) sound (befores_at R.groups i g at),
+      ))
+
+-- ---- the verdict
+
+abbrev evaluated_in : Verdict → ℕ
+evaluated_in (Accepted S v n) = v
+evaluated_in (Rejected r) = 0
+
+abbrev steps_of : Verdict → ℕ
+steps_of (Accepted S v n) = n
+steps_of (Rejected r) = 0
+
+abbrev IsAccepted : Verdict → Type 0
+IsAccepted (Accepted S v n) = Unit {0}
+IsAccepted (Rejected r) = ⊥
+
+-- what is accepted has no fault in its groups
+accepted_parts : (a : Option Reason) (C : List Node) (n : Option (List Node)) (l : Option Reason) (R : Report) (evaluated steps : ℕ) (S : List Moment) (v k : ℕ) → judged a C n l R evaluated steps ≡ Accepted S v k
+    → (l ≡ None) × (evaluated ≡ v) × (steps ≡ k)
+accepted_parts (Some r) C n l R evaluated steps S v k e = absurd (subst IsAccepted (sym e) tt)
+accepted_parts None C None l R evaluated steps S v k e = absurd (subst IsAccepted (sym e) tt)
+accepted_parts None C (Some N) (Some r) R evaluated steps S v k e = absurd (subst IsAccepted (sym e) tt)
+accepted_parts None C (Some N) None R evaluated steps S v k e = (refl, ap evaluated_in e, ap steps_of e)
+
+pub at_most : KeepingChangesNothing → EvaluatedIsAtMostPlain
+unfolding verdict
+at_most law P O T R S v k h =
+    let parts = accepted_parts _ _ _ _ R _ _ S v k h in
+    let sound = (or_none (grouping_fault T R) (unsound_group P O T R) parts.0).1 in
+    let nodes = nodes_spent law P O T R sound in
+    omega (arith, nodes, parts.1, parts.2)

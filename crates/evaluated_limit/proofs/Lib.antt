@@ -1,0 +1,4 @@
+mod AtMost
+mod Counts
+mod Sums
+mod Walk

@@ -1,0 +1,14 @@
+-- How many nodes an accepted report evaluates.
+use Rattle.std.specs.Prelude.{◌≡◌, ◌≤◌, ℕ, List}
+use Rattle.script_tree.specs.Objects.{Objects}
+use Rattle.script_tree.specs.Programs.{Program}
+use Rattle.script_tree.specs.declared.schedule.Moment.{Moment}
+use Rattle.script_tree.specs.declared.trace.TraceEvent.{TraceEvent}
+use Rattle.report.specs.declared.Report.{Report}
+use Rattle.audit_meaning.specs.Verdicts.{verdict}
+use Rattle.audit_meaning.specs.declared.verdict.Verdict.TheVariants.{Accepted}
+
+-- Where a report is accepted, at most as many nodes are evaluated as all requests spend steps.
+abbrev pub EvaluatedIsAtMostPlain : Type 0
+EvaluatedIsAtMostPlain = (program : Program) (start : Objects) (trace : List TraceEvent) (report : Report) (schedule : List Moment) (evaluated steps : ℕ)
+    → verdict program start trace report ≡ Accepted schedule evaluated steps → evaluated ≤ steps

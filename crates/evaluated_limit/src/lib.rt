@@ -1,0 +1,4 @@
+//! How many nodes an accepted report evaluates at most: the law, and its proof.
+#![tactic(auto)]
+
+pub mod law;

@@ -14,3 +14,9 @@ pub each_more : {A : Type 0} (P : ℕ → A → Type 0) (xs : List A) (y d : A) 
 each_more P xs y d n size before here =
     below_more (λ i. P i (get_or (xs ++ y ∷ []) i d)) n (λ i lt. subst (P i) (sym (get_before xs y d i (omega (arith, lt, size)))) (before i lt))
     (subst (P n) (sym (get_last xs y d) ∙ ap (λ j. get_or (xs ++ y ∷ []) j d) size) here)
+
+-- a list of one number is that number
+pub one_only : (xs : List ℕ) → length xs ≡ 1 → xs ≡ get_or xs 0 0 ∷ []
+one_only [] h = absurd (omega (arith, h))
+one_only (x ∷ []) h = refl
+one_only (x ∷ y ∷ xs) h = absurd (omega (arith, h))

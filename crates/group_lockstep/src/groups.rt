@@ -1,4 +1,4 @@
-ghost use Rattle.std.specs.Prelude.{◌≡◌};
+ghost use Rattle.std.specs.Prelude.{◌≡◌, length};
 ghost use Rattle.script_tree.specs.Programs.{Program as AnyProgram};
 ghost use Rattle.script_code.specs.Translated.{IsCodeOf};
 ghost use Rattle.log_checker.specs.Faults.{Gives};
@@ -10,6 +10,7 @@ use crate::lockstep::Lockstep;
 use crate::spent::Spent;
 use audit_meaning::reason::Reason;
 use basis::OrMemory;
+use cost_laws::law::one_member_costs_its_steps;
 use group_runner::{Evidence, run_one_by_one};
 use outside::gate::Gate;
 use script_code::translate::Code;
@@ -29,6 +30,9 @@ fn run_group(
         → Gives (fault_of program evidence.now number rids.now)
         (IsSpentBy program evidence.now rids.now) result }
 {
+    if rids.len() == 1 {
+        return run_alone(alloc, code, evidence, number, rids);
+    }
     let lockstep = Lockstep {
         alloc,
         code,
@@ -43,6 +47,28 @@ fn run_group(
             Err(OrMemory::Memory)
         }
     }
+}
+
+/// The same of a group of one member, of which nothing can be shared: as many nodes are evaluated as
+/// steps are spent.
+fn run_alone(
+    alloc: Global,
+    code: &Code,
+    evidence: &Evidence<'_>,
+    number: u32,
+    rids: &[u32],
+) -> Result<Spent, OrMemory<Reason>>
+    requires { length rids.now ≡ 1 }
+    ensures { (program : AnyProgram) → IsCodeOf program code.now
+        → Gives (fault_of program evidence.now number rids.now)
+        (IsSpentBy program evidence.now rids.now) result }
+{
+    one_member_costs_its_steps();
+    let steps = run_one_by_one(alloc, code, evidence, number, rids)?;
+    Ok(Spent {
+        evaluated: steps,
+        plain: steps,
+    })
 }
 
 /// Runs each group, in their order: the first that is wrong with the first group that isn't sound,

@@ -1,4 +1,4 @@
--- An accepted report evaluates at most as many nodes as its requests spend steps.
+-- How many nodes a report evaluates, by the steps that its requests spend.
 use Rattle.std.proofs.Common.{◌≡◌, ◌∙◌, ◌≤◌, ℕ, suc, ◌+◌, true, List, [], ◌∷◌, ◌++◌, length, take, map, flat_map, Option, Some, None, refl, sym, ap, subst, arith, true≢false}
 use Rattle.std.proofs.lemmas.Bool.{not-false}
 use Rattle.basis.specs.Lists.{nth}
@@ -31,9 +31,9 @@ use Rattle.audit_meaning.specs.Verdicts.{judged, verdict, evaluated_nodes, plain
 use Rattle.audit_meaning.specs.declared.reason.Reason.{Reason}
 use Rattle.basis.specs.Lists.{first_answer}
 use Rattle.audit_meaning.proofs.Places.{first_none, or_none, answer_none, befores_at}
-use Rattle.evaluated_limit.specs.AtMost.{EvaluatedIsAtMostPlain}
-use Rattle.evaluated_limit.proofs.Counts.{as_many, steps_in}
-use Rattle.evaluated_limit.proofs.Sums.{group_at_most, total}
+use Rattle.cost_laws.specs.Evaluations.{EvaluatedIsAtMostPlain, OneMemberCostsItsSteps}
+use Rattle.cost_laws.proofs.Counts.{as_many, steps_in}
+use Rattle.cost_laws.proofs.Sums.{group_at_most, one_costs, total}
 
 -- ---- a request
 
@@ -93,6 +93,12 @@ module _ (law : KeepingChangesNothing) (P : Program) (O : Objects) (T : List Tra
       let all = all_spend g (none_unlike n g h) in
       omega (arith, cost, all)
 
+  pub one_spends : (n r : ℕ) → group_fault P O T R n (r ∷ []) ≡ None → cost_of_group P O T R (r ∷ []) ≡ steps_of_all P O T R (r ∷ [])
+  one_spends n r h =
+      let cost = one_costs (costs P O T R r) in
+      let steps = spends r (none_unlike n (r ∷ []) h 0 r refl) in
+      omega (arith, cost, steps)
+
   -- ---- all groups
 
   steps_both : (xs ys : List ℕ) → steps_of_all P O T R (xs ++ ys) ≡ steps_of_all P O T R xs + steps_of_all P O T R ys
@@ -145,3 +151,6 @@ at_most law P O T R S v k h =
     let sound = (or_none (grouping_fault T R) (unsound_group P O T R) parts.0).1 in
     let nodes = nodes_spent law P O T R sound in
     omega (arith, nodes, parts.1, parts.2)
+
+pub one_member : KeepingChangesNothing → OneMemberCostsItsSteps
+one_member law P O T R n r h = one_spends law P O T R n r h

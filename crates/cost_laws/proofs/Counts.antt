@@ -15,7 +15,7 @@ use Rattle.script_meaning.specs.Evaluate.{Flow}
 use Rattle.script_meaning.specs.Run.{Cost, Run, Progress, Outcome, goes, stops, issuing, ◌>>=◌, after, answered, and_cost, last_issuing}
 use Rattle.script_meaning.specs.declared.run.Mark.TheVariants.{Issued as issued}
 use Rattle.script_meaning.specs.declared.run.Stop.TheVariants.{Fault as fault, AnswerFault as answer_fault}
-use Rattle.evaluated_limit.proofs.Walk.{run_holds}
+use Rattle.cost_laws.proofs.Walk.{run_holds}
 
 -- as many costs are kept as steps were spent
 abbrev pub IsCounted : Progress → Type 0

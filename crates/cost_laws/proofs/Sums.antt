@@ -32,3 +32,19 @@ cost_at_most (suc n) css =
 
 pub group_at_most : (css : List (List Cost)) → group_cost css ≤ total css
 group_at_most css = cost_at_most (first_length css) css
+
+-- ---- one member
+
+one_step : (b : Bool) (c : Cost) → cond b 1 (length (c ∷ [])) ≡ 1
+one_step true c = refl
+one_step false c = refl
+
+alone : (cs : List Cost) → cost_of (length cs) (cs ∷ []) ≡ length cs
+alone [] = refl
+alone (c ∷ cs) =
+    let step = one_step (list_all (same_cost c) (c ∷ [])) c in
+    let others = alone cs in
+    omega (arith, step, others)
+
+pub one_costs : (cs : List Cost) → group_cost (cs ∷ []) ≡ length cs
+one_costs cs = alone cs

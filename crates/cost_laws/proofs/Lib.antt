@@ -1,4 +1,4 @@
-mod AtMost
+mod Spending
 mod Counts
 mod Sums
 mod Walk

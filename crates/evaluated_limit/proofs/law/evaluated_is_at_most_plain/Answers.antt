@@ -1,5 +1,0 @@
-use Rattle.evaluated_limit.proofs.AtMost.{at_most}
-use Rattle.evaluated_limit.proofs.law.evaluated_is_at_most_plain.Goals as goal
-
-pub returns : goal.returns
-returns c = at_most c.keeping_costs_changes_nothing.ensures

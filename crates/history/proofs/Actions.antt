@@ -1,5 +1,5 @@
 -- What an operation that is wanted makes of a recording.
-use Rattle.std.proofs.Common.{◌≡◌, ◌∙◌, ℕ, ℤ, [], ◌∷◌, ◌++◌, Option, Some, None, Result, Ok, Err, IfOk, true, false, Bool, cond, refl, ap, sym, subst, arith}
+use Rattle.std.proofs.Common.{◌≡◌, ◌∙◌, ℕ, suc, length, ℤ, [], ◌∷◌, ◌++◌, Option, Some, None, Result, Ok, Err, IfOk, true, false, Bool, cond, refl, ap, sym, subst, arith}
 use Rattle.std.specs.Prelude.{int_le}
 use Rattle.std.specs.declared.alloc.AllocError.{AllocError}
 use Rattle.script_tree.specs.Datum.{Datum}
@@ -25,7 +25,7 @@ use Rattle.object_set.proofs.Sets.{fits_set}
 use Rattle.history.specs.Recordings.{Recorded, Takes, IsTaken, MayCome, IsOffer, choice_of, greater}
 use Rattle.history.specs.Rooms.{Room, WantsNext, and_answer}
 use Rattle.history.specs.Seats.{at_seat, seated}
-use Rattle.history.specs.Visits.{Visit, visit_of}
+use Rattle.history.specs.Visits.{Visit, visit_of, rid_at, number_at}
 use Rattle.history.specs.declared.event.Event.TheVariants as asks
 use Rattle.history.specs.declared.event.Event.{Event}
 use Rattle.history.specs.declared.event.Reply.{Reply}
@@ -100,30 +100,33 @@ pub room_is : {a b : Room} → a.objects ≡ b.objects → a.arrived ≡ b.arriv
 room_is o r s i = record { objects = o i; arrived = r i; open_at = s i }
 
 -- an operation that is done, with its answer kept
-pub acts : (old new : Recorded) (seat : ℕ) (op : Op) (offer : Option ℤ) (choice : Choice) (answer : Datum) (v : Visit)
-    → MayCome old seat (asks.Act op offer) → at_seat old.visits seat ≡ Some v → FitsSet old.objects op
+pub acts : (old new : Recorded) (seat : ℕ) (op : Op) (offer : Option ℤ) (rid number : ℕ) (choice : Choice) (answer : Datum) (v : Visit)
+    → rid ≡ v.rid → number ≡ suc (length v.answers) → MayCome old seat (asks.Act op offer) → at_seat old.visits seat ≡ Some v → FitsSet old.objects op
     → choice ≡ choice_of op.act offer (reading old.objects.clock) → Does op choice old.objects new.objects answer
     → new.arrived ≡ old.arrived → new.program ≡ old.program
     → at_seat new.visits ≡ seated seat (Some (visit_of v.rid v.request (v.answers ++ answer ∷ []))) (at_seat old.visits)
-    → Takes old seat (asks.Act op offer) (Acted choice answer) new
-acts old new seat op offer choice answer v may here fit made does arrived program visits =
+    → Takes old seat (asks.Act op offer) (Acted rid number choice answer) new
+acts old new seat op offer rid number choice answer v of_id of_number may here fit made does arrived program visits =
     let so : choice ≡ choice_of op.act offer (objects_of old.objects op.object) = made ∙ chosen old.objects op.object op.act offer fit in
     let does_so : Does op (choice_of op.act offer (objects_of old.objects op.object)) old.objects new.objects answer
     = subst (λ c. Does op c old.objects new.objects answer) so does in
     let kept : and_answer (at_seat old.visits seat) answer ≡ Some (visit_of v.rid v.request (v.answers ++ answer ∷ []))
     = ap (λ w. and_answer w answer) here in
     record {
-      allowed = (may.0, taken old.objects op.object op.act offer fit may.1);
-      replied = ap (λ c. Acted c answer) so ∙ ap (λ d. Acted (choice_of op.act offer (objects_of old.objects op.object)) d) does_so.answered;
+      allowed = ((may.0, taken old.objects op.object op.act offer fit may.1), (refl, refl));
+      replied = ap (λ r. Acted r number choice answer) (of_id ∙ ap rid_at (sym here))
+          ∙ ap (λ n. Acted (rid_at (at_seat old.visits seat)) n choice answer) (of_number ∙ ap number_at (sym here))
+          ∙ ap (λ c. Acted (rid_at (at_seat old.visits seat)) (number_at (at_seat old.visits seat)) c answer) so
+          ∙ ap (λ d. Acted (rid_at (at_seat old.visits seat)) (number_at (at_seat old.visits seat)) (choice_of op.act offer (objects_of old.objects op.object)) d) does_so.answered;
       left = room_is (λ i o. does_so.left o i) arrived (visits ∙ ap (λ w. seated seat w (at_seat old.visits)) (sym kept ∙ ap (λ d. and_answer (at_seat old.visits seat) d) does_so.answered));
       program = program;
     }
 
 -- the same step from an equal recording, with an equal answer
-pub acts_so : (old before new : Recorded) (seat : ℕ) (event : Event) (choice : Choice) (answer told : Datum) → old ≡ before → told ≡ answer
-    → Takes old seat event (Acted choice answer) new → Takes before seat event (Acted choice told) new
-acts_so old before new seat event choice answer told same equal step =
-    subst (λ r. Takes r seat event (Acted choice told) new) same (subst (λ d. Takes old seat event (Acted choice d) new) (sym equal) step)
+pub acts_so : (old before new : Recorded) (seat : ℕ) (event : Event) (rid number : ℕ) (choice : Choice) (answer told : Datum) → old ≡ before → told ≡ answer
+    → Takes old seat event (Acted rid number choice answer) new → Takes before seat event (Acted rid number choice told) new
+acts_so old before new seat event rid number choice answer told same equal step =
+    subst (λ r. Takes r seat event (Acted rid number choice told) new) same (subst (λ d. Takes old seat event (Acted rid number choice d) new) (sym equal) step)
 
 -- the same of an equal event
 pub takes_so : (old new : Recorded) (seat : ℕ) (event given : Event) (result : Result (Reply × Reply) AllocError) → event ≡ given

@@ -3,7 +3,7 @@ use Rattle.std.proofs.Common.{◌≡◌, ◌∙◌, ℕ, List, [], ◌∷◌, re
 use Rattle.script_tree.specs.Objects.{acted}
 use Rattle.desk.specs.Runs.{Runs}
 use Rattle.desk.specs.declared.bench.Call.{Call}
-use Rattle.history.specs.Histories.{choice_in, happening_by, happening_in, history_of, IsRecorded, RunsAreLegal}
+use Rattle.history.specs.Histories.{choice_in, number_in, rid_in, happening_by, happening_in, history_of, IsRecorded, RunsAreLegal}
 use Rattle.history.specs.Recordings.{Recorded, room_of, happening_at, reply_to, choice_of, Takes}
 use Rattle.history.specs.Rooms.{Room, AreSteps, IsStep, onward, room_after}
 use Rattle.history.specs.declared.event.Event.{Event}
@@ -14,9 +14,9 @@ use Rattle.history.specs.declared.happening.Happening.TheVariants as did
 
 -- The reply tells what happened.
 told : (room : Room) (seat : ℕ) (event : Event) (reply : Reply) → reply ≡ reply_to room (happening_at room seat event) → happening_by seat event reply ≡ happening_at room seat event
-told room seat (Arrive request) reply is = refl
-told room seat (Act op offer) reply is = ap (λ r. did.Act seat op (choice_in r)) is
-told room seat (Depart response path) reply is = refl
+told room seat (Arrive request) reply is = ap (λ r. did.Arrive seat (rid_in r) request) is
+told room seat (Act op offer) reply is = ap (λ r. did.Act seat (rid_in r) (number_in r) op (choice_in r)) is
+told room seat (Depart response path) reply is = ap (λ r. did.Depart seat (rid_in r) response path) is
 
 recorded : (old new : Recorded) (calls : List (Call Event Reply)) → Runs Takes old calls new → IsRecorded old calls new
 recorded old new [] runs = record { legal = tt; left = ap room_of (sym runs) }

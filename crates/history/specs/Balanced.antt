@@ -10,4 +10,4 @@ use Rattle.history.specs.declared.happening.Happening.{Happening}
 -- The trace of a history that is legal and closed is balanced.
 abbrev pub TracesAreBalanced : Type 0
 TracesAreBalanced = (program : Program) (start : Objects) (history : List Happening) → IsLegal program start history → IsClosed start history
-    → IsBalanced (trace_of start history)
+    → IsBalanced (trace_of history)

@@ -14,16 +14,28 @@ use Rattle.history.specs.declared.event.Reply.TheVariants.{Arrived, Acted, Depar
 use Rattle.history.specs.declared.happening.Happening.{Happening}
 use Rattle.history.specs.declared.happening.Happening.TheVariants.{Arrive, Act, Depart}
 
--- the choice that a reply tells
+-- the id that a reply tells
+abbrev pub rid_in : Reply → ℕ
+rid_in (Arrived rid) = rid
+rid_in (Acted rid number choice answer) = rid
+rid_in (Departed rid) = rid
+
+-- the number that it tells of an operation
+abbrev pub number_in : Reply → ℕ
+number_in (Arrived rid) = 0
+number_in (Acted rid number choice answer) = number
+number_in (Departed rid) = 0
+
+-- the choice that it tells
 abbrev pub choice_in : Reply → Choice
 choice_in (Arrived rid) = Nothing
-choice_in (Acted choice answer) = choice
-choice_in Departed = Nothing
+choice_in (Acted rid number choice answer) = choice
+choice_in (Departed rid) = Nothing
 
 abbrev pub happening_by : ℕ → Event → Reply → Happening
-happening_by seat (asks.Arrive request) reply = Arrive seat request
-happening_by seat (asks.Act op offer) reply = Act seat op (choice_in reply)
-happening_by seat (asks.Depart response path) reply = Depart seat response path
+happening_by seat (asks.Arrive request) reply = Arrive seat (rid_in reply) request
+happening_by seat (asks.Act op offer) reply = Act seat (rid_in reply) (number_in reply) op (choice_in reply)
+happening_by seat (asks.Depart response path) reply = Depart seat (rid_in reply) response path
 
 abbrev pub happening_in : Call Event Reply → Happening
 happening_in call = happening_by call.seat call.event call.reply

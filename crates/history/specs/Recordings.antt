@@ -12,7 +12,7 @@ use Rattle.script_tree.specs.declared.operation.Choice.TheVariants.{Nothing, Num
 use Rattle.object_set.specs.ObjectSets.{HeldObjects, objects_of, coded_objects}
 use Rattle.history.specs.Rooms.{Room, WantsNext, EndsWith, IsStep, onward}
 use Rattle.history.specs.Seats.{at_seat}
-use Rattle.history.specs.Visits.{Visit, coded_visit}
+use Rattle.history.specs.Visits.{Visit, coded_visit, rid_at, number_at}
 use Rattle.history.specs.declared.event.Event.{Event}
 use Rattle.history.specs.declared.event.Event.TheVariants as asks
 use Rattle.history.specs.declared.event.Reply.{Reply}
@@ -91,15 +91,16 @@ MayCome r seat event = MayFollow r.program (at_seat r.visits seat) event
 
 -- what happens by an event
 abbrev pub happening_at : Room → ℕ → Event → Happening
-happening_at room seat (asks.Arrive request) = Arrive seat request
-happening_at room seat (asks.Act op offer) = Acts seat op (choice_of op.act offer (room.objects op.object))
-happening_at room seat (asks.Depart response path) = Depart seat response path
+happening_at room seat (asks.Arrive request) = Arrive seat room.arrived request
+happening_at room seat (asks.Act op offer) =
+    Acts seat (rid_at (room.open_at seat)) (number_at (room.open_at seat)) op (choice_of op.act offer (room.objects op.object))
+happening_at room seat (asks.Depart response path) = Depart seat (rid_at (room.open_at seat)) response path
 
 -- what is replied to what happens
 abbrev pub reply_to : Room → Happening → Reply
-reply_to room (Arrive seat request) = Arrived room.arrived
-reply_to room (Acts seat op choice) = Acted choice (acted op.act choice (room.objects op.object)).1
-reply_to room (Depart seat response path) = Departed
+reply_to room (Arrive seat rid request) = Arrived rid
+reply_to room (Acts seat rid number op choice) = Acted rid number choice (acted op.act choice (room.objects op.object)).1
+reply_to room (Depart seat rid response path) = Departed rid
 
 -- The event is a step that the program allows. It is replied to, and leaves the room behind it.
 pub record Takes (old : Recorded) (seat : ℕ) (event : Event) (reply : Reply) (new : Recorded) : Type 0 where

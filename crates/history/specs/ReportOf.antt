@@ -8,8 +8,7 @@ use Rattle.script_tree.specs.declared.path.Path.{Path}
 use Rattle.report.specs.declared.Count.{Count}
 use Rattle.report.specs.declared.LogEntry.{LogEntry}
 use Rattle.report.specs.declared.Report.{Report}
-use Rattle.history.specs.Names.{Named, came, did, went, names_from}
-use Rattle.history.specs.Rooms.{empty_room}
+use Rattle.history.specs.Names.{Named, came, did, went, names}
 use Rattle.history.specs.declared.happening.Happening.{Happening}
 
 -- ---- counts
@@ -65,5 +64,5 @@ report_in names = record {
   groups = map (λ p. filter_map (member_in p) names) (firsts same_path (filter_map path_in names));
 }
 
-unfoldable pub report_of : Objects → List Happening → Report
-report_of start history = report_in (names_from (empty_room start) history)
+unfoldable pub report_of : List Happening → Report
+report_of history = report_in (names history)

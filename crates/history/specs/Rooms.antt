@@ -10,7 +10,7 @@ use Rattle.script_tree.specs.declared.request.Response.{Response}
 use Rattle.script_meaning.specs.Conduct.{Wants, Ends}
 use Rattle.script_meaning.specs.Replay.{ending_of}
 use Rattle.history.specs.Seats.{seated}
-use Rattle.history.specs.Visits.{Visit, visit_of}
+use Rattle.history.specs.Visits.{Visit, visit_of, rid_at, number_at}
 use Rattle.history.specs.declared.happening.Happening.{Happening}
 use Rattle.history.specs.declared.happening.Happening.TheVariants.{Arrive, Act, Depart}
 
@@ -34,12 +34,23 @@ WantsNext program here op = (v : Visit) × (here ≡ Some v) × (ending_of progr
 abbrev pub EndsWith : Program → Option Visit → Response → Path → Type 0
 EndsWith program here response path = (v : Visit) × (here ≡ Some v) × (ending_of program v.request v.answers ≡ Ends response path)
 
+-- What happens is told of the request that is open at the seat, or arrives there.
+abbrev pub IsOfOpen : Room → Happening → Type 0
+IsOfOpen room (Arrive seat rid request) = rid ≡ room.arrived
+IsOfOpen room (Act seat rid number op choice) = (rid ≡ rid_at (room.open_at seat)) × (number ≡ number_at (room.open_at seat))
+IsOfOpen room (Depart seat rid response path) = rid ≡ rid_at (room.open_at seat)
+
 -- A request within the limits arrives where none is open. It acts as it wants to, with a choice that the object takes. It departs as
 -- it ends.
+abbrev pub MayHappen : Program → Room → Happening → Type 0
+MayHappen program room (Arrive seat rid request) = (room.open_at seat ≡ None) × IsRequestWithinLimits request.value
+MayHappen program room (Act seat rid number op choice) =
+    WantsNext program (room.open_at seat) op × (plausible op.act choice (room.objects op.object) ≡ true)
+MayHappen program room (Depart seat rid response path) = EndsWith program (room.open_at seat) response path
+
+-- It may happen, and is told so.
 abbrev pub IsStep : Program → Room → Happening → Type 0
-IsStep program room (Arrive seat request) = (room.open_at seat ≡ None) × IsRequestWithinLimits request.value
-IsStep program room (Act seat op choice) = WantsNext program (room.open_at seat) op × (plausible op.act choice (room.objects op.object) ≡ true)
-IsStep program room (Depart seat response path) = EndsWith program (room.open_at seat) response path
+IsStep program room h = MayHappen program room h × IsOfOpen room h
 
 -- ---- what a step leaves
 
@@ -48,15 +59,15 @@ and_answer None d = None
 and_answer (Some v) d = Some (record v { answers = v.answers ++ d ∷ [] })
 
 abbrev pub onward : Room → Happening → Room
-onward room (Arrive seat request) = record room {
+onward room (Arrive seat rid request) = record room {
   arrived = suc room.arrived;
   open_at = seated seat (Some (visit_of room.arrived request.value [])) room.open_at;
 }
-onward room (Act seat op choice) = record room {
+onward room (Act seat rid number op choice) = record room {
   objects = holding op.object (acted op.act choice (room.objects op.object)).0 room.objects;
   open_at = seated seat (and_answer (room.open_at seat) (acted op.act choice (room.objects op.object)).1) room.open_at;
 }
-onward room (Depart seat response path) = record room { open_at = seated seat None room.open_at }
+onward room (Depart seat rid response path) = record room { open_at = seated seat None room.open_at }
 
 abbrev pub room_after : Room → List Happening → Room
 room_after room [] = room

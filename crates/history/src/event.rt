@@ -17,11 +17,22 @@ pub enum Event {
     Depart(Response, Path),
 }
 
+/// What is told of an event.
 #[derive(Drop)]
 pub enum Reply {
-    /// The id of the request: how many had arrived before it.
-    Arrived(u64),
-    /// The choice that was made, and the operation's answer.
-    Acted(Choice, Value),
-    Departed,
+    /// The request has this id: so many had arrived before it.
+    Arrived {
+        rid: u32,
+    },
+    /// The operation of a request, of this number among those of the request, from 1, with the choice
+    /// that was made, and its answer.
+    Acted {
+        rid: u32,
+        number: u32,
+        choice: Choice,
+        answer: Value,
+    },
+    Departed {
+        rid: u32,
+    },
 }

@@ -1,9 +1,11 @@
-ghost use Rattle.std.specs.Prelude.{◌≡◌, true, Some, Ok, IfOk, OnOk, OnErr};
+ghost use Rattle.std.specs.Prelude.{◌≡◌, ◌+◌, true, Some, Ok, IfOk, OnOk, OnErr};
 ghost use Rattle.script_tree.specs.Objects.{reading};
 ghost use Rattle.object_set.specs.Applied.{FitsSet, Does, takes};
 ghost use Rattle.object_set.specs.ObjectSets.{IsSetOf, objects_of};
 ghost use Rattle.history.specs.Recordings.{IsTaken, MayCome, room_of, choice_of};
 ghost use Rattle.history.specs.Rooms.{empty_room};
+ghost use Rattle.history.specs.Seats.{at_seat};
+ghost use Rattle.history.specs.Visits.{rid_at};
 ghost use Rattle.history.specs.declared.event.Event.TheVariants as asks;
 
 use crate::event::{Event, Reply};
@@ -28,7 +30,7 @@ pub struct Recording {
     alloc: Global,
     program: Arc<Program>,
     objects: ObjectSet,
-    arrived: u64,
+    arrived: u32,
     visits: Vec<Option<Visit>>,
 }
 
@@ -88,11 +90,11 @@ impl Recording {
     {
         request.keeps_limits();
         let rid = self.arrived;
-        let arrived = rid.checked_add(1).ok_or(AllocError)?;
+        let arrived = one_more(rid)?;
         let visit = Visit::new(self.alloc, rid, request.clone()?);
         put_at(&mut self.visits, seat, visit)?;
         self.arrived = arrived;
-        Ok((Reply::Arrived(rid), Reply::Arrived(rid)))
+        Ok((Reply::Arrived { rid }, Reply::Arrived { rid }))
     }
 
     /// The request at a seat does an operation.
@@ -105,10 +107,26 @@ impl Recording {
         if place < self.visits.len()
             && let Some(visit) = &mut self.visits[place]
         {
+            let rid = visit.rid;
+            let number = one_more(visit.operations)?;
             visit.answers.reserve(1)?;
             let (answer, kept, told) = thrice(&mut self.objects, op, choice)?;
             visit.answers.push_reserved(answer);
-            return Ok((Reply::Acted(choice, kept), Reply::Acted(choice, told)));
+            visit.operations = number;
+            return Ok((
+                Reply::Acted {
+                    rid,
+                    number,
+                    choice,
+                    answer: kept,
+                },
+                Reply::Acted {
+                    rid,
+                    number,
+                    choice,
+                    answer: told,
+                },
+            ));
         }
         unreachable!()
     }
@@ -118,9 +136,26 @@ impl Recording {
         requires { MayCome self.old seat (asks.Depart response.now path.now) }
         ensures { IsTaken seat (asks.Depart response.now path.now) self.old self.new (Ok result) }
     {
+        let rid = self.rid_at(seat);
         clear_at(&mut self.visits, seat);
-        (Reply::Departed, Reply::Departed)
+        (Reply::Departed { rid }, Reply::Departed { rid })
     }
+
+    /// The id of the request at a seat; 0 where none is open.
+    fn rid_at(&self, seat: u32) -> u32
+        ensures { result ≡ rid_at (at_seat self.now.visits seat) }
+    {
+        match self.visits.get(seat as usize) {
+            Some(Some(visit)) => visit.rid,
+            Some(None) | None => 0,
+        }
+    }
+}
+
+fn one_more(count: u32) -> Result<u32, AllocError>
+    ensures { IfOk result (λ more. more ≡ count + 1) }
+{
+    count.checked_add(1).ok_or(AllocError)
 }
 
 /// Does an operation that fits, with a choice that its object takes, and gives the answer three times.

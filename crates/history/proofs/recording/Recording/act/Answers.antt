@@ -21,7 +21,7 @@ thrice-requires-clause-fits c =
     let may : MayCome (recorded_in c.self.inside) c.args.seat (asks.Act c.args.op.now c.args.offer)
     = subst (λ r. MayCome r c.args.seat (asks.Act c.args.op.now c.args.offer)) (sym c.self.view_is) c.requires in
     wanted_fits c.self.inside.program.value c.self.inside.objects (visit_in c.visit.inside) c.args.op.now c.self.invariant.objects c.self.invariant.valid
-    c.visit.invariant (subst (λ h. WantsNext c.self.inside.program.value h c.args.op.now) here may.0)
+    c.visit.invariant.short (subst (λ h. WantsNext c.self.inside.program.value h c.args.op.now) here may.0)
 
 pub thrice-requires-clause-taken : goal.thrice-requires-clause-taken
 thrice-requires-clause-taken c =
@@ -39,16 +39,16 @@ returns c =
     let may : MayCome (recorded_in c.self.inside) c.args.seat (asks.Act c.args.op.now c.args.offer)
     = subst (λ r. MayCome r c.args.seat (asks.Act c.args.op.now c.args.offer)) (sym c.self.view_is) c.requires in
     let fit = wanted_fits c.self.inside.program.value c.self.inside.objects (visit_in c.visit.inside) c.args.op.now c.self.invariant.objects c.self.invariant.valid
-    c.visit.invariant (subst (λ h. WantsNext c.self.inside.program.value h c.args.op.now) here may.0) in
+    c.visit.invariant.short (subst (λ h. WantsNext c.self.inside.program.value h c.args.op.now) here may.0) in
     let inside = c.self.inside in
     let answered : at_seat (slice_set inside.visits.items c.args.seat (Some (visit_of c.visit.inside.rid c.visit.inside.request.value c.push_reserved.new.self.items)))
     ≡ seated c.args.seat (Some (visit_of c.visit.inside.rid c.visit.inside.request.value (c.visit.inside.answers.items ++ c.in_ok-answer.answer ∷ []))) (at_seat inside.visits.items)
     = set_seated inside.visits.items c.args.seat _ (omega arith)
     ∙ ap (λ ds. seated c.args.seat (Some (visit_of c.visit.inside.rid c.visit.inside.request.value ds)) (at_seat inside.visits.items))
     (c.push_reserved.ensures.items ∙ ap (λ ds. ds ++ c.in_ok-answer.answer ∷ []) c.reserve.ensures.items) in
-    let step = acts (recorded_in inside) _ c.args.seat c.args.op.now c.args.offer c.choice_of-choice.result c.in_ok-answer.answer (visit_in c.visit.inside)
-    may here fit c.choice_of-choice.ensures
+    let step = acts (recorded_in inside) _ c.args.seat c.args.op.now c.args.offer c.visit.inside.rid c.in_ok-number.number c.choice_of-choice.result c.in_ok-answer.answer
+    (visit_in c.visit.inside) refl (omega (arith, c.in_ok-number.ensures, c.visit.invariant.counted)) may here fit c.choice_of-choice.ensures
     c.in_ok-answer.ensures.done refl refl answered in (
-      acts_so (recorded_in inside) c.args.self.now _ c.args.seat _ c.choice_of-choice.result c.in_ok-answer.answer c.in_ok-answer.kept c.self.view_is c.in_ok-answer.ensures.same.0 step,
-      ap (λ d. Acted c.choice_of-choice.result d) (c.in_ok-answer.ensures.same.0 ∙ sym c.in_ok-answer.ensures.same.1),
+      acts_so (recorded_in inside) c.args.self.now _ c.args.seat _ c.visit.inside.rid c.in_ok-number.number c.choice_of-choice.result c.in_ok-answer.answer c.in_ok-answer.kept c.self.view_is c.in_ok-answer.ensures.same.0 step,
+      ap (λ d. Acted c.visit.inside.rid c.in_ok-number.number c.choice_of-choice.result d) (c.in_ok-answer.ensures.same.0 ∙ sym c.in_ok-answer.ensures.same.1),
     )

@@ -21,7 +21,7 @@ use Rattle.audit_meaning.specs.Groups.{group_fault, unsound_group}
 use Rattle.audit_meaning.specs.GroupFaults.{member_of_no_request, second_member, request_without_group, if_without_group, grouping_fault, members}
 use Rattle.audit_meaning.specs.Verdicts.{judged, evaluated_nodes, plain_steps, verdict}
 use Rattle.audit_meaning.specs.declared.verdict.Verdict.TheVariants.{Accepted}
-use Rattle.history.specs.Names.{Named, came, did, went, names_from}
+use Rattle.history.specs.Names.{Named, came, did, went, names}
 use Rattle.history.specs.TraceOf.{event_in, trace_in, trace_of}
 use Rattle.history.specs.ReportOf.{member_in, path_in, report_in, report_of}
 use Rattle.script_tree.specs.Paths.{same_path}
@@ -159,4 +159,4 @@ module _ (P : Program) (O : Objects) (E : List Named) (run : IsRun P (hall O) E)
 pub completeness : RecordedIsAccepted
 unfolding trace_of report_of
 completeness P O H valid legal closed =
-    is_accepted P O (names_from (empty_room O) H) (run_of P O H legal closed) (asks_fitting P valid) (short_requests P H (empty_room O) legal) (same_shape P)
+    is_accepted P O (names H) (run_of P O H legal closed) (asks_fitting P valid) (short_requests P H (empty_room O) legal) (same_shape P)

@@ -16,8 +16,8 @@ use Rattle.script_tree.specs.declared.request.Response.{Response}
 use Rattle.script_tree.specs.Objects.{Objects, acted, plausible, holding}
 use Rattle.history.specs.declared.happening.Happening.{Happening}
 use Rattle.history.specs.declared.happening.Happening.TheVariants.{Arrive, Act as Acts, Depart}
-use Rattle.history.specs.Names.{came, did, went, rid_at, number_at, names_from}
-use Rattle.history.specs.Visits.{Visit, visit_of}
+use Rattle.history.specs.Names.{came, did, went, names}
+use Rattle.history.specs.Visits.{Visit, visit_of, rid_at, number_at}
 use Rattle.history.specs.Rooms.{Room, empty_room, and_answer, onward, room_after, AreSteps, IsLegal, IsClosed}
 use Rattle.history.specs.Seats.{seated}
 use Rattle.history.proofs.Seated.{here_seated, there_seated}
@@ -91,7 +91,7 @@ like_arrives room z s q like free = record {
 
 -- ---- an operation
 
-like_performs : (room : Room) (z : Hall) (s k : ℕ) (op : Op) (c : Choice) (u : Visit) → Like room z → room.open_at s ≡ Some u → Like (onward room (Acts s op c)) (next_hall z (did u.rid k op c))
+like_performs : (room : Room) (z : Hall) (s k : ℕ) (op : Op) (c : Choice) (u : Visit) → Like room z → room.open_at s ≡ Some u → Like (onward room (Acts s u.rid k op c)) (next_hall z (did u.rid k op c))
 like_performs room z s k op c u like here = record {
   objects = ap (λ (f : Objects). holding op.object (acted op.act c (f op.object)).0 f) like.objects;
   arrived = like.arrived;
@@ -135,7 +135,7 @@ like_performs room z s k op c u like here = record {
 
 -- ---- a departure
 
-like_departs : (room : Room) (z : Hall) (s : ℕ) (x : Response) (p : Path) (u : Visit) → Like room z → room.open_at s ≡ Some u → Like (onward room (Depart s x p)) (next_hall z (went u.rid x p))
+like_departs : (room : Room) (z : Hall) (s : ℕ) (x : Response) (p : Path) (u : Visit) → Like room z → room.open_at s ≡ Some u → Like (onward room (Depart s u.rid x p)) (next_hall z (went u.rid x p))
 like_departs room z s x p u like here = record {
   objects = like.objects;
   arrived = like.arrived;
@@ -156,30 +156,31 @@ like_departs room z s x p u like here = record {
   ];
 }
 
-run_from : (P : Program) (H : List Happening) (room : Room) (z : Hall) → Like room z → AreSteps P room H → ((s : ℕ) → (room_after room H).open_at s ≡ None) → IsRun P z (names_from room H)
+run_from : (P : Program) (H : List Happening) (room : Room) (z : Hall) → Like room z → AreSteps P room H → ((s : ℕ) → (room_after room H).open_at s ≡ None) → IsRun P z (names H)
 run_from P [] room z like legal closed = λ r. by_visit r (z.visits r) refl
   where
     by_visit : (r : ℕ) (v : Option by.Visit) → z.visits r ≡ v → v ≡ None
     by_visit r None e = refl
     by_visit r (Some v) e = let s = like.seated_all r v e in absurd (none_is_not (sym (closed s.0) ∙ s.2))
-run_from P (Arrive s q ∷ H) room z like legal closed =
-    (sym like.arrived, run_from P H (onward room (Arrive s q)) (next_hall z (came room.arrived q.value)) (like_arrives room z s q.value like legal.0.0) legal.1 closed)
-run_from P (Acts s op c ∷ H) room z like legal closed =
-    let step = legal.0.0 in
+run_from P (Arrive s r q ∷ H) room z like ((may, named), legal) closed =
+    subst (λ d. Takes P z d × IsRun P (next_hall z d) (names H)) (ap (λ i. came i q.value) (sym named))
+    (sym like.arrived, run_from P H (onward room (Arrive s r q)) (next_hall z (came room.arrived q.value)) (like_arrives room z s q.value like may.0) legal closed)
+run_from P (Acts s r n op c ∷ H) room z like (((step, choice), (id, number)), legal) closed =
     let u = step.0 in
-    subst (λ w. Takes P z (did (rid_at w) (number_at w) op c) × IsRun P (next_hall z (did (rid_at w) (number_at w) op c)) (names_from (onward room (Acts s op c)) H)) (sym step.1) (
-      (of_visit u, like.seats s u step.1, refl, step.2, subst (λ (f : Objects). plausible op.act c (f op.object) ≡ true) (sym like.objects) legal.0.1),
-      run_from P H (onward room (Acts s op c)) (next_hall z (did u.rid (suc (length u.answers)) op c)) (like_performs room z s (suc (length u.answers)) op c u like step.1) legal.1 closed,
+    let id_is : u.rid ≡ r = ap rid_at (sym step.1) ∙ sym id in
+    let number_is : suc (length u.answers) ≡ n = ap number_at (sym step.1) ∙ sym number in
+    subst (λ d. Takes P z d × IsRun P (next_hall z d) (names H)) (λ i. did (id_is i) (number_is i) op c) (
+      (of_visit u, like.seats s u step.1, refl, step.2, subst (λ (f : Objects). plausible op.act c (f op.object) ≡ true) (sym like.objects) choice),
+      run_from P H (onward room (Acts s r n op c)) (next_hall z (did u.rid (suc (length u.answers)) op c)) (like_performs room z s (suc (length u.answers)) op c u like step.1) legal closed,
     )
-run_from P (Depart s x p ∷ H) room z like legal closed =
-    let step = legal.0 in
+run_from P (Depart s r x p ∷ H) room z like ((step, id), legal) closed =
     let u = step.0 in
-    subst (λ w. Takes P z (went (rid_at w) x p) × IsRun P (next_hall z (went (rid_at w) x p)) (names_from (onward room (Depart s x p)) H)) (sym step.1) (
+    subst (λ d. Takes P z d × IsRun P (next_hall z d) (names H)) (ap (λ i. went i x p) (ap rid_at (sym step.1) ∙ sym id)) (
       (of_visit u, like.seats s u step.1, step.2),
-      run_from P H (onward room (Depart s x p)) (next_hall z (went u.rid x p)) (like_departs room z s x p u like step.1) legal.1 closed,
+      run_from P H (onward room (Depart s r x p)) (next_hall z (went u.rid x p)) (like_departs room z s x p u like step.1) legal closed,
     )
 
-pub run_of : (P : Program) (O : Objects) (H : List Happening) → IsLegal P O H → IsClosed O H → IsRun P (hall O) (names_from (empty_room O) H)
+pub run_of : (P : Program) (O : Objects) (H : List Happening) → IsLegal P O H → IsClosed O H → IsRun P (hall O) (names H)
 run_of P O H legal closed = run_from P H (empty_room O) (hall O) (record {
   objects = refl;
   arrived = refl;
@@ -206,10 +207,10 @@ not_came e = subst IsAnswer e tt
     IsAnswer (Answered r x) = Unit {0}
 
 -- who arrives is within the limits
-pub short_requests : (P : Program) (H : List Happening) (room : Room) → AreSteps P room H → HasShortRequests (trace_in (names_from room H))
+pub short_requests : (P : Program) (H : List Happening) (room : Room) → AreSteps P room H → HasShortRequests (trace_in (names H))
 short_requests P [] room legal i r q e = absurd (none_is_not e)
-short_requests P (Arrive s p ∷ H) room legal zero r q e = subst (λ x. IsRequestWithinLimits x) (came_is (some_is e)) legal.0.1
-short_requests P (Arrive s p ∷ H) room legal (suc i) r q e = short_requests P H (onward room (Arrive s p)) legal.1 i r q e
-short_requests P (Acts s op c ∷ H) room legal i r q e = short_requests P H (onward room (Acts s op c)) legal.1 i r q e
-short_requests P (Depart s x p ∷ H) room legal zero r q e = absurd (not_came (some_is e))
-short_requests P (Depart s x p ∷ H) room legal (suc i) r q e = short_requests P H (onward room (Depart s x p)) legal.1 i r q e
+short_requests P (Arrive s a p ∷ H) room (((free, short), named), legal) zero r q e = subst (λ x. IsRequestWithinLimits x) (came_is (some_is e)) short
+short_requests P (Arrive s a p ∷ H) room (may, legal) (suc i) r q e = short_requests P H (onward room (Arrive s a p)) legal i r q e
+short_requests P (Acts s a n op c ∷ H) room (may, legal) i r q e = short_requests P H (onward room (Acts s a n op c)) legal i r q e
+short_requests P (Depart s a x p ∷ H) room (may, legal) zero r q e = absurd (not_came (some_is e))
+short_requests P (Depart s a x p ∷ H) room (may, legal) (suc i) r q e = short_requests P H (onward room (Depart s a x p)) legal i r q e

@@ -21,4 +21,4 @@ abbrev pub RecordedIsAccepted : Type 0
 RecordedIsAccepted = (program : Program) (start : Objects) (history : List Happening)
     → IsValid program.declarations
     → IsLegal program start history → IsClosed start history
-    → (schedule : List Moment) × (evaluated : ℕ) × (steps : ℕ) × (verdict program start (trace_of start history) (report_of start history) ≡ Accepted schedule evaluated steps)
+    → (schedule : List Moment) × (evaluated : ℕ) × (steps : ℕ) × (verdict program start (trace_of history) (report_of history) ≡ Accepted schedule evaluated steps)

@@ -195,7 +195,3 @@ counts_one old new rid more put is r = ap (λ (f : ℕ → Option ℕ). unwrap_o
 pub on_ok_all : {X : Type 0} (A P : X → Type 0) (result : Result (Unit {0}) AllocError) → ((x : X) → A x → OnOk result (P x)) → OnOk result ((x : X) → A x → P x)
 on_ok_all A P (Ok u) all = all
 on_ok_all A P (Err e) all = tt
-
-pub on_ok_each : {X : Type 0} (P : X → Type 0) (result : Result (Unit {0}) AllocError) → ((x : X) → OnOk result (P x)) → OnOk result ((x : X) → P x)
-on_ok_each P (Ok u) all = all
-on_ok_each P (Err e) all = tt

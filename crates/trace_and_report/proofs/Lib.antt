@@ -4,8 +4,6 @@ pub mod Drafts
 pub mod Files
 pub mod Groupings
 pub mod Groups
-pub mod Journals
-mod Namings
 pub mod Reports
 pub mod TraceFollows
 pub mod TraceLimits

@@ -2,8 +2,7 @@
 use Rattle.std.proofs.Common.{◌≡◌, List, [], ◌∷◌, length, refl, arith}
 use Rattle.std.specs.Prelude.{filter_map}
 use Rattle.history.specs.Arrivals.{arrivals}
-use Rattle.history.specs.Names.{names_from, rid_at}
-use Rattle.history.specs.Rooms.{Room, onward}
+use Rattle.history.specs.Names.{names}
 use Rattle.history.specs.TraceOf.{trace_in}
 use Rattle.history.specs.declared.happening.Happening.{Happening}
 use Rattle.history.specs.declared.happening.Happening.TheVariants.{Arrive, Act, Depart}
@@ -12,18 +11,14 @@ use Rattle.trace_format.specs.Events.{request_count}
 use Rattle.trace_and_report.specs.Draft.{arrival_in}
 use Rattle.trace_and_report.proofs.TraceFollows.{count_split}
 
-pub requests_counted : (room : Room) (history : List Happening) → request_count (trace_in (names_from room history)) ≡ length (arrivals history)
-requests_counted room [] = refl
-requests_counted room (Arrive seat request ∷ rest) =
-    let after = onward room (Arrive seat request) in
-    omega (arith, count_split (Asked room.arrived request.value) (trace_in (names_from after rest)), requests_counted after rest)
-requests_counted room (Act seat op choice ∷ rest) = requests_counted (onward room (Act seat op choice)) rest
-requests_counted room (Depart seat response path ∷ rest) =
-    let after = onward room (Depart seat response path) in
-    omega (arith, count_split (Answered (rid_at (room.open_at seat)) response) (trace_in (names_from after rest)), requests_counted after rest)
+pub requests_counted : (history : List Happening) → request_count (trace_in (names history)) ≡ length (arrivals history)
+requests_counted [] = refl
+requests_counted (Arrive seat rid request ∷ rest) = omega (arith, count_split (Asked rid request.value) (trace_in (names rest)), requests_counted rest)
+requests_counted (Act seat rid number op choice ∷ rest) = requests_counted rest
+requests_counted (Depart seat rid response path ∷ rest) = omega (arith, count_split (Answered rid response) (trace_in (names rest)), requests_counted rest)
 
-pub arrivals_counted : (room : Room) (history : List Happening) → length (filter_map arrival_in (names_from room history)) ≡ length (arrivals history)
-arrivals_counted room [] = refl
-arrivals_counted room (Arrive seat request ∷ rest) = omega (arith, arrivals_counted (onward room (Arrive seat request)) rest)
-arrivals_counted room (Act seat op choice ∷ rest) = arrivals_counted (onward room (Act seat op choice)) rest
-arrivals_counted room (Depart seat response path ∷ rest) = arrivals_counted (onward room (Depart seat response path)) rest
+pub arrivals_counted : (history : List Happening) → length (filter_map arrival_in (names history)) ≡ length (arrivals history)
+arrivals_counted [] = refl
+arrivals_counted (Arrive seat rid request ∷ rest) = omega (arith, arrivals_counted rest)
+arrivals_counted (Act seat rid number op choice ∷ rest) = arrivals_counted rest
+arrivals_counted (Depart seat rid response path ∷ rest) = arrivals_counted rest

@@ -1,7 +1,6 @@
 pub mod Draft
 pub mod Grouped
 pub mod Journaled
-pub mod Naming
 pub mod Recorded
 pub mod Widths
 pub mod Written

@@ -1,8 +1,7 @@
 //! How many operations each request did, in a list by id.
-ghost use Rattle.std.specs.Prelude.{◌≡◌, ℕ, OnOk};
+ghost use Rattle.std.specs.Prelude.{◌≡◌, ◌+◌, ℕ, IfOk, OnOk};
 ghost use Rattle.trace_and_report.specs.Draft.{counted, one_more_of};
 
-use crate::naming::one_more;
 use history::seats::put_at;
 use std::alloc::AllocError;
 
@@ -21,4 +20,10 @@ pub fn counted(operations: &[Option<u32>], rid: u32) -> u32
 {
     let here = operations.get(rid as usize).copied().flatten();
     here.unwrap_or(0)
+}
+
+fn one_more(count: u32) -> Result<u32, AllocError>
+    ensures { IfOk result (λ more. more ≡ count + 1) }
+{
+    count.checked_add(1).ok_or(AllocError)
 }

@@ -5,8 +5,7 @@ ghost use Rattle.script_tree.specs.declared.path.Path.{Path as Taken};
 ghost use Rattle.script_tree.specs.declared.request.Response.{Response as Answered};
 ghost use Rattle.script_fit.specs.FitsOperation.{FitsOperation};
 ghost use Rattle.history.specs.Journals.{CanHappen};
-ghost use Rattle.history.specs.Names.{Named, came, did, went, name, rid_in, number_in};
-ghost use Rattle.history.specs.Rooms.{Room};
+ghost use Rattle.history.specs.Names.{Named, came, did, went, name};
 ghost use Rattle.trace_and_report.specs.Draft.{IsOfNames, TakesIn};
 ghost use Rattle.trace_and_report.specs.Grouped.{groups_in, HaveMembers};
 ghost use Rattle.trace_and_report.specs.Written.{AreFiles};
@@ -56,21 +55,26 @@ impl Draft {
         })
     }
 
-    /// Takes in what happened to a request: its id, and of an operation also its number.
-    pub(crate) fn take(
-        &mut self,
-        rid: u32,
-        number: u32,
-        happening: Happening,
-    ) -> Result<(), AllocError>
+    /// Takes in what happened to a request.
+    pub(crate) fn take(&mut self, happening: Happening) -> Result<(), AllocError>
         requires { CanHappen happening }
-        ensures { (room : Room) → rid ≡ rid_in room happening → number ≡ number_in room happening
-            → TakesIn (name room happening) self.old self.new result }
+        ensures { TakesIn (name happening) self.old self.new result }
     {
         match happening {
-            Happening::Arrive(_seat, request) => self.arrive(rid, &request),
-            Happening::Act(_seat, op, choice) => self.act(rid, number, op, choice),
-            Happening::Depart(_seat, response, path) => self.depart(rid, &response, path),
+            Happening::Arrive { rid, request, .. } => self.arrive(rid, &request),
+            Happening::Act {
+                rid,
+                number,
+                op,
+                choice,
+                ..
+            } => self.act(rid, number, op, choice),
+            Happening::Depart {
+                rid,
+                response,
+                path,
+                ..
+            } => self.depart(rid, &response, path),
         }
     }
 

@@ -1,13 +1,10 @@
 ghost use Rattle.std.specs.Prelude.{[], List, IfOk};
 ghost use Rattle.history.specs.declared.happening.Happening.{Happening as Happened};
-ghost use Rattle.history.specs.Names.{names_from};
-ghost use Rattle.history.specs.Rooms.{empty_room};
-ghost use Rattle.script_tree.specs.Objects.{Objects};
+ghost use Rattle.history.specs.Names.{names};
 ghost use Rattle.trace_and_report.specs.Journaled.{Keeps};
 ghost use Rattle.trace_and_report.specs.Written.{AreFiles};
 
 use crate::draft::Draft;
-use crate::naming::Naming;
 use crate::recorded::Recorded;
 use history::{Happening, Journal};
 use std::alloc::{AllocError, Global};
@@ -16,7 +13,6 @@ use std::alloc::{AllocError, Global};
 /// of the report what its records are made of.
 #[derive(Drop)]
 pub struct FileJournal {
-    naming: Naming,
     draft: Draft,
 }
 
@@ -26,7 +22,6 @@ impl FileJournal {
         ensures { IfOk result (Keeps []) }
     {
         Ok(FileJournal {
-            naming: Naming::new(alloc),
             draft: Draft::new(alloc)?,
         })
     }
@@ -35,8 +30,8 @@ impl FileJournal {
     /// written.
     pub fn finish(self) -> Result<Recorded, AllocError>
         requires { (history : List Happened) × Keeps history self }
-        ensures { (start : Objects) (history : List Happened) → Keeps history self
-            → IfOk result (AreFiles (names_from (empty_room start) history)) }
+        ensures { (history : List Happened) → Keeps history self
+            → IfOk result (AreFiles (names history)) }
     {
         self.draft.finish()
     }
@@ -46,7 +41,6 @@ impl Journal for FileJournal {
     ghost keeps = { Keeps };
 
     fn take(&mut self, happening: Happening) -> Result<(), AllocError> {
-        let name = self.naming.pass(&happening)?;
-        self.draft.take(name.rid, name.number, happening)
+        self.draft.take(happening)
     }
 }

@@ -6,7 +6,6 @@ mod draft;
 pub mod grouped;
 mod journal;
 mod logs;
-pub mod naming;
 pub mod recorded;
 pub mod widths;
 mod writing;

@@ -15,18 +15,18 @@ use Rattle.audit_completeness.specs.Completeness.{RecordedIsAccepted, IsAccepted
 use Rattle.whole_history.specs.Accepted.{IsAcceptedTrace, IsAcceptedReport}
 
 accepted : RecordedIsAccepted → (program : Program) (start : Objects) (history : List Happening) → IsValid program.declarations → IsLegal program start history → IsClosed start history
-    → IsAccepted (verdict program start (trace_of start history) (report_of start history))
+    → IsAccepted (verdict program start (trace_of history) (report_of history))
 accepted law program start history valid legal closed = subst IsAccepted (sym (law program start history valid legal closed).3) tt
 
-pub trace_accepted : RecordedIsAccepted → (history : List Happening) (trace : List TraceEvent) → ((start : Objects) → trace ≡ trace_of start history) → IsAcceptedTrace history trace
+pub trace_accepted : RecordedIsAccepted → (history : List Happening) (trace : List TraceEvent) → trace ≡ trace_of history → IsAcceptedTrace history trace
 trace_accepted law history trace is = λ program start valid legal closed.
-    subst (λ t. IsAccepted (verdict program start t (report_of start history))) (sym (is start)) (accepted law program start history valid legal closed)
+    subst (λ t. IsAccepted (verdict program start t (report_of history))) (sym is) (accepted law program start history valid legal closed)
 
-report_accepted : RecordedIsAccepted → (history : List Happening) (report : Report) → ((start : Objects) → report ≡ report_of start history) → IsAcceptedReport history report
+report_accepted : RecordedIsAccepted → (history : List Happening) (report : Report) → report ≡ report_of history → IsAcceptedReport history report
 report_accepted law history report is = λ program start valid legal closed.
-    subst (λ r. IsAccepted (verdict program start (trace_of start history) r)) (sym (is start)) (accepted law program start history valid legal closed)
+    subst (λ r. IsAccepted (verdict program start (trace_of history) r)) (sym is) (accepted law program start history valid legal closed)
 
-pub report_told : RecordedIsAccepted → (history : List Happening) (result : Result Report AllocError) → ((start : Objects) → IfOk result (λ report. report ≡ report_of start history))
+pub report_told : RecordedIsAccepted → (history : List Happening) (result : Result Report AllocError) → IfOk result (λ report. report ≡ report_of history)
     → IfOk result (IsAcceptedReport history)
 report_told law history (Ok report) is = report_accepted law history report is
 report_told law history (Err e) is = tt

@@ -1,7 +1,6 @@
 -- The file of a trace, with one event more.
 use Rattle.std.proofs.Common.{◌≡◌, ◌∙◌, ℕ, ◌≤◌, List, [], ◌∷◌, ◌++◌, length, append-nil, Some, arith, ap, sym, subst}
 use Rattle.std.specs.List.{cons_option}
-use Rattle.script_tree.specs.Objects.{Objects}
 use Rattle.script_tree.specs.declared.limits.TheConstants.{MOST_REQUESTS}
 use Rattle.script_tree.specs.declared.operation.Choice.{Choice}
 use Rattle.script_tree.specs.declared.operation.Op.{Op}
@@ -10,8 +9,7 @@ use Rattle.wire.specs.Files.{IsExact, Spells, file_spelling, record_spelling, re
 use Rattle.wire.specs.declared.limits.TheConstants.{MOST_FILE_BYTES}
 use Rattle.trace_format.specs.Events.{trace_format}
 use Rattle.history.specs.Arrivals.{arrivals}
-use Rattle.history.specs.Names.{Named, name, names_from}
-use Rattle.history.specs.Rooms.{Room, empty_room}
+use Rattle.history.specs.Names.{Named, name, names}
 use Rattle.history.specs.TraceOf.{event_in, trace_in, trace_of}
 use Rattle.history.specs.declared.happening.Happening.{Happening}
 use Rattle.history.specs.declared.happening.Happening.TheVariants.{Act}
@@ -37,27 +35,27 @@ event_more names named e old new is was more may = record {
 }
 
 -- An operation is no event.
-pub act_taken : (h : Happening) (seat : ℕ) (op : Op) (choice : Choice) → h ≡ Act seat op choice → (room : Room) (names : List Named) (draft : TraceDraft)
-    → IsTraceDraft names draft → IsTraceDraft (names ++ name room h ∷ []) draft
-act_taken h seat op choice is room names draft was =
-    let named : Named = name room (Act seat op choice) in
+pub act_taken : (h : Happening) (seat rid number : ℕ) (op : Op) (choice : Choice) → h ≡ Act seat rid number op choice → (names : List Named) (draft : TraceDraft)
+    → IsTraceDraft names draft → IsTraceDraft (names ++ name h ∷ []) draft
+act_taken h seat rid number op choice is names draft was =
+    let named : Named = name (Act seat rid number op choice) in
     let same : trace_in (names ++ named ∷ []) ≡ trace_in names = filter_map_more event_in names named ∙ append-nil (trace_in names) in
-    subst (λ h. IsTraceDraft (names ++ name room h ∷ []) draft) (sym is) (record {
+    subst (λ h. IsTraceDraft (names ++ name h ∷ []) draft) (sym is) (record {
       bytes = was.bytes ∙ sym (ap (file_spelling trace_format) same);
       spellable = subst (Each IsSpellableEvent) (sym same) was.spellable;
     })
 
 -- What was made of the whole history is read as its trace.
 pub spells : (history : List Happening) (draft : TraceDraft) → length (arrivals history) ≤ MOST_REQUESTS → length draft.bytes.items ≤ MOST_FILE_BYTES
-    → (start : Objects) → IsTraceDraft (names_from (empty_room start) history) draft → Spells trace_format draft.bytes.items (trace_of start history)
+    → IsTraceDraft (names history) draft → Spells trace_format draft.bytes.items (trace_of history)
 unfolding trace_of
-spells history draft few short start is =
-    events_read_again (trace_in (names_from (empty_room start) history)) draft.bytes.items (omega (arith, few, requests_counted (empty_room start) history))
+spells history draft few short is =
+    events_read_again (trace_in (names history)) draft.bytes.items (omega (arith, few, requests_counted history))
     is.spellable (is.bytes, short)
 
 -- Whatever is read there is its trace.
 pub read_as : IsExact trace_format → (history : List Happening) (draft : TraceDraft) (trace : List TraceEvent) → length (arrivals history) ≤ MOST_REQUESTS
-    → length draft.bytes.items ≤ MOST_FILE_BYTES → ((start : Objects) → IsTraceDraft (names_from (empty_room start) history) draft)
-    → Spells trace_format draft.bytes.items trace → (start : Objects) → trace ≡ trace_of start history
-read_as exact history draft trace few short is spelled start =
-    exact.one_reading draft.bytes.items trace (trace_of start history) spelled (spells history draft few short start (is start))
+    → length draft.bytes.items ≤ MOST_FILE_BYTES → IsTraceDraft (names history) draft
+    → Spells trace_format draft.bytes.items trace → trace ≡ trace_of history
+read_as exact history draft trace few short is spelled =
+    exact.one_reading draft.bytes.items trace (trace_of history) spelled (spells history draft few short is)

@@ -16,10 +16,10 @@ use Rattle.audit_completeness.specs.Completeness.{IsAccepted}
 abbrev pub IsAcceptedTrace : List Happening → List TraceEvent → Type 0
 IsAcceptedTrace history trace =
     (program : Program) (start : Objects) → IsValid program.declarations → IsLegal program start history → IsClosed start history
-    → IsAccepted (verdict program start trace (report_of start history))
+    → IsAccepted (verdict program start trace (report_of history))
 
 -- The same of this report, with the trace of the history.
 abbrev pub IsAcceptedReport : List Happening → Report → Type 0
 IsAcceptedReport history report =
     (program : Program) (start : Objects) → IsValid program.declarations → IsLegal program start history → IsClosed start history
-    → IsAccepted (verdict program start (trace_of start history) report)
+    → IsAccepted (verdict program start (trace_of history) report)

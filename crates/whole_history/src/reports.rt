@@ -1,5 +1,4 @@
 ghost use Rattle.std.specs.Prelude.{◌≡◌, [], List, map, IfOk};
-ghost use Rattle.script_tree.specs.Objects.{Objects};
 ghost use Rattle.history.specs.Names.{Named, came, did, went};
 ghost use Rattle.history.specs.ReportOf.{report_in, report_of};
 ghost use Rattle.trace_and_report.specs.Draft.{count_at};
@@ -20,7 +19,6 @@ use script_tree::request::Response;
 use std::alloc::{AllocError, Global};
 use trace_and_report::counts::{count, counted};
 use trace_and_report::grouped::{Grouped, add_member, no_groups};
-use trace_and_report::naming::Name;
 use trace_format::packed::PackedRequest;
 
 /// The parts of a report, while it is made.
@@ -38,11 +36,22 @@ pub(crate) struct ReportDraft {
 impl Draft for ReportDraft {
     ghost is_of = { IsReportDraft };
 
-    fn take(&mut self, name: Name, happening: &Happening) -> Result<(), AllocError> {
+    fn take(&mut self, happening: &Happening) -> Result<(), AllocError> {
         match happening {
-            Happening::Arrive(_seat, request) => self.arrive(name.rid, request),
-            Happening::Act(_seat, op, choice) => self.act(name.rid, name.number, op, *choice),
-            Happening::Depart(_seat, response, path) => self.depart(name.rid, response, path),
+            Happening::Arrive { rid, request, .. } => self.arrive(*rid, request),
+            Happening::Act {
+                rid,
+                number,
+                op,
+                choice,
+                ..
+            } => self.act(*rid, *number, op, *choice),
+            Happening::Depart {
+                rid,
+                response,
+                path,
+                ..
+            } => self.depart(*rid, response, path),
         }
     }
 }
@@ -164,11 +173,10 @@ fn groups_from(alloc: Global, groups: Grouped<Path, u32>) -> Result<Groups, Allo
 /// The report of a history. Ids, counts and lengths that 32 bits don't hold are answered as want of
 /// memory.
 pub fn report_of(alloc: Global, history: &History) -> Result<Report, AllocError>
-    ensures report { (start : Objects) →
-        IfOk result (λ report. report ≡ report_of start history.now) }
+    ensures report { IfOk result (λ report. report ≡ report_of history.now) }
     ensures accepted { IfOk result (IsAcceptedReport history.now) }
 {
     recorded_is_accepted();
-    let draft = walk(alloc, history, ReportDraft::new(alloc))?;
+    let draft = walk(history, ReportDraft::new(alloc))?;
     draft.finish()
 }

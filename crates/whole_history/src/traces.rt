@@ -1,5 +1,4 @@
 ghost use Rattle.std.specs.Prelude.{◌≡◌, ◌≤◌, [], length, IfOk, OnOk};
-ghost use Rattle.script_tree.specs.Objects.{Objects};
 ghost use Rattle.script_tree.specs.declared.limits.TheConstants.{MOST_REQUESTS};
 ghost use Rattle.history.specs.Arrivals.{arrivals};
 ghost use Rattle.history.specs.Names.{came, went};
@@ -15,7 +14,6 @@ use history::{Happening, History};
 use script_tree::path::Path;
 use script_tree::request::Response;
 use std::alloc::{AllocError, Global};
-use trace_and_report::naming::Name;
 use trace_and_report::widths::Wide;
 use trace_format::appending::{add_request, add_response, begin};
 use trace_format::decoding::reading_is_exact;
@@ -32,11 +30,16 @@ pub(crate) struct TraceDraft {
 impl Draft for TraceDraft {
     ghost is_of = { IsTraceDraft };
 
-    fn take(&mut self, name: Name, happening: &Happening) -> Result<(), AllocError> {
+    fn take(&mut self, happening: &Happening) -> Result<(), AllocError> {
         match happening {
-            Happening::Arrive(_seat, request) => self.arrive(name.rid, request),
-            Happening::Act(_seat, _op, _choice) => Ok(()),
-            Happening::Depart(_seat, response, path) => self.depart(name.rid, response, path),
+            Happening::Arrive { rid, request, .. } => self.arrive(*rid, request),
+            Happening::Act { .. } => Ok(()),
+            Happening::Depart {
+                rid,
+                response,
+                path,
+                ..
+            } => self.depart(*rid, response, path),
         }
     }
 }
@@ -72,13 +75,12 @@ impl TraceDraft {
 /// lengths that 32 bits don't hold are answered as want of memory.
 pub fn trace_of(alloc: Global, history: &History) -> Result<TraceFile, AllocError>
     requires { length (arrivals history.now) ≤ MOST_REQUESTS }
-    ensures trace { (start : Objects) →
-        IfOk result (λ trace. trace ≡ trace_of start history.now) }
+    ensures trace { IfOk result (λ trace. trace ≡ trace_of history.now) }
     ensures accepted { IfOk result (IsAcceptedTrace history.now) }
 {
     recorded_is_accepted();
     reading_is_exact();
-    let draft = walk(alloc, history, TraceDraft::new(alloc)?)?;
+    let draft = walk(history, TraceDraft::new(alloc)?)?;
     let TraceDraft { bytes } = draft;
     if bytes.len() > MOST_FILE_BYTES {
         return Err(AllocError);

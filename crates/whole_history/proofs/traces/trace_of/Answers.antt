@@ -1,5 +1,4 @@
 use Rattle.std.proofs.Common.{arith}
-use Rattle.script_tree.specs.Objects.{nothing_stored}
 use Rattle.history.specs.TraceOf.{trace_of}
 use Rattle.whole_history.proofs.Acceptance.{trace_accepted}
 use Rattle.whole_history.proofs.TraceDrafts.{read_as, spells}
@@ -10,8 +9,8 @@ unreachable-requires c =
     let history = c.args.history.now in
     let draft = c.in_ok-draft.draft in
     let fault = rw c.in-Err-Other.field-0-is at c.in-Err-Other.ensures in
-    c.reading_is_exact.ensures.no_reading_at_fault draft.bytes.items c.in-Err-Other.field-0-0.at (trace_of nothing_stored history) fault
-    (spells history draft c.requires (omega (arith, draft.bytes.ok.0)) nothing_stored (c.in_ok-draft.ensures nothing_stored))
+    c.reading_is_exact.ensures.no_reading_at_fault draft.bytes.items c.in-Err-Other.field-0-0.at (trace_of history) fault
+    (spells history draft c.requires (omega (arith, draft.bytes.ok.0)) c.in_ok-draft.ensures)
 
 pub returns-in-Ok-clause-trace : goal.returns-in-Ok-clause-trace
 returns-in-Ok-clause-trace c =

@@ -1,9 +1,8 @@
-use Rattle.script_tree.specs.Objects.{nothing_stored}
 use Rattle.trace_and_report.proofs.Reports.{have_members}
 use Rattle.trace_and_report.proofs.journal.FileJournal.finish.Goals as goal
 
 pub finish-requires : goal.finish-requires
-finish-requires c = have_members _ c.args.self.draft (c.requires.1 nothing_stored).names
+finish-requires c = have_members _ c.args.self.draft c.requires.1
 
 pub returns : goal.returns
-returns c = λ start history kept. c.finish.ensures _ (kept start).names
+returns c = λ history kept. c.finish.ensures _ kept

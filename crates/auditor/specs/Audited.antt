@@ -44,5 +44,5 @@ IsSound program start trace (Rejected reason) = Unit {0}
 abbrev pub Accepts : Program → Objects → List TraceEvent → ReadReport → Verdict → Type 0
 Accepts program start trace report v = (history : List Happening)
     → IsLegal program start history → IsClosed start history
-    → trace ≡ trace_of start history → report ≡ Ok (report_of start history)
+    → trace ≡ trace_of history → report ≡ Ok (report_of history)
     → IsAccepted v

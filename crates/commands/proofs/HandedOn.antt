@@ -85,20 +85,20 @@ accepted a trace report v outcome is h =
 pub audits_accept : RecordedIsAccepted → TracesAreBalanced → AreReadOneWay → (before after : Files) (w : RecordWords)
     → {program : Program} {start : Objects} {jobs : List Request} {turns : List ℕ} {reading : Option ℕ} {history : List Happening}
     → AreJobsOf before w program start jobs turns → IsRunOf program start jobs turns w.seed reading history
-    → Holds after w.trace (IsTraceFile start history) → Holds after w.report (IsReportFile start history)
+    → Holds after w.trace (IsTraceFile history) → Holds after w.report (IsReportFile history)
     → AuditsAccept w before after
 audits_accept complete balanced one before after w {program} {start} {jobs} {history = history} spelled run trace report a later outcome handed audited =
     let few : length (arrivals history) ≤ MOST_REQUESTS
     = subst (λ js. length js ≤ MOST_REQUESTS) (sym run.arrive) (few_jobs MOST_FILE_BYTES (get before w.requests) jobs spelled.requests_file) in
     let program_file = elsewhere (program_input MOST_FILE_BYTES) (get before w.program) (get later a.program) program handed.program spelled.program_file in
     let state_file = elsewhere (state_input program MOST_FILE_BYTES) (get before w.state) (get later a.state) start handed.state spelled.state_file in
-    let trace_file = elsewhere (trace_input MOST_FILE_BYTES) (Some trace.0) (get later a.trace) (trace_of start history) (handed.trace ∙ trace.1)
+    let trace_file = elsewhere (trace_input MOST_FILE_BYTES) (Some trace.0) (get later a.trace) (trace_of history) (handed.trace ∙ trace.1)
     (trace.2.within.1, record { spelled = trace.2.read_again few; balanced = balanced program start history run.legal run.closed }) in
-    let report_file = elsewhere (report_input MOST_FILE_BYTES) (Some report.0) (get later a.report) (Ok (report_of start history)) (handed.report ∙ report.1)
+    let report_file = elsewhere (report_input MOST_FILE_BYTES) (Some report.0) (get later a.report) (Ok (report_of history)) (handed.report ∙ report.1)
     (report.2.within.1, report.2.read_again) in
     let with_program = passes (program_input MOST_FILE_BYTES) _ program (WithDeclarations later a) outcome (one.programs MOST_FILE_BYTES) program_file audited in
     let with_state = passes (state_input program MOST_FILE_BYTES) _ start (WithObjects later a program) outcome (one.states program MOST_FILE_BYTES) state_file with_program in
-    let with_trace = passes (trace_input MOST_FILE_BYTES) _ (trace_of start history) (WithEvents later a program start) outcome (one.traces MOST_FILE_BYTES) trace_file with_state in
-    let judged = passes (report_input MOST_FILE_BYTES) _ (Ok (report_of start history)) (IsVerdict a program start (trace_of start history)) outcome (one.reports MOST_FILE_BYTES) report_file with_trace in
+    let with_trace = passes (trace_input MOST_FILE_BYTES) _ (trace_of history) (WithEvents later a program start) outcome (one.traces MOST_FILE_BYTES) trace_file with_state in
+    let judged = passes (report_input MOST_FILE_BYTES) _ (Ok (report_of history)) (IsVerdict a program start (trace_of history)) outcome (one.reports MOST_FILE_BYTES) report_file with_trace in
     let valid = is_valid MOST_FILE_BYTES (get before w.program) program spelled.program_file in
-    accepted a (trace_of start history) (Ok (report_of start history)) _ outcome (complete program start history valid run.legal run.closed) judged
+    accepted a (trace_of history) (Ok (report_of history)) _ outcome (complete program start history valid run.legal run.closed) judged

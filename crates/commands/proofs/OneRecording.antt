@@ -8,9 +8,8 @@ use Rattle.wire.specs.declared.limits.TheConstants.{MOST_FILE_BYTES}
 use Rattle.trace_format.specs.Events.{trace_format}
 use Rattle.report_format.specs.Reports.{report_format, records_of}
 use Rattle.history.specs.Arrivals.{arrivals}
-use Rattle.history.specs.Names.{names_from}
+use Rattle.history.specs.Names.{names}
 use Rattle.history.specs.ReportOf.{report_in, report_of}
-use Rattle.history.specs.Rooms.{empty_room}
 use Rattle.history.specs.TraceOf.{trace_in, trace_of}
 use Rattle.history.specs.declared.happening.Happening.{Happening}
 use Rattle.one_history.specs.Laws.{RunsAreOne}
@@ -28,25 +27,25 @@ not_longer : {A : Type 0} (format : Format A) (items : List A) (bytes : List ℕ
 not_longer format items bytes within long = let e = ap length within.0 in let le = within.1 in omega (arith, e, le, long)
 
 -- two histories that tell the same
-module _ (start : Objects) (g h : List Happening) (traces : trace_of start g ≡ trace_of start h) (reports : report_of start g ≡ report_of start h)
+module _ (g h : List Happening) (traces : trace_of g ≡ trace_of h) (reports : report_of g ≡ report_of h)
     (jobs : length (arrivals g) ≡ length (arrivals h)) where
-  long_trace : TraceIsTooLong start h → TraceIsTooLong start g
+  long_trace : TraceIsTooLong h → TraceIsTooLong g
   long_trace long = subst (λ t. IsTooLong trace_format t) (sym traces) long
 
-  long_report : ReportIsTooLong start h → ReportIsTooLong start g
+  long_report : ReportIsTooLong h → ReportIsTooLong g
   long_report long = subst (λ r. IsTooLong report_format (records_of r)) (sym reports) long
 
-  not_past : (files : Recorded) (which : TooLong) → AreFilesOf start g files → HasTooLong start h which → ⊥
-  not_past files past.Trace are long = not_longer trace_format (trace_of start g) files.trace.items are.trace.within (long_trace long)
-  not_past files past.Report are long = not_longer report_format (records_of (report_of start g)) files.report.items are.report.within (long_report long.1)
+  not_past : (files : Recorded) (which : TooLong) → AreFilesOf g files → HasTooLong h which → ⊥
+  not_past files past.Trace are long = not_longer trace_format (trace_of g) files.trace.items are.trace.within (long_trace long)
+  not_past files past.Report are long = not_longer report_format (records_of (report_of g)) files.report.items are.report.within (long_report long.1)
 
-  same_past : (a b : TooLong) → HasTooLong start g a → HasTooLong start h b → a ≡ b
+  same_past : (a b : TooLong) → HasTooLong g a → HasTooLong h b → a ≡ b
   same_past past.Trace past.Trace p q = λ i. past.Trace
   same_past past.Trace past.Report p q = absurd (q.0 (subst (λ t. IsTooLong trace_format t) traces p))
   same_past past.Report past.Trace p q = absurd (p.0 (long_trace q))
   same_past past.Report past.Report p q = λ i. past.Report
 
-  same_files : (w : RecordWords) (a b : Recorded) → AreFilesOf start g a → AreFilesOf start h b → written w a ≡ written w b
+  same_files : (w : RecordWords) (a b : Recorded) → AreFilesOf g a → AreFilesOf h b → written w a ≡ written w b
   same_files w a b p q =
       let requests : a.requests ≡ b.requests = p.requests ∙ jobs ∙ sym q.requests in
       let groups : a.groups ≡ b.groups = p.groups ∙ ap (λ r. length r.groups) reports ∙ sym q.groups in
@@ -66,20 +65,20 @@ one_recording one n w program start jobs turns x y p q = by p.2 q.2
     h : List Happening
     h = q.0
 
-    same : names_from (empty_room start) g ≡ names_from (empty_room start) h
+    same : names g ≡ names h
     same = one program start jobs turns w.seed n g h p.1 q.1
 
-    traces : trace_of start g ≡ trace_of start h
+    traces : trace_of g ≡ trace_of h
     traces = ap trace_in same
 
-    reports : report_of start g ≡ report_of start h
+    reports : report_of g ≡ report_of h
     reports = ap report_in same
 
     count : length (arrivals g) ≡ length (arrivals h)
     count = ap length (p.1.arrive ∙ sym q.1.arrive)
 
-    by : IsWritten w start g x ⊎ IsPastLimit start g x → IsWritten w start h y ⊎ IsPastLimit start h y → x ≡ y
-    by (inl a) (inl b) = a.2 ∙ same_files start g h traces reports count w a.0 b.0 a.1 b.1 ∙ sym b.2
-    by (inl a) (inr b) = absurd (not_past start g h traces reports count a.0 b.0 a.1 b.1)
-    by (inr a) (inl b) = absurd (not_past start h g (sym traces) (sym reports) (sym count) b.0 a.0 b.1 a.1)
-    by (inr a) (inr b) = a.2 ∙ ap (λ z. says (answer.TooLong z)) (same_past start g h traces reports count a.0 b.0 a.1 b.1) ∙ sym b.2
+    by : IsWritten w g x ⊎ IsPastLimit g x → IsWritten w h y ⊎ IsPastLimit h y → x ≡ y
+    by (inl a) (inl b) = a.2 ∙ same_files g h traces reports count w a.0 b.0 a.1 b.1 ∙ sym b.2
+    by (inl a) (inr b) = absurd (not_past g h traces reports count a.0 b.0 a.1 b.1)
+    by (inr a) (inl b) = absurd (not_past h g (sym traces) (sym reports) (sym count) b.0 a.0 b.1 a.1)
+    by (inr a) (inr b) = a.2 ∙ ap (λ z. says (answer.TooLong z)) (same_past g h traces reports count a.0 b.0 a.1 b.1) ∙ sym b.2

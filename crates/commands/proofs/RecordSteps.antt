@@ -76,15 +76,15 @@ module _ (reading : Option ℕ) (files : Files) (w : RecordWords) (program : Pro
 -- ---- what record_jobs gives
 
 pub of_files : (reading : Option ℕ) (w : RecordWords) (program : Program) (start : Objects) (jobs : List Request) (turns : List ℕ) (files : TraceAndReport) (outcome : Outcome)
-    → (history : List Happening) × IsRunOf program start jobs turns w.seed reading history × AreFilesOf start history files → outcome ≡ written w files
+    → (history : List Happening) × IsRunOf program start jobs turns w.seed reading history × AreFilesOf history files → outcome ≡ written w files
     → IsOfJobs reading w program start jobs turns outcome
 of_files reading w program start jobs turns files outcome made is = (made.0, made.1, inl (files, made.2, is))
 
 pub of_limit : (reading : Option ℕ) (w : RecordWords) (program : Program) (start : Objects) (jobs : List Request) (turns : List ℕ) (e : OrMemory Which) (which : Which) (outcome : Outcome)
-    → e ≡ Other which → IsRecorded (IsRunOf program start jobs turns w.seed reading) start (Err e) → outcome ≡ says (TooLong which)
+    → e ≡ Other which → IsRecorded (IsRunOf program start jobs turns w.seed reading) (Err e) → outcome ≡ says (TooLong which)
     → IsOfJobs reading w program start jobs turns outcome
 of_limit reading w program start jobs turns e which outcome same told is =
-    let made = subst (λ x. IsRecorded (IsRunOf program start jobs turns w.seed reading) start (Err x)) same told in
+    let made = subst (λ x. IsRecorded (IsRunOf program start jobs turns w.seed reading) (Err x)) same told in
     (made.0, made.1, inr (which, made.2, is))
 
 -- the turns as a slice of them

@@ -35,7 +35,7 @@ files_of_jobs : (reading : Option ℕ) (w : RecordWords) (program : Program) (st
     (turns : List ℕ) (outcome : Outcome) → (status outcome ≡ 3 → ⊥)
     → IsOfJobs reading w program start jobs turns outcome
     → (history : List Happening) × IsRunOf program start jobs turns w.seed reading history
-    × (files : TraceAndReport) × AreFilesOf start history files × (outcome ≡ written w files)
+    × (files : TraceAndReport) × AreFilesOf history files × (outcome ≡ written w files)
 files_of_jobs reading w program start jobs turns outcome sound (history, run, inl h) = (history, run, h.0, h.1, h.2)
 files_of_jobs reading w program start jobs turns outcome sound (history, run, inr h) = absurd (sound (ap status h.2))
 
@@ -62,13 +62,13 @@ has_recording complete balanced one words reading files outcome read new asked z
     ∙ ap (λ fs. option_map (λ f. insert f w.report made.report.items) (option_map (λ f. insert f w.trace made.trace.items) fs)) told in
     let spelled : AreJobsOf files w pages.0 start.0 jobs.0 turns.0
     = record { program_file = pages.1; state_file = start.1; requests_file = jobs.1; turns_file = turns.1 } in
-    let trace : Holds left w.trace (IsTraceFile start.0 run.0) = (
+    let trace : Holds left w.trace (IsTraceFile run.0) = (
       made.trace.items,
       stays_put read (insert files w.trace made.trace.items) w.report made.report.items w.trace apart
           ∙ holds_put files w.trace made.trace.items,
       run.3.trace,
     ) in
-    let report : Holds left w.report (IsReportFile start.0 run.0)
+    let report : Holds left w.report (IsReportFile run.0)
     = (made.report.items, holds_put (insert files w.trace made.trace.items) w.report made.report.items, run.3.report) in (
       left,
       is,

@@ -86,21 +86,21 @@ written words files = record {
 }
 
 -- The outcome is the files of the history, and how many requests and groups there are.
-abbrev pub IsWritten : RecordWords → Objects → List Happening → Outcome → Type 0
-IsWritten words start history outcome =
-    (files : TraceAndReport) × AreFilesOf start history files × (outcome ≡ written words files)
+abbrev pub IsWritten : RecordWords → List Happening → Outcome → Type 0
+IsWritten words history outcome =
+    (files : TraceAndReport) × AreFilesOf history files × (outcome ≡ written words files)
 
 -- The outcome is which of its files is too long.
-abbrev pub IsPastLimit : Objects → List Happening → Outcome → Type 0
-IsPastLimit start history outcome =
-    (which : Which) × HasTooLong start history which × (outcome ≡ says (TooLong which))
+abbrev pub IsPastLimit : List Happening → Outcome → Type 0
+IsPastLimit history outcome =
+    (which : Which) × HasTooLong history which × (outcome ≡ says (TooLong which))
 
 -- The outcome is what a history of the jobs gives, where the clock shows this reading.
 abbrev pub IsOfJobs : Option ℕ → RecordWords → Program → Objects → List Request → List ℕ → Outcome
     → Type 0
 IsOfJobs reading words program start jobs turns outcome =
     (history : List Happening) × IsRunOf program start jobs turns words.seed reading history
-    × (IsWritten words start history outcome ⊎ IsPastLimit start history outcome)
+    × (IsWritten words history outcome ⊎ IsPastLimit history outcome)
 
 -- The turns of the file, where there is one, and else none.
 abbrev pub WithTurns : Files → Option (List ℕ) → (List ℕ → Outcome → Type 0) → Outcome → Type 0

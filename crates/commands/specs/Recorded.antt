@@ -69,8 +69,8 @@ pub record HasRecording (words : List (List ℕ)) (reading : Option ℕ) (before
   pub spelled : AreJobsOf before asked program start jobs turns
   pub history : List Happening
   pub run : IsRunOf program start jobs turns asked.seed reading history
-  pub trace : Holds after asked.trace (IsTraceFile start history)
-  pub report : Holds after asked.report (IsReportFile start history)
+  pub trace : Holds after asked.trace (IsTraceFile history)
+  pub report : Holds after asked.report (IsReportFile history)
   pub others : (name : List ℕ) → name ≢ asked.trace → name ≢ asked.report
       → get after name ≡ get before name
   pub accepted : AuditsAccept asked before after

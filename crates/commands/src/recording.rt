@@ -27,7 +27,7 @@ pub fn record_jobs<C: Clock>(
     requires { IsSetOf program.now.value start }
     ensures { let objects = objects_of start in
         let IsRun = IsRunOf program.now.value objects jobs turns.now seed (C.reading clock.now) in
-        IsRecorded IsRun objects result }
+        IsRecorded IsRun result }
 {
     let code = translate(alloc, program)?;
     let journal = FileJournal::new(alloc)?;

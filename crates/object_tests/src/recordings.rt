@@ -52,9 +52,9 @@ fn history(alloc: Global, source: &[u8], file: &[u8]) -> Result<History, AllocEr
 /// Whether an arrival (A), an operation (X) or a departure (D) happened, and at which seat.
 fn line(happening: &Happening) -> (u8, u32) {
     match happening {
-        Happening::Arrive(seat, _) => (b'A', *seat),
-        Happening::Act(seat, _, _) => (b'X', *seat),
-        Happening::Depart(seat, _, _) => (b'D', *seat),
+        Happening::Arrive { seat, .. } => (b'A', *seat),
+        Happening::Act { seat, .. } => (b'X', *seat),
+        Happening::Depart { seat, .. } => (b'D', *seat),
     }
 }
 

@@ -28,13 +28,13 @@ use Rattle.turns.specs.Offers.{AreRolled, IsReading, IsReadingOf, roll_at, rolle
 
 -- Both are told by the same name, leave the same room, and roll the same.
 pub record IsAlike (room : Room) (x y : Happening) : Type 0 where
-  pub named : name room x ≡ name room y
+  pub named : name x ≡ name y
   pub left : onward room x ≡ onward room y
   pub rolls : (seat : ℕ) → roll_at seat x ≡ roll_at seat y
 
 alike_same : (room : Room) (x y : Happening) → x ≡ y → IsAlike room x y
 alike_same room x y same = record {
-  named = ap (name room) same;
+  named = ap name same;
   left = ap (onward room) same;
   rolls = λ seat. ap (roll_at seat) same;
 }
@@ -129,8 +129,8 @@ nat_eq_self n = elim (eqb_tells n n) [
   | inr (is, other) ↦ absurd (other refl)
 ]
 
-rolled_here : (seat : ℕ) (op : Op) (c : Choice) → roll_at seat (Act seat op c) ≡ rolled op.act c
-rolled_here seat op c = ap (λ here. cond here (rolled op.act c) None) (nat_eq_self seat)
+rolled_here : (seat rid number : ℕ) (op : Op) (c : Choice) → roll_at seat (Act seat rid number op c) ≡ rolled op.act c
+rolled_here seat rid number op c = ap (λ here. cond here (rolled op.act c) None) (nat_eq_self seat)
 
 abbrev arrived_so : Room → ℕ → Request → Room
 arrived_so room seat q = record room {
@@ -145,65 +145,68 @@ module _ (program : Program) (n seat : ℕ) (room : Room) (dice : ChaCha) where
   abbrev ToldOf : Happening → Type 0
   ToldOf x = Told program n seat room dice x
 
-  same_act : (op op' : Op) (b c : Choice) → ToldOf (Act seat op b) → ToldOf (Act seat op' c) → Act seat op b ≡ Act seat op' c
-  same_act op op' b c t u =
+  same_act : (i j k l : ℕ) (op op' : Op) (b c : Choice) → ToldOf (Act seat i k op b) → ToldOf (Act seat j l op' c) → Act seat i k op b ≡ Act seat j l op' c
+  same_act i j k l op op' b c t u =
+      let v = t.step.0.0 in
+      let w = u.step.0.0 in
+      let visit : v.0 ≡ w.0 = some_is v.0 w.0 (sym v.1 ∙ w.1) in
+      let same : op ≡ op' = wants_is op op' (sym v.2 ∙ ap (λ (z : Visit). ending_of program z.request z.answers) visit ∙ w.2) in
+      let id : i ≡ j = t.step.1.0 ∙ sym u.step.1.0 in
+      let number : k ≡ l = t.step.1.1 ∙ sym u.step.1.1 in
+      let u' : ToldOf (Act seat j l op c) = subst (λ o. ToldOf (Act seat j l o c)) (sym same) u in
+      let rolls = subst (λ o. IsFirst o dice) (rolled_here seat i k op b) t.rolls in
+      let rolls' = subst (λ o. IsFirst o dice) (rolled_here seat j l op c) u'.rolls in
+      let choice : b ≡ c = one_choice n op.act b c (room.objects op.object) dice t.step.0.1 u'.step.0.1 rolls rolls' t.reads u'.reads in
+      λ at. Act seat (id at) (number at) (same at) (choice at)
+
+  same_departure : (i j : ℕ) (r r' : Response) (p p' : Path) → ToldOf (Depart seat i r p) → ToldOf (Depart seat j r' p') → Depart seat i r p ≡ Depart seat j r' p'
+  same_departure i j r r' p p' t u =
       let v = t.step.0 in
       let w = u.step.0 in
       let visit : v.0 ≡ w.0 = some_is v.0 w.0 (sym v.1 ∙ w.1) in
-      let same : op ≡ op' = wants_is op op' (sym v.2 ∙ ap (λ (z : Visit). ending_of program z.request z.answers) visit ∙ w.2) in
-      let u' : ToldOf (Act seat op c) = subst (λ o. ToldOf (Act seat o c)) (sym same) u in
-      let rolls = subst (λ o. IsFirst o dice) (rolled_here seat op b) t.rolls in
-      let rolls' = subst (λ o. IsFirst o dice) (rolled_here seat op c) u'.rolls in
-      let choice : b ≡ c = one_choice n op.act b c (room.objects op.object) dice t.step.1 u'.step.1 rolls rolls' t.reads u'.reads in
-      ap (λ z. Act seat op z) choice ∙ ap (λ o. Act seat o c) same
-
-  same_departure : (r r' : Response) (p p' : Path) → ToldOf (Depart seat r p) → ToldOf (Depart seat r' p') → Depart seat r p ≡ Depart seat r' p'
-  same_departure r r' p p' t u =
-      let v = t.step in
-      let w = u.step in
-      let visit : v.0 ≡ w.0 = some_is v.0 w.0 (sym v.1 ∙ w.1) in
       let ends : Ends r p ≡ Ends r' p' = sym v.2 ∙ ap (λ (z : Visit). ending_of program z.request z.answers) visit ∙ w.2 in
-      ap (λ z. Depart seat z p) (response_is r r' p p' ends) ∙ ap (λ z. Depart seat r' z) (path_is r r' p p' ends)
+      let id : i ≡ j = t.step.1 ∙ sym u.step.1 in
+      λ at. Depart seat (id at) (response_is r r' p p' ends at) (path_is r r' p p' ends at)
 
-  not_both : (op : Op) (b : Choice) (r : Response) (p : Path) → ToldOf (Act seat op b) → ToldOf (Depart seat r p) → ⊥
-  not_both op b r p t u =
-      let v = t.step.0 in
-      let w = u.step in
+  not_both : (i j k : ℕ) (op : Op) (b : Choice) (r : Response) (p : Path) → ToldOf (Act seat i k op b) → ToldOf (Depart seat j r p) → ⊥
+  not_both i j k op b r p t u =
+      let v = t.step.0.0 in
+      let w = u.step.0 in
       let visit : v.0 ≡ w.0 = some_is v.0 w.0 (sym v.1 ∙ w.1) in
       wants_ends op r p (sym v.2 ∙ ap (λ (z : Visit). ending_of program z.request z.answers) visit ∙ w.2)
 
-  moved_act : (a : ℕ) (op : Op) (b : Choice) → ToldOf (Act a op b) → ToldOf (Act seat op b)
-  moved_act a op b t = subst (λ z. ToldOf (Act z op b)) t.here t
+  moved_act : (a i k : ℕ) (op : Op) (b : Choice) → ToldOf (Act a i k op b) → ToldOf (Act seat i k op b)
+  moved_act a i k op b t = subst (λ z. ToldOf (Act z i k op b)) t.here t
 
-  moved_departure : (a : ℕ) (r : Response) (p : Path) → ToldOf (Depart a r p) → ToldOf (Depart seat r p)
-  moved_departure a r p t = subst (λ z. ToldOf (Depart z r p)) t.here t
+  moved_departure : (a i : ℕ) (r : Response) (p : Path) → ToldOf (Depart a i r p) → ToldOf (Depart seat i r p)
+  moved_departure a i r p t = subst (λ z. ToldOf (Depart z i r p)) t.here t
 
   -- Told of both, they are alike, where the same requests arrive from there on.
   pub alike : (x y : Happening) (xs ys : List Happening) → ToldOf x → ToldOf y → arrivals (x ∷ xs) ≡ arrivals (y ∷ ys)
       → IsAlike room x y × (arrivals xs ≡ arrivals ys)
-  alike (Arrive a q) (Arrive b r) xs ys t u so =
+  alike (Arrive a i q) (Arrive b j r) xs ys t u so =
       let same : q.value ≡ r.value = heads q.value r.value (arrivals xs) (arrivals ys) so in
       let seats : a ≡ b = t.here ∙ sym u.here in (
         record {
-          named = ap (came room.arrived) same;
+          named = ap (came i) same ∙ ap (λ k. came k r.value) (t.step.1 ∙ sym u.step.1);
           left = ap (λ z. arrived_so room z q.value) seats ∙ arrivals_alike room b q.value r.value same;
           rolls = λ seat. refl;
         },
         tails q.value r.value (arrivals xs) (arrivals ys) so,
       )
-  alike (Arrive a q) (Act b op c) xs ys t u so = absurd (none_some _ (sym t.step.0 ∙ ap room.open_at (t.here ∙ sym u.here) ∙ u.step.0.1))
-  alike (Arrive a q) (Depart b r p) xs ys t u so = absurd (none_some _ (sym t.step.0 ∙ ap room.open_at (t.here ∙ sym u.here) ∙ u.step.1))
-  alike (Act a op b) (Arrive c r) xs ys t u so = absurd (none_some _ (sym u.step.0 ∙ ap room.open_at (u.here ∙ sym t.here) ∙ t.step.0.1))
-  alike (Act a op b) (Act a' op' c) xs ys t u so = (
-    alike_same room (Act a op b) (Act a' op' c)
-        (ap (λ z. Act z op b) t.here ∙ same_act op op' b c (moved_act a op b t) (moved_act a' op' c u) ∙ sym (ap (λ z. Act z op' c) u.here)),
+  alike (Arrive a i q) (Act b j k op c) xs ys t u so = absurd (none_some _ (sym t.step.0.0 ∙ ap room.open_at (t.here ∙ sym u.here) ∙ u.step.0.0.1))
+  alike (Arrive a i q) (Depart b j r p) xs ys t u so = absurd (none_some _ (sym t.step.0.0 ∙ ap room.open_at (t.here ∙ sym u.here) ∙ u.step.0.1))
+  alike (Act a i k op b) (Arrive c j r) xs ys t u so = absurd (none_some _ (sym u.step.0.0 ∙ ap room.open_at (u.here ∙ sym t.here) ∙ t.step.0.0.1))
+  alike (Act a i k op b) (Act a' j l op' c) xs ys t u so = (
+    alike_same room (Act a i k op b) (Act a' j l op' c)
+        (ap (λ z. Act z i k op b) t.here ∙ same_act i j k l op op' b c (moved_act a i k op b t) (moved_act a' j l op' c u) ∙ sym (ap (λ z. Act z j l op' c) u.here)),
     so,
   )
-  alike (Act a op b) (Depart c r p) xs ys t u so = absurd (not_both op b r p (moved_act a op b t) (moved_departure c r p u))
-  alike (Depart a r p) (Arrive c q) xs ys t u so = absurd (none_some _ (sym u.step.0 ∙ ap room.open_at (u.here ∙ sym t.here) ∙ t.step.1))
-  alike (Depart a r p) (Act c op b) xs ys t u so = absurd (not_both op b r p (moved_act c op b u) (moved_departure a r p t))
-  alike (Depart a r p) (Depart a' r' p') xs ys t u so = (
-    alike_same room (Depart a r p) (Depart a' r' p')
-        (ap (λ z. Depart z r p) t.here ∙ same_departure r r' p p' (moved_departure a r p t) (moved_departure a' r' p' u) ∙ sym (ap (λ z. Depart z r' p') u.here)),
+  alike (Act a i k op b) (Depart c j r p) xs ys t u so = absurd (not_both i j k op b r p (moved_act a i k op b t) (moved_departure c j r p u))
+  alike (Depart a i r p) (Arrive c j q) xs ys t u so = absurd (none_some _ (sym u.step.0.0 ∙ ap room.open_at (u.here ∙ sym t.here) ∙ t.step.0.1))
+  alike (Depart a i r p) (Act c j k op b) xs ys t u so = absurd (not_both j i k op b r p (moved_act c j k op b u) (moved_departure a i r p t))
+  alike (Depart a i r p) (Depart a' j r' p') xs ys t u so = (
+    alike_same room (Depart a i r p) (Depart a' j r' p')
+        (ap (λ z. Depart z i r p) t.here ∙ same_departure i j r r' p p' (moved_departure a i r p t) (moved_departure a' j r' p' u) ∙ sym (ap (λ z. Depart z j r' p') u.here)),
     so,
   )

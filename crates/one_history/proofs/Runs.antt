@@ -4,7 +4,7 @@ use Rattle.rand_chacha.specs.ChaCha.{ChaCha}
 use Rattle.dice.specs.Rolls.{dice_of}
 use Rattle.script_tree.specs.Programs.{Program}
 use Rattle.history.specs.Arrivals.{arrivals}
-use Rattle.history.specs.Names.{name, names_from}
+use Rattle.history.specs.Names.{names}
 use Rattle.history.specs.Rooms.{Room, AreSteps, IsStep, empty_room, onward}
 use Rattle.history.specs.declared.happening.Happening.{Happening}
 use Rattle.history.specs.declared.happening.Happening.TheVariants.{Arrive, Act, Depart}
@@ -27,9 +27,9 @@ module _ (program : Program) (listed : List ℕ) (jobs n : ℕ) where
 
   counted_on : (room : Room) (x : Happening) (xs : List Happening) → (onward room x).arrived + length (arrivals xs) ≡ jobs
       → room.arrived + length (arrivals (x ∷ xs)) ≡ jobs
-  counted_on room (Arrive seat request) xs e = omega (arith, e)
-  counted_on room (Act seat op choice) xs e = e
-  counted_on room (Depart seat response path) xs e = e
+  counted_on room (Arrive seat rid request) xs e = omega (arith, e)
+  counted_on room (Act seat rid number op choice) xs e = e
+  counted_on room (Depart seat rid response path) xs e = e
 
   -- what has arrived and what arrives are all jobs
   counted : (turn : ℕ) (room : Room) (hs : List Happening) → Goes turn room hs → room.arrived + length (arrivals hs) ≡ jobs
@@ -40,12 +40,12 @@ module _ (program : Program) (listed : List ℕ) (jobs n : ℕ) where
   -- at the turn of an idle seat nothing happens
   nothing_at : (room : Room) (seat : ℕ) (x : Happening) (xs : List Happening) → IsIdle jobs room seat → seat_in x ≡ seat → IsStep program room x
       → length (arrivals (x ∷ xs)) ≡ 0 → ⊥
-  nothing_at room seat (Arrive a q) xs empty here step none = omega (arith, none)
-  nothing_at room seat (Act a op c) xs empty here step none = none_some _ (sym empty.0 ∙ ap room.open_at (sym here) ∙ step.0.1)
-  nothing_at room seat (Depart a r p) xs empty here step none = none_some _ (sym empty.0 ∙ ap room.open_at (sym here) ∙ step.1)
+  nothing_at room seat (Arrive a i q) xs empty here step none = omega (arith, none)
+  nothing_at room seat (Act a i k op c) xs empty here step none = none_some _ (sym empty.0 ∙ ap room.open_at (sym here) ∙ step.0.0.1)
+  nothing_at room seat (Depart a i r p) xs empty here step none = none_some _ (sym empty.0 ∙ ap room.open_at (sym here) ∙ step.0.1)
 
   none_left : (turn : ℕ) (room : Room) (hs : List Happening) → Goes turn room hs → IsOver jobs room → AreSteps program room hs
-      → length (arrivals hs) ≡ 0 → [] ≡ names_from room hs
+      → length (arrivals hs) ≡ 0 → [] ≡ names hs
   none_left turn room hs (over _ _ is) done steps none = refl
   none_left turn room hs (idle _ _ _ empty rest) done steps none = none_left (suc turn) room hs rest done steps none
   none_left turn room hs (acts _ _ x xs here rest) done steps none =
@@ -73,7 +73,7 @@ module _ (program : Program) (listed : List ℕ) (jobs n : ℕ) where
   }
 
   one : (turn : ℕ) (room : Room) (dice : ℕ → ChaCha) (g h : List Happening) → Goes turn room g → Goes turn room h
-      → Holds room dice g → Holds room dice h → arrivals g ≡ arrivals h → names_from room g ≡ names_from room h
+      → Holds room dice g → Holds room dice h → arrivals g ≡ arrivals h → names g ≡ names h
   one turn room dice g h (over _ _ is) by first second came = none_left turn room h by is second.steps (ap length (sym came))
   one turn room dice g h (idle _ _ _ empty rest) (over _ _ is) first second came =
       sym (none_left (suc turn) room g rest is first.steps (ap length came))
@@ -101,7 +101,7 @@ module _ (program : Program) (listed : List ℕ) (jobs n : ℕ) where
         reads = subst (λ r. AreReadings n r ys) back next.reads;
       } in
       let same = one (suc turn) (onward room x) (dice_after x dice) xs ys rest rest'' (later room dice x xs first) next' both.1 in
-      (λ i. both.0.named i ∷ same i) ∙ ap (λ r. name room y ∷ names_from r ys) both.0.left
+      λ i. both.0.named i ∷ same i
 
 pub runs_are_one : RunsAreOne
 runs_are_one program start jobs turns seed reading g h a b =

@@ -1,7 +1,7 @@
 -- What events make of a recording.
 use Rattle.std.proofs.Common.{◌≡◌, ◌≢◌, ◌∙◌, cond, ℕ, Option, refl, ap, sym}
 use Rattle.std.proofs.lemmas.Bool.{ne_eqb}
-use Rattle.history.specs.Histories.{choice_in, happening_by}
+use Rattle.history.specs.Histories.{choice_in, happening_by, number_in, rid_in}
 use Rattle.history.specs.Recordings.{Recorded, room_of, happening_at, reply_to, Takes}
 use Rattle.history.specs.Rooms.{Room, onward}
 use Rattle.history.specs.Seats.{at_seat, seated}
@@ -16,9 +16,9 @@ use Rattle.turns.specs.Turned.{Happens}
 
 -- The reply tells what happened.
 pub what_happened : (room : Room) (seat : ℕ) (event : Event) (reply : Reply) → reply ≡ reply_to room (happening_at room seat event) → happening_by seat event reply ≡ happening_at room seat event
-what_happened room seat (asks.Arrive request) reply is = refl
-what_happened room seat (asks.Act op offer) reply is = ap (λ r. Act seat op (choice_in r)) is
-what_happened room seat (asks.Depart response path) reply is = refl
+what_happened room seat (asks.Arrive request) reply is = ap (λ r. Arrive seat (rid_in r) request) is
+what_happened room seat (asks.Act op offer) reply is = ap (λ r. Act seat (rid_in r) (number_in r) op (choice_in r)) is
+what_happened room seat (asks.Depart response path) reply is = ap (λ r. Depart seat (rid_in r) response path) is
 
 seat_of : (room : Room) (seat : ℕ) (event : Event) → seat_in (happening_at room seat event) ≡ seat
 seat_of room seat (asks.Arrive request) = refl
@@ -39,9 +39,9 @@ elsewhere : (a b : ℕ) (v : Option Visit) (open_at : ℕ → Option Visit) → 
 elsewhere a b v open_at ne = ap (λ here. cond here v (open_at b)) (ne_eqb a b ne)
 
 stays_open : (r : Room) (h : Happening) (x : ℕ) → seat_in h ≢ x → (onward r h).open_at x ≡ r.open_at x
-stays_open r (Arrive seat request) x ne = elsewhere seat x _ r.open_at ne
-stays_open r (Act seat op choice) x ne = elsewhere seat x _ r.open_at ne
-stays_open r (Depart seat response path) x ne = elsewhere seat x _ r.open_at ne
+stays_open r (Arrive seat rid request) x ne = elsewhere seat x _ r.open_at ne
+stays_open r (Act seat rid number op choice) x ne = elsewhere seat x _ r.open_at ne
+stays_open r (Depart seat rid response path) x ne = elsewhere seat x _ r.open_at ne
 
 -- at other seats the same is open
 pub stays : {seat : ℕ} {h : Happening} {old new : Recorded} → Happens seat h old new → (x : ℕ) → x ≢ seat → at_seat new.visits x ≡ at_seat old.visits x

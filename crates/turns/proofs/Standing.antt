@@ -67,18 +67,18 @@ room_on first [] h = refl
 room_on first (k ∷ hs) h = room_on (onward first k) hs h
 
 arrived_on : (r : Room) (h : Happening) → (onward r h).arrived ≡ r.arrived + length (arrivals (h ∷ []))
-arrived_on r (Arrive seat request) = omega arith
-arrived_on r (Act seat op choice) = omega arith
-arrived_on r (Depart seat response path) = omega arith
+arrived_on r (Arrive seat rid request) = omega arith
+arrived_on r (Act seat rid number op choice) = omega arith
+arrived_on r (Depart seat rid response path) = omega arith
 
 thrown_on : (r : Option (ℤ × ℤ)) (old new : ChaCha) (rest : List (ℤ × ℤ)) → IsThrown r old new → AreRolled new rest → AreRolled old (cons_option r [] ++ rest)
 thrown_on None old new rest is are = subst (λ d. AreRolled d rest) is are
 thrown_on (Some r) old new rest is are = (is.0, subst (λ d. AreRolled d rest) is.1 are)
 
 elsewhere : (x : ℕ) (h : Happening) → seat_in h ≢ x → roll_at x h ≡ None
-elsewhere x (Arrive seat request) ne = refl
-elsewhere x (Act seat op choice) ne = ap (λ here. cond here (rolled op.act choice) None) (ne_eqb seat x ne)
-elsewhere x (Depart seat response path) ne = refl
+elsewhere x (Arrive seat rid request) ne = refl
+elsewhere x (Act seat rid number op choice) ne = ap (λ here. cond here (rolled op.act choice) None) (ne_eqb seat x ne)
+elsewhere x (Depart seat rid response path) ne = refl
 
 thrown_at : (x seat : ℕ) (h : Happening) (old new : ℕ → ChaCha) → seat_in h ≡ seat → IsThrown (roll_at seat h) (old seat) (new seat)
     → ((y : ℕ) → y ≢ seat → new y ≡ old y) → IsThrown (roll_at x h) (old x) (new x)

@@ -173,20 +173,20 @@ shown_by reading n (Transact ss) offer cell is shown = tt
 shown_by reading n Now offer cell is shown = ap (λ o. choice_of Now o cell) (shown n is)
 shown_by reading n (Roll bound) offer cell is shown = tt
 
-the_answer : (choice made : Choice) (answer d : Datum) → Acted choice answer ≡ Acted made d → answer ≡ d
-the_answer choice made answer d e = cc
+the_answer : (rid r number n : ℕ) (choice made : Choice) (answer d : Datum) → Acted rid number choice answer ≡ Acted r n made d → answer ≡ d
+the_answer rid r number n choice made answer d e = cc
 
-pub acts : (reading : Option ℕ) (seat : ℕ) (op : Op) (offer : Option ℤ) (choice : Choice) (answer : Datum) (h : Happening) (old new : Recorded) (before after : ChaCha) (waiting m : Machine)
+pub acts : (reading : Option ℕ) (seat : ℕ) (op : Op) (offer : Option ℤ) (rid number : ℕ) (choice : Choice) (answer : Datum) (h : Happening) (old new : Recorded) (before after : ChaCha) (waiting m : Machine)
     → IsValid old.program.declarations → (waits : WaitsFor old.program (at_seat old.visits seat) op waiting)
-    → Takes old seat (asks.Act op offer) (Acted choice answer) new → h ≡ happening_by seat (asks.Act op offer) (Acted choice answer)
+    → Takes old seat (asks.Act op offer) (Acted rid number choice answer) new → h ≡ happening_by seat (asks.Act op offer) (Acted rid number choice answer)
     → IsDrawn op.act before after offer → IsShown reading op.act offer
     → Follows old.program waits.visit.request (waits.visit.answers ++ answer ∷ []) m → IsReady m
     → Moves reading seat [] h old new before after (Some m)
-acts reading seat op offer choice answer h old new before after waiting m valid waits taken is drawn shown follows ready =
+acts reading seat op offer rid number choice answer h old new before after waiting m valid waits taken is drawn shown follows ready =
     let v : Visit = waits.visit in
     let cell : Cell = (room_of old).objects op.object in
     let made : Choice = choice_of op.act offer cell in
-    let so : answer ≡ (acted op.act made cell).1 = the_answer choice made answer _ taken.replied in
+    let so : answer ≡ (acted op.act made cell).1 = the_answer rid _ number _ choice made answer _ taken.replied in
     let w : Visit = visit_of v.rid v.request (v.answers ++ answer ∷ []) in
     let here : at_seat new.visits seat ≡ Some w
     = ap (λ (r : Room). r.open_at seat) taken.left ∙ at_itself seat _ (at_seat old.visits)
@@ -195,8 +195,8 @@ acts reading seat op offer choice answer h old new before after waiting m valid 
     let more : length (v.answers ++ answer ∷ []) ≡ length v.answers + 1 = length-append v.answers (answer ∷ []) in
     let left : turns_left (at_seat new.visits seat) ≡ turns_left (Some w) = ap turns_left here in
     let was : turns_left (at_seat old.visits seat) ≡ turns_left (Some v) = ap turns_left waits.here' in
-    moved reading seat [] (asks.Act op offer) (Acted choice answer) h old new before after (Some m) taken is (record {
-      happens = happens seat (asks.Act op offer) (Acted choice answer) old new taken;
+    moved reading seat [] (asks.Act op offer) (Acted rid number choice answer) h old new before after (Some m) taken is (record {
+      happens = happens seat (asks.Act op offer) (Acted rid number choice answer) old new taken;
       can = (old.program, fits_program old.program (at_seat old.visits seat) op waiting valid waits);
       came' = refl;
       rolls =

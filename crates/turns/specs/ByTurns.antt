@@ -16,9 +16,9 @@ seat_of_turn (seat ∷ seats) (suc n) = seat_of_turn seats n
 
 -- the seat at which something happens
 abbrev pub seat_in : Happening → ℕ
-seat_in (Arrive seat request) = seat
-seat_in (Act seat op choice) = seat
-seat_in (Depart seat response path) = seat
+seat_in (Arrive seat rid request) = seat
+seat_in (Act seat rid number op choice) = seat
+seat_in (Depart seat rid response path) = seat
 
 -- ---- turns
 

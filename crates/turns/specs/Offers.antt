@@ -28,9 +28,9 @@ rolled (Roll bound) Nothing = None
 rolled (Roll bound) (Number n) = Some (bound, n)
 
 abbrev pub roll_at : ℕ → Happening → Option (ℤ × ℤ)
-roll_at seat (Arrive at request) = None
-roll_at seat (Act at op choice) = if nat_eq at seat then rolled op.act choice else None
-roll_at seat (Depart at response path) = None
+roll_at seat (Arrive at rid request) = None
+roll_at seat (Act at rid number op choice) = if nat_eq at seat then rolled op.act choice else None
+roll_at seat (Depart at rid response path) = None
 
 -- the bounds and the numbers of the rolls at a seat, in order
 abbrev pub rolls_at : ℕ → List Happening → List (ℤ × ℤ)
@@ -63,9 +63,9 @@ IsReadingOf n Now cell choice = choice ≡ reading_of (clock_offer n) cell
 IsReadingOf n (Roll bound) cell choice = Unit {0}
 
 abbrev pub IsReading : ℕ → Room → Happening → Type 0
-IsReading n room (Arrive seat request) = Unit {0}
-IsReading n room (Act seat op choice) = IsReadingOf n op.act (room.objects op.object) choice
-IsReading n room (Depart seat response path) = Unit {0}
+IsReading n room (Arrive seat rid request) = Unit {0}
+IsReading n room (Act seat rid number op choice) = IsReadingOf n op.act (room.objects op.object) choice
+IsReading n room (Depart seat rid response path) = Unit {0}
 
 abbrev pub AreReadings : ℕ → Room → List Happening → Type 0
 AreReadings n room [] = Unit {0}

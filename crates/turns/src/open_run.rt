@@ -87,8 +87,8 @@ fn act<'c, C: Clock>(
     let event = Event::Act(op, offer);
     let (kept, told) = Recorder::step(recording, seat, &event)?;
     match told {
-        Reply::Acted(_choice, answer) => machine.answer(answer)?,
-        Reply::Arrived(_) | Reply::Departed => unreachable!(),
+        Reply::Acted { answer, .. } => machine.answer(answer)?,
+        Reply::Arrived { .. } | Reply::Departed { .. } => unreachable!(),
     }
     Ok((happening_by(seat, event, &kept), machine))
 }

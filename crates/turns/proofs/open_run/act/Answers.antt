@@ -15,7 +15,7 @@ returns g c =
     let waits = c.requires.waits in
     let event = asks.Act c.args.op c.offer_for-offer.result in
     let same = c.in_ok-kept.ensures.twice ∙ c.in-Acted.is in
-    acts _ c.args.seat c.args.op c.offer_for-offer.result c.in-Acted._choice c.in-Acted.answer c.happening_by.result c.args.recording.now c.step.new.state
+    acts _ c.args.seat c.args.op c.offer_for-offer.result _ _ _ c.in-Acted.answer c.happening_by.result c.args.recording.now c.step.new.state
     c.args.dice.now c.offer_for-offer.new.dice c.args.machine c.answer.new.self c.requires.valid waits
     (subst (λ reply. Takes c.args.recording.now c.args.seat event reply c.step.new.state) same c.in_ok-kept.ensures.steps)
     (c.happening_by.ensures ∙ ap (happening_by c.args.seat event) same)

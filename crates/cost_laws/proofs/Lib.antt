@@ -2,3 +2,4 @@ mod Spending
 mod Counts
 mod Sums
 mod Walk
+mod EqualMembers

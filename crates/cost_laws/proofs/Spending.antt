@@ -1,5 +1,5 @@
 -- How many nodes a report evaluates, by the steps that its requests spend.
-use Rattle.std.proofs.Common.{◌≡◌, ◌∙◌, ◌≤◌, ℕ, suc, ◌+◌, true, List, [], ◌∷◌, ◌++◌, length, take, map, flat_map, Option, Some, None, refl, sym, ap, subst, arith, true≢false}
+use Rattle.std.proofs.Common.{◌≡◌, ◌∙◌, ◌≤◌, ℕ, zero, suc, ◌+◌, true, List, [], ◌∷◌, ◌++◌, length, take, map, flat_map, Option, Some, None, refl, sym, ap, subst, arith, true≢false, length-append}
 use Rattle.std.proofs.lemmas.Bool.{not-false}
 use Rattle.basis.specs.Lists.{nth}
 use Rattle.script_tree.specs.Datum.{Datum}
@@ -8,20 +8,17 @@ use Rattle.script_tree.specs.Objects.{Objects}
 use Rattle.script_tree.specs.Programs.{Program}
 use Rattle.script_tree.specs.Requests.{Request}
 use Rattle.script_tree.specs.Traces.{request_of, response_of}
-use Rattle.script_tree.specs.declared.path.Path.{Path}
 use Rattle.script_tree.specs.declared.request.Response.{Response}
 use Rattle.script_tree.specs.declared.schedule.Moment.{Moment}
 use Rattle.script_tree.specs.declared.trace.TraceEvent.{TraceEvent}
 use Rattle.report.specs.declared.Report.{Report}
-use Rattle.script_meaning.specs.Conduct.{Ends, ended, on_page, start, unless_left}
-use Rattle.script_meaning.specs.Costs.{costs_on, keeping, page_run}
-use Rattle.script_meaning.specs.Evaluate.{Flow}
+use Rattle.script_meaning.specs.Conduct.{Ending, Ends, Wants, Undefined, on_page}
+use Rattle.script_meaning.specs.Costs.{costs_of, costs_on}
 use Rattle.script_meaning.specs.Replay.{ending_of}
-use Rattle.script_meaning.specs.Run.{Outcome, goes, stops}
-use Rattle.script_meaning.specs.declared.run.Stop.TheVariants.{Wants as wants, Fault as fault, AnswerFault as answer_fault}
+use Rattle.script_meaning.specs.Run.{Cost}
 use Rattle.group_costs.specs.Keeping.{KeepingChangesNothing}
 use Rattle.audit_meaning.specs.GroupFaults.{grouping_fault, members}
-use Rattle.audit_meaning.specs.Groups.{gives, steps_to, end_by, end_of, costs, costs_by, cost_of_group, cost_of_all, steps_of_all, if_unlike, if_fewer, mark_fault, longest, marks, group_fault, unsound_group}
+use Rattle.audit_meaning.specs.Groups.{gives, steps_to, done_by, done, end_by, end_of, costs, costs_by, cost_of_group, cost_of_all, steps_of_all, if_unlike, if_fewer, mark_fault, longest, marks, group_fault, unsound_group}
 use Rattle.audit_meaning.specs.Lists.{befores, numbers}
 use Rattle.audit_meaning.specs.Members.{told, performed}
 use Rattle.audit_meaning.specs.declared.node.Node.{Node}
@@ -32,44 +29,42 @@ use Rattle.audit_meaning.specs.declared.reason.Reason.{Reason}
 use Rattle.basis.specs.Lists.{first_answer}
 use Rattle.audit_meaning.proofs.Places.{first_none, or_none, answer_none, befores_at}
 use Rattle.cost_laws.specs.Evaluations.{EvaluatedIsAtMostPlain, OneMemberCostsItsSteps}
-use Rattle.cost_laws.proofs.Counts.{as_many, steps_in}
+use Rattle.cost_laws.proofs.Counts.{HasSpent, no_page_spends, page_spends}
 use Rattle.cost_laws.proofs.Sums.{group_at_most, one_costs, total}
 
 -- ---- a request
 
-over_spends : (xs : List Datum) (x : Response) (path : Path) (y : Option Response) → gives (unless_left xs (Ends x path)) y ≡ true → path.steps ≡ steps_to (unless_left xs (Ends x path))
-over_spends [] x path y h = refl
-over_spends (d ∷ ds) x path y h = absurd (true≢false (sym h))
+on_page_spends : KeepingChangesNothing → (program : Program) (request : Request) (answers : List Datum) (page : Option NumberedPage)
+    → HasSpent (length answers) (costs_on program request answers page) (on_page program request answers page).ending
+on_page_spends law program request answers None = no_page_spends answers _ _ refl
+on_page_spends law program request answers (Some page) =
+    subst (λ c. HasSpent (length answers) (costs_on program request answers (Some page)) c.ending) (law.same program request answers page (Some [])) (page_spends program request answers page)
 
-ended_spends : (n : ℕ) (r : Outcome Flow) (y : Option Response) → gives (ended n r).ending y ≡ true → steps_in r ≡ steps_to (ended n r).ending
-ended_spends n (goes flow p) y h = over_spends p.answers _ _ y h
-ended_spends n (stops (wants op) p) y h = absurd (true≢false (sym h))
-ended_spends n (stops (fault f) p) y h = over_spends p.answers _ _ y h
-ended_spends n (stops answer_fault p) y h = over_spends p.answers _ _ y h
+steps_spent : (n : ℕ) (cs : List Cost) (e : Ending) (y : Option Response) → gives e y ≡ true → HasSpent n cs e → length cs ≡ steps_to e
+steps_spent n cs (Ends response path) y h spent = spent.0
+steps_spent n cs (Wants op) y h spent = absurd (true≢false (sym h))
+steps_spent n cs Undefined y h spent = absurd (true≢false (sym h))
 
-no_steps : (xs : List Datum) (x : Response) (path : Path) → path.steps ≡ 0 → 0 ≡ steps_to (unless_left xs (Ends x path))
-no_steps [] x path h = sym h
-no_steps (d ∷ ds) x path h = refl
-
-page_spends : KeepingChangesNothing → (program : Program) (request : Request) (answers : List Datum) (y : Option Response) (page : Option NumberedPage) → gives (on_page program request answers page).ending y ≡ true
-    → length (costs_on program request answers page) ≡ steps_to (on_page program request answers page).ending
-page_spends law program request answers y None h = no_steps answers _ _ refl
-page_spends law program request answers y (Some page) h =
-    let same = law.same program request answers page (Some []) in
-    let kept = page_run program request (keeping (Some []) (start answers)) page in
-    as_many program request answers page
-    ∙ ended_spends page.number kept y (ap (λ c. gives c.ending y) same ∙ h)
-    ∙ ap (λ c. steps_to c.ending) same
+length_told : (R : Report) (O : Objects) (r k : ℕ) → length (told R O r k) ≡ k
+length_told R O r zero = refl
+length_told R O r (suc k) = length-append (told R O r k) _ ∙ ap (λ n. n + 1) (length_told R O r k) ∙ omega arith
 
 module _ (law : KeepingChangesNothing) (P : Program) (O : Objects) (T : List TraceEvent) (R : Report) where
-  request_spends : (r : ℕ) (o : Option Request) → gives (end_by P O T R r o) (response_of T r) ≡ true → length (costs_by P O T R r o) ≡ steps_to (end_by P O T R r o)
+  request_spends : (r : ℕ) (o : Option Request) → HasSpent (done_by P O T R r o) (costs_by P O T R r o) (end_by P O T R r o)
   unfolding ending_of
-  request_spends r None h = absurd (true≢false (sym h))
-  request_spends r (Some q) h = page_spends law P q (told R O r (performed P O R r q)) (response_of T r) (page_in P q.path) h
+  request_spends r None = tt
+  request_spends r (Some q) =
+      let n = performed P O R r q in
+      let answers = told R O r n in
+      subst (λ k. HasSpent k (costs_of P q answers) (ending_of P q answers)) (length_told R O r n) (on_page_spends law P q answers (page_in P q.path))
+
+  -- a member whose run ends has as many costs as steps, and one of an operation for each of its operations
+  pub member_spends : (r : ℕ) → HasSpent (done P O T R r) (costs P O T R r) (end_of P O T R r)
+  unfolding costs
+  member_spends r = request_spends r (request_of T r)
 
   spends : (r : ℕ) → if_unlike P O T R r ≡ None → length (costs P O T R r) ≡ steps_to (end_of P O T R r)
-  unfolding costs
-  spends r h = request_spends r (request_of T r) (not-false _ (answer_none _ _ h))
+  spends r h = steps_spent _ _ (end_of P O T R r) (response_of T r) (not-false _ (answer_none _ _ h)) (member_spends r)
 
   -- ---- a group
 

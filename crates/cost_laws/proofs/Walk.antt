@@ -2,20 +2,21 @@
 use Rattle.std.proofs.Common.{ℕ, zero, suc, ◌+◌, Bool, true, false, cond, List, [], ◌∷◌, Result, Ok, Err}
 use Rattle.std.specs.Prelude.{◌==◌}
 use Rattle.script_tree.specs.Datum as v
-use Rattle.script_tree.specs.Datum.{Datum, is_within_limits}
+use Rattle.script_tree.specs.Datum.{Datum}
 use Rattle.script_tree.specs.Declarations.{NumberedTable, DeclaredFunction, Callee, own, built, unknown, callee_in, table_in}
 use Rattle.script_tree.specs.Syntax.{Expression, number, text, truth, null, bracket, variable, call, list, transact, unary, binary, and_, or_, index, Expressions, no_expression, expression, Query, insert, select, update, delete, expect, Queries, no_query, query, Conditions, no_condition, condition, Assignments, no_assignment, assignment, Statement, let_, set_, if_, while_, for_, echo, status, return, do_, Else, no_else, else_, Statements, no_statement, statement}
+use Rattle.script_tree.specs.Requests.{Request}
 use Rattle.script_tree.specs.SyntaxLists.{statements_of}
 use Rattle.script_tree.specs.declared.limits.TheConstants.{MOST_CALL_DEPTH}
 use Rattle.script_tree.specs.declared.fault.ScriptFault.{ScriptFault}
 use Rattle.script_tree.specs.declared.fault.ScriptFault.TheVariants.{OutOfSteps, TooDeep}
 use Rattle.script_tree.specs.declared.operation.Op.{Op}
 use Rattle.script_meaning.specs.BuiltinCalls.{Call, plain, of_request, operation, built_in}
-use Rattle.script_meaning.specs.Evaluate.{Setting, Flow, on, back, Later, value_of, entered, call_cost, call_made, called, names_store, store_name, print, print_value, set_status, eval, eval_all, eval_others, operands_of, operands_of_all, tests_of, changes_of, then_on, left_as, scoped, turns, turns_of, exec, otherwise, block, run, node, issue_unless_fault}
+use Rattle.script_meaning.specs.Evaluate.{Setting, Flow, on, back, Later, value_of, entered, call_node, called, names_store, store_name, print, print_value, set_status, eval, eval_all, eval_others, operands_of, operands_of_all, tests_of, changes_of, then_on, left_as, scoped, turns, turns_of, exec, otherwise, block, run, node, issue_unless_fault}
 use Rattle.script_meaning.specs.Kinds.{bool_in, list_in}
 use Rattle.script_meaning.specs.Operands.{OpAnswer, values_of_all, transact_op, status_in}
 use Rattle.script_meaning.specs.Operators.{Answer, printed}
-use Rattle.script_meaning.specs.Run.{Cost, taking, note, Run, ◌>>=◌, ◌>>◌, give, fails, unless_fault, charge, charge_for, answered, count_operation, decide, decide_by}
+use Rattle.script_meaning.specs.Run.{taking, taking_request, note, Run, ◌>>=◌, ◌>>◌, give, fails, unless_fault, charge, charge_for, issue, decide, decide_by}
 use Rattle.script_meaning.specs.declared.run.Mark.{Mark}
 use Rattle.script_meaning.specs.declared.run.Mark.TheVariants.{Decided}
 use Rattle.script_meaning.specs.Variables.{Variables, value_in, declared, bound}
@@ -24,9 +25,9 @@ module _ (Of : (A : Type 0) → Run A → Type 0)
     (of_bind : (A B : Type 0) (m : Run A) (f : A → Run B) → Of A m → ((a : A) → Of B (f a)) → Of B (m >>= f))
     (of_give : (A : Type 0) (a : A) → Of A (give a))
     (of_fails : (A : Type 0) (f : ScriptFault) → Of A (fails f))
-    (charged : (c : Cost) → Of (Unit {0}) (charge c))
-    (counted : Of (Unit {0}) count_operation)
-    (takes_answer : (op : Op) → Of Datum (λ p. answered op p.answers p))
+    (charged : (ds : List Datum) → Of (Unit {0}) (charge (taking ds)))
+    (charged_for_request : (q : Request) (ds : List Datum) → Of (Unit {0}) (charge (taking_request q ds)))
+    (charged_for_operation : (ds : List Datum) (op : Op) → Of Datum (charge (taking ds) >> issue op))
     (noted : (m : Mark) → Of (Unit {0}) (note m))
     (prints : (bytes : List ℕ) → Of (Unit {0}) (print bytes))
     (sets_status : (n : ℕ) → Of (Unit {0}) (set_status n)) where
@@ -53,26 +54,26 @@ module _ (Of : (A : Type 0) → Run A → Type 0)
   either true m n g h = g
   either false m n g h = h
 
-  issued_well : (op : OpAnswer) → Holds (issue_unless_fault op)
-  issued_well (Err f) = failing f
-  issued_well (Ok op) = bind count_operation (λ _. λ p. answered op p.answers p) counted (λ _. takes_answer op)
+  issued_well : (ds : List Datum) (op : OpAnswer) → Holds (charge (taking ds) >> issue_unless_fault op)
+  issued_well ds (Err f) = then (charge (taking ds)) (fails f) (charged ds) (failing f)
+  issued_well ds (Ok op) = charged_for_operation ds op
 
   decided : (whole x : Datum) → Holds (decide_by whole x)
   decided whole x =
-      bind (charge_for whole) _ (charged (taking (whole ∷ []))) (λ _. bind (unless_fault (bool_in x)) _ (unless (bool_in x)) (λ b. bind (note (Decided b)) (λ _. give b) (noted (Decided b)) (λ _. gives b)))
+      bind (charge_for whole) _ (charged (whole ∷ [])) (λ _. bind (unless_fault (bool_in x)) _ (unless (bool_in x)) (λ b. bind (note (Decided b)) (λ _. give b) (noted (Decided b)) (λ _. gives b)))
 
   noded : (ds : List Datum) (a : Answer) → Holds (node ds a)
-  noded ds a = then (charge (taking ds)) (unless_fault a) (charged (taking ds)) (unless a)
+  noded ds a = then (charge (taking ds)) (unless_fault a) (charged ds) (unless a)
 
   -- ---- calls
 
   abbrev AllHold : Later → Type 0
   AllHold later = (depth : ℕ) (ss : Statements) (vs : Variables) → Holds (later depth ss vs)
 
-  call_made_holds : (c : Call) → Holds (call_made c)
-  call_made_holds (plain a) = unless a
-  call_made_holds (of_request a) = unless a
-  call_made_holds (operation op) = issued_well op
+  call_node_holds : (q : Request) (ds : List Datum) (c : Call) → Holds (call_node q ds c)
+  call_node_holds q ds (plain a) = then (charge (taking ds)) (unless_fault a) (charged ds) (unless a)
+  call_node_holds q ds (of_request a) = then (charge (taking_request q ds)) (unless_fault a) (charged_for_request q ds) (unless a)
+  call_node_holds q ds (operation op) = issued_well ds op
 
   module _ (w : Setting) (later : Later) (so : AllHold later) where
     entered_holds : (depth : ℕ) (g : DeclaredFunction) (ds : List Datum) → Holds (entered later depth g ds)
@@ -80,10 +81,9 @@ module _ (Of : (A : Type 0) → Run A → Type 0)
         (failing TooDeep) (bind (later (depth + 1) (statements_of g.body) (bound g.parameters ds)) (λ flow. give (value_of flow)) (so (depth + 1) (statements_of g.body) (bound g.parameters ds)) (λ flow. gives (value_of flow)))
 
     called_holds : (depth : ℕ) (c : Callee) (store : List ℕ) (ds : List Datum) → Holds (called w later depth c store ds)
-    called_holds depth (own g) store ds = then (charge (taking ds)) (entered later depth g ds) (charged (taking ds)) (entered_holds depth g ds)
-    called_holds depth (built b) store ds =
-        then (charge (call_cost w.request ds (built_in w.request store b ds))) (call_made (built_in w.request store b ds)) (charged (call_cost w.request ds (built_in w.request store b ds))) (call_made_holds (built_in w.request store b ds))
-    called_holds depth unknown store ds = then (charge (taking ds)) (fails _) (charged (taking ds)) (failing _)
+    called_holds depth (own g) store ds = then (charge (taking ds)) (entered later depth g ds) (charged ds) (entered_holds depth g ds)
+    called_holds depth (built b) store ds = call_node_holds w.request ds (built_in w.request store b ds)
+    called_holds depth unknown store ds = then (charge (taking ds)) (fails _) (charged ds) (failing _)
 
     module _ (depth : ℕ) (vs : Variables) where
       mutual
@@ -105,7 +105,7 @@ module _ (Of : (A : Type 0) → Run A → Type 0)
         eval_holds (call at f es) =
             bind _ _ (arguments_holds (names_store (callee_in w.program f)) es) (λ ds. called_holds depth (callee_in w.program f) (store_name es) ds)
         eval_holds (transact at qs) =
-            bind (operands_of_all w later depth vs qs) _ (queries_holds qs) (λ us. bind (charge (taking (values_of_all us))) _ (charged (taking (values_of_all us))) (λ _. issued_well (transact_op us)))
+            bind (operands_of_all w later depth vs qs) _ (queries_holds qs) (λ us. issued_well (values_of_all us) (transact_op us))
 
         all_holds : (es : Expressions) → Holds (eval_all w later depth vs es)
         all_holds no_expression = gives []
@@ -157,14 +157,14 @@ module _ (Of : (A : Type 0) → Run A → Type 0)
 
     turns_of_holds : (whole : Datum) (x : List ℕ) (body : Variables → Run Flow) → ((us : Variables) → Holds (body us)) → (vs : Variables) (r : Result (List Datum) ScriptFault) → Holds (turns_of whole x body vs r)
     turns_of_holds whole x body h vs (Ok ds) = turns_holds whole x body h vs ds
-    turns_of_holds whole x body h vs (Err f) = then (charge_for whole) (fails f) (charged (taking (whole ∷ []))) (failing f)
+    turns_of_holds whole x body h vs (Err f) = then (charge_for whole) (fails f) (charged (whole ∷ [])) (failing f)
 
     printed_holds : (x : Datum) → Holds (print_value x)
     printed_holds x = bind (unless_fault (printed x)) print (unless (printed x)) prints
 
     module _ (depth : ℕ) where
       spent : (vs : Variables) (e : Expression) (f : Datum → Run Flow) → ((x : Datum) → Holds (f x)) → Holds (eval w later depth vs e >>= λ x. charge_for x >>= λ _. f x)
-      spent vs e f h = bind (eval w later depth vs e) _ (eval_holds depth vs e) (λ x. bind (charge_for x) (λ _. f x) (charged (taking (x ∷ []))) (λ _. h x))
+      spent vs e f h = bind (eval w later depth vs e) _ (eval_holds depth vs e) (λ x. bind (charge_for x) (λ _. f x) (charged (x ∷ [])) (λ _. h x))
 
       mutual
         exec_holds : (s : Statement) (vs : Variables) → Holds (exec w later depth s vs)

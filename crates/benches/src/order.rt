@@ -1,0 +1,99 @@
+//! Orders the events of reports. With the name of a file it runs the rows of that file, and tells
+//! those that come to something else than the row says. With a shape, a number of requests and how
+//! many times, it makes a large report for `bench/order`, orders its events so many times, and tells
+//! on standard error how long that took.
+ghost use Rattle.script_tree.specs.Traces.{IsBalanced};
+
+mod answer;
+mod events;
+mod shape;
+mod told;
+mod words;
+
+use crate::order::answer::{answer_of, indexed};
+use crate::order::shape::Shape;
+use crate::order::told::told;
+use crate::order::words::{report_of, trace_of};
+use crate::tally::{Tally, row_of};
+use crate::words::{number, wrong_words};
+use report::Report;
+use std::alloc::Global;
+use std::fs;
+use std::io::{self, ErrorKind};
+use std::time::{Duration, Instant};
+use trace_format::trace_file::TraceFile;
+use trace_index::IndexedTrace;
+
+/// Does what the words say.
+pub fn run(rt: &HostRuntime, words: &[String]) -> io::Result<()> {
+    match words {
+        [file] => run_rows(rt, file.as_str(), &fs::read_to_string(rt, file.as_str())?),
+        [shape, requests, times] => {
+            let shape = Shape::from_word(shape.as_str()).ok_or(ErrorKind::InvalidInput)?;
+            run_bench(
+                rt,
+                shape,
+                number(requests.as_str())?,
+                number(times.as_str())?,
+            )
+        }
+        _ => wrong_words(rt, "order FILE, or order SHAPE REQUESTS TIMES"),
+    }
+}
+
+/// Runs the rows of a file.
+fn run_rows(rt: &HostRuntime, file: &str, text: &str) -> io::Result<()> {
+    let mut tally = Tally::new();
+    for line in text.lines() {
+        if let Some((wanted, words)) = row_of(line) {
+            let told = row_told(rt.alloc(), words)?;
+            tally.count(rt, words, wanted, told.as_str())?;
+        }
+    }
+    tally.tell(rt, file)
+}
+
+/// What the words of a row come to.
+fn row_told(alloc: Global, words: &str) -> io::Result<String> {
+    let trace = trace_of(alloc, words)?;
+    let report = report_of(alloc, words)?;
+    answer_told(alloc, &trace, &report)
+}
+
+fn answer_told(alloc: Global, trace: &TraceFile, report: &Report) -> io::Result<String> {
+    let trace = indexed(alloc, trace)?;
+    let answer = answer_of(alloc, &trace, report)?;
+    Ok(told(alloc, &answer)?)
+}
+
+/// Makes a report and the table of its trace, and orders its events so many times.
+fn run_bench(rt: &HostRuntime, shape: Shape, requests: u32, times: u32) -> io::Result<()> {
+    let trace = shape.trace(rt.alloc(), requests)?;
+    let report = shape.report(rt.alloc(), requests)?;
+    let trace = indexed(rt.alloc(), &trace)?;
+    order_times(rt, &trace, &report, times)
+}
+
+/// Checks a report and orders its events so many times, and tells what it came to and how long that
+/// took.
+fn order_times(
+    rt: &HostRuntime,
+    trace: &IndexedTrace<'_>,
+    report: &Report,
+    times: u32,
+) -> io::Result<()>
+    requires { IsBalanced trace.now }
+{
+    let (mut took, mut length) = (Duration::ZERO, 0);
+    for _ in 0..times {
+        let start = Instant::now(rt)?;
+        let answer = answer_of(rt.alloc(), trace, report)?;
+        took = took.saturating_add(start.elapsed(rt)?);
+        length = answer.length();
+    }
+    println!(rt;
+        "events {}, times {times}, answer of {length} nodes",
+        trace.len()
+    )?;
+    eprintln!(rt; "nanoseconds {}", took.as_nanos())
+}

@@ -1,0 +1,53 @@
+//! The bench: answers a large log.
+use crate::versions::shape::{Shape, logs_of, start_of};
+use object_set::ObjectSet;
+use report::Log;
+use std::alloc::AllocError;
+use std::io::{self, ErrorKind};
+use std::time::Instant;
+use versioned_store::VersionedStore;
+use versioned_store::fitting::fit_logs;
+
+/// Makes logs, and answers all of their entries so many times.
+pub fn run_bench(rt: &HostRuntime, shape: Shape, entries: u32, times: u32) -> io::Result<()> {
+    let start = start_of(rt.alloc(), shape)?;
+    let logs = logs_of(rt.alloc(), shape, entries)?;
+    for _ in 0..times {
+        run_once(rt, &start, logs.as_slice())?;
+    }
+    println!(rt; "entries {entries}, times {times}")
+}
+
+/// Builds the versions of some logs and answers all entries, and tells how long that took.
+fn run_once(rt: &HostRuntime, start: &ObjectSet, logs: &[Log]) -> io::Result<()> {
+    if !fit_logs(start, logs) {
+        return Err(ErrorKind::InvalidData.into());
+    }
+    let began = Instant::now(rt)?;
+    let store = VersionedStore::build(rt.alloc(), start, logs)?;
+    let built = began.elapsed(rt)?.as_nanos();
+    answer_all(&store)?;
+    let all = began.elapsed(rt)?.as_nanos();
+    eprintln!(rt; "nanoseconds {built} built, {all} in all")
+}
+
+/// Answers each entry of all logs, none of which is empty.
+fn answer_all(store: &VersionedStore<'_>) -> Result<(), AllocError> {
+    for log in 0..u32::MAX {
+        if !store.has_entry(log, 0) {
+            break;
+        }
+        answer_log(store, log)?;
+    }
+    Ok(())
+}
+
+fn answer_log(store: &VersionedStore<'_>, log: u32) -> Result<(), AllocError> {
+    for position in 0..u32::MAX {
+        if !store.has_entry(log, position) {
+            break;
+        }
+        let _ = store.answer_at(log, position)?;
+    }
+    Ok(())
+}

@@ -1,0 +1,50 @@
+//! The second opinion: what a plain fold of a log answers.
+use crate::versions::told::tell;
+use crate::versions::words::{Row, act_of, empty_objects, object_of};
+use object_set::ObjectSet;
+use script_tree::operation::{Choice, Op};
+use script_tree::value::Value;
+use std::alloc::Global;
+use std::io::{self, ErrorKind};
+use versioned_store::fitting::fits;
+
+/// What an operation answers, where it is one that its object is asked for.
+fn answer_of(objects: &mut ObjectSet, op: &Op) -> Option<Value> {
+    if fits(objects, &op.object, &op.act) {
+        objects.apply(op, Choice::Nothing).ok()
+    } else {
+        None
+    }
+}
+
+/// The operation of an entry of the object of this name.
+fn op_of(alloc: Global, name: &str, entry: &str) -> io::Result<Op> {
+    let object = object_of(alloc, name)?;
+    let act = act_of(alloc, name, entry)?;
+    Ok(Op { object, act })
+}
+
+/// Does the operations of entries one after the other, and tells what they answer.
+fn run(alloc: Global, objects: &mut ObjectSet, object: &str, entries: &str) -> io::Result<String> {
+    let mut answers = String::new(alloc);
+    for entry in entries.split_whitespace() {
+        let op = op_of(alloc, object, entry)?;
+        let answer = answer_of(objects, &op).ok_or(ErrorKind::InvalidData)?;
+        tell(alloc, &mut answers, &answer)?;
+        answers.push(' ')?;
+    }
+    Ok(answers)
+}
+
+/// The objects that a row starts with.
+pub fn start_of(alloc: Global, row: Row<'_>) -> io::Result<ObjectSet> {
+    let mut objects = empty_objects(alloc)?;
+    run(alloc, &mut objects, row.object, row.start)?;
+    Ok(objects)
+}
+
+/// The answers of a row's entries.
+pub fn folded(alloc: Global, row: Row<'_>) -> io::Result<String> {
+    let mut objects = start_of(alloc, row)?;
+    run(alloc, &mut objects, row.object, row.entries)
+}

@@ -9,6 +9,7 @@ import sys
 TOP = os.path.dirname(os.path.dirname(os.path.realpath(__file__)))
 LAUNCHER = os.path.join(TOP, "orochi")
 BUILT = os.path.join(TOP, "crates", "orochi", "out", "orochi")
+BENCHES = os.path.join(TOP, "crates", "benches", "out", "benches")
 
 
 def orochi():
@@ -22,6 +23,13 @@ def orochi():
     if subprocess.run([LAUNCHER], stdin=subprocess.DEVNULL, stdout=subprocess.DEVNULL).returncode == 125:
         sys.exit("the program can't be built")
     return BUILT
+
+
+def benches(named=BENCHES):
+    """The program of this name, or else what `rt run` built in crates/benches: its whole path. Ends the script where it isn't
+    there."""
+    program = os.path.abspath(named)
+    return program if os.access(program, os.X_OK) else sys.exit(f"no program: {program}")
 
 
 def words(use):

@@ -1,4 +1,4 @@
-"""The workloads that bench/replay, bench/record and bench/audit time, and how a run is timed.
+"""The workloads that bench/replay, bench/record, bench/audit and others time, and how a run is timed.
 
 A workload is a program, a state, and the path and parameters of each request:
 
@@ -169,6 +169,13 @@ LONG = ["heavy", "page"]
 def counts(kind):
     """How many requests of a kind are timed."""
     return FEWER if kind in LONG else [1] if kind == "state" else COUNTS
+
+
+def parted(report, size):
+    """The records of a report, with groups of so many members at most."""
+    others = [record for record in report if record[0] != "group"]
+    groups = [members for kind, *rest in report if kind == "group" for members in rest]
+    return others + [("group", members[at : at + size]) for members in groups for at in range(0, len(members), size)]
 
 
 # ---- runs

@@ -6,10 +6,12 @@ use Rattle.report_format.specs.Reports.{report_format, records_of, IsSpellable}
 use Rattle.benches.specs.declared.files.contents.Contents.{Contents}
 use Rattle.benches.specs.declared.files.contents.Contents.TheVariants.{Trace, Report}
 
+-- the bytes of its file
 abbrev pub spelling : Contents → List ℕ
 spelling (Trace trace) = file_spelling trace_format trace
 spelling (Report report) = file_spelling report_format (records_of report)
 
+-- What it holds has a file.
 abbrev pub MayBeEncoded : Contents → Type 0
 MayBeEncoded (Trace trace) = Unit {0}
 MayBeEncoded (Report report) = IsSpellable report

@@ -3,6 +3,7 @@
 #![tactic(auto)]
 
 mod files;
+mod groups;
 mod order;
 mod pages;
 mod tally;
@@ -33,10 +34,11 @@ fn run_part(rt: &HostRuntime, words: &[String]) -> io::Result<()> {
     };
     match part.as_str() {
         "files" => files::run(rt, words),
+        "groups" => groups::run(rt, words),
         "order" => order::run(rt, words),
         "pages" => pages::run(rt, words),
         "versions" => versions::run(rt, words),
-        _ => wrong_words(rt, "files|order|pages|versions .., or rows FILE"),
+        _ => wrong_words(rt, "files|groups|order|pages|versions .., or rows FILE"),
     }
 }
 

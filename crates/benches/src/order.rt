@@ -7,7 +7,7 @@ ghost use Rattle.script_tree.specs.Traces.{IsBalanced};
 mod answer;
 mod events;
 mod shape;
-mod told;
+pub mod told;
 mod words;
 
 use crate::order::answer::{answer_of, indexed};

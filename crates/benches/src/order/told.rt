@@ -42,7 +42,7 @@ fn operation(alloc: Global, number: u32, rid: u32, place: u32) -> Result<String,
 }
 
 /// A reason by its number, with its fields.
-fn reason(alloc: Global, reason: &Reason) -> Result<String, AllocError> {
+pub fn reason_told(alloc: Global, reason: &Reason) -> Result<String, AllocError> {
     match reason {
         Reason::Unreadable { at } => format!(in alloc; "1: unreadable at {at}"),
         Reason::SecondLog { object: of } => second_log(alloc, of),
@@ -95,7 +95,7 @@ fn nodes(alloc: Global, word: &str, nodes: &[Node]) -> Result<String, AllocError
 /// What an answer says.
 pub fn told(alloc: Global, answer: &Answer) -> Result<String, AllocError> {
     match answer {
-        Answer::Rejected(fault) => reason(alloc, fault),
+        Answer::Rejected(fault) => reason_told(alloc, fault),
         Answer::Order(found) => nodes(alloc, "order", found.as_slice()),
     }
 }

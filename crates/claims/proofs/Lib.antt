@@ -1,0 +1,5 @@
+pub mod Ends
+pub mod Gathering
+pub mod Keeps
+pub mod Known
+pub mod Leasts

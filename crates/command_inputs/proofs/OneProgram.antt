@@ -1,5 +1,5 @@
 -- A text is one program, or has one first fault.
-use Rattle.std.proofs.Common.{◌≡◌, ◌∙◌, ℕ, ◌<◌, ◌≤◌, List, [], ◌∷◌, ◌++◌, length, inl, inr, refl, ap, ap₂, sym, subst, append_assoc, arith}
+use Rattle.std.proofs.Common.{◌≡◌, ◌∙◌, ℕ, List, [], ◌∷◌, ◌++◌, length, inl, inr, refl, ap, ap₂, sym, subst, append_assoc, arith}
 use Rattle.std.specs.Prelude.{nat_eq, if◌then◌else◌}
 use Rattle.std.specs.List.{All}
 use Rattle.std.proofs.lemmas.List.Elements.{All-head, All-tail}
@@ -13,13 +13,13 @@ use Rattle.script_tokens.specs.declared.fault.End.TheVariants.{File, Fault}
 use Rattle.script_tokens.specs.declared.fault.SyntaxFault.{SyntaxFault}
 use Rattle.script_tokens.proofs.Spelled.{each_is_spelled}
 use Rattle.script_grammar.specs.Files.{Spells, IsAtToken, IsAtEnd, IsSyntaxFault, ungrammatical}
-use Rattle.script_grammar.specs.Grammar.{IsTreeOf, AreSpelled, Begins, IsFaultAt}
+use Rattle.script_grammar.specs.Grammar.{IsTreeOf, AreSpelled, Begins}
 use Rattle.script_grammar.proofs.Exact.{one_tree}
 use Rattle.script_check.specs.Least.{number_of, IsLeastFault, IsNotAbove}
 use Rattle.script_check.specs.declared.fault.CheckFault.{CheckFault}
 use Rattle.script_check.specs.declared.fault.CheckFaultKind.{CheckFaultKind}
 use Rattle.script_check.specs.declared.fault.CheckFaultKind.TheVariants.{Undeclared, DeclaredTwice, WrongCount, Unknown, KeyWritten, PageTwice}
-use Rattle.command_inputs.specs.Program.{SpellsProgram, HasSyntaxFault, HasCheckFault, IsProgramFault}
+use Rattle.command_inputs.specs.Program.{SpellsProgram, IsProgramFault}
 use Rattle.command_inputs.specs.declared.fault.InputFault.{InputFault}
 use Rattle.command_inputs.specs.declared.fault.InputFault.TheVariants.{Syntax, Check}
 

@@ -1,5 +1,7 @@
 -- Why inputs are not read.
 use Rattle.std.specs.Prelude.{Result, Ok, Err}
+use Rattle.basis.specs.declared.or_memory.OrMemory.{OrMemory}
+use Rattle.basis.specs.declared.or_memory.OrMemory.TheVariants.{Other}
 use Rattle.outside.specs.Shelves.{ShelfTold, UsesShelf}
 use Rattle.outside.specs.declared.fault.ShelfFault.{ShelfFault}
 use Rattle.outside.specs.declared.fault.ShelfFault.TheVariants as shelf
@@ -9,6 +11,11 @@ use Rattle.command_inputs.specs.declared.fault.InputFault.{InputFault}
 use Rattle.command_inputs.specs.declared.fault.InputFault.TheVariants.{Absent, TooLong, Syntax, Check, State, Requests, Turns, Trace}
 use Rattle.command_inputs.specs.declared.halt.Halt.TheVariants.{Failed, Memory}
 use Rattle.command_inputs.specs.declared.role.Role.{Role}
+
+-- a thing or its fault, as what a call answers that may run out of memory
+abbrev pub or_memory : {A E : Type 0} → Result A E → Result A (OrMemory E)
+or_memory (Ok x) = Ok x
+or_memory (Err fault) = Err (Other fault)
 
 -- why an input was not read, where the shelf refused a read of it
 abbrev pub refused : Role → ShelfFault → InputError

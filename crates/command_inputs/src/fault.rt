@@ -1,11 +1,12 @@
-ghost use Rattle.std.specs.Prelude.{◌≡◌};
-ghost use Rattle.command_inputs.specs.Faults.{refused};
+ghost use Rattle.std.specs.Prelude.{◌≡◌, IfOk};
+ghost use Rattle.command_inputs.specs.Faults.{or_memory, refused};
 ghost use Rattle.command_inputs.specs.FaultTexts.{syntax_number};
 ghost use Rattle.command_inputs.specs.declared.fault.InputError.TheVariants.{Fault, Halt as Halts};
 ghost use Rattle.command_inputs.specs.declared.halt.Halt.TheVariants.{Memory};
 
 use crate::halt::Halt;
 use crate::role::Role;
+use basis::OrMemory;
 use outside::ShelfFault;
 use script_check::fault::CheckFault;
 use script_tokens::fault::{SyntaxFault, SyntaxFaultKind};
@@ -57,6 +58,17 @@ impl InputError {
             ShelfFault::Failed => InputError::Halt(Halt::Failed),
             ShelfFault::Memory => InputError::Halt(Halt::Memory),
         }
+    }
+}
+
+/// The thing or its fault, where memory did not run out.
+pub(crate) fn or_fault<T, E>(read: Result<T, OrMemory<E>>) -> Result<Result<T, E>, AllocError>
+    ensures { IfOk result (λ told. read ≡ or_memory told) }
+{
+    match read {
+        Ok(thing) => Ok(Ok(thing)),
+        Err(OrMemory::Other(fault)) => Ok(Err(fault)),
+        Err(OrMemory::Memory) => Err(AllocError),
     }
 }
 

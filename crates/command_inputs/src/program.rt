@@ -4,11 +4,9 @@ ghost use Rattle.command_inputs.specs.Faults.{UsesToRead};
 ghost use Rattle.command_inputs.specs.Inputs.{IsReadUnder};
 ghost use Rattle.command_inputs.specs.Program.{program_input};
 
-use crate::fault::{InputError, InputFault};
+use crate::fault::{InputError, InputFault, or_fault};
 use crate::file::read_whole;
-use crate::halt::Halt;
 use crate::role::Role;
-use basis::OrMemory;
 use outside::Shelf;
 use script_check::program::{Program, check};
 use script_syntax::parse::parse;
@@ -28,13 +26,6 @@ pub fn read_program<F: Shelf>(
     ensures once { IsReadOnce (F.reads shelf.old) (F.reads shelf.new) name.now }
 {
     let bytes = read_whole(alloc, shelf, Role::Program, name, most)?;
-    match parse(alloc, &bytes) {
-        Ok(tree) => match check(alloc, tree) {
-            Ok(program) => Ok(program),
-            Err(OrMemory::Memory) => Err(InputError::Halt(Halt::Memory)),
-            Err(OrMemory::Other(fault)) => Err(InputError::Fault(InputFault::Check(fault))),
-        },
-        Err(OrMemory::Memory) => Err(InputError::Halt(Halt::Memory)),
-        Err(OrMemory::Other(fault)) => Err(InputError::Fault(InputFault::Syntax(fault))),
-    }
+    let tree = or_fault(parse(alloc, &bytes))?.map_err(InputFault::Syntax)?;
+    Ok(or_fault(check(alloc, tree))?.map_err(InputFault::Check)?)
 }

@@ -5,11 +5,9 @@ ghost use Rattle.command_inputs.specs.Faults.{UsesToRead};
 ghost use Rattle.command_inputs.specs.Inputs.{IsReadUnder};
 ghost use Rattle.command_inputs.specs.Report.{report_input};
 
-use crate::fault::InputError;
+use crate::fault::{InputError, or_fault};
 use crate::file::read_whole;
-use crate::halt::Halt;
 use crate::role::Role;
-use basis::OrMemory;
 use outside::Shelf;
 use report::Report;
 use report_format::decoding::decode;
@@ -32,9 +30,6 @@ pub fn read_report<F: Shelf>(
 {
     values_are_within_limits();
     let bytes = read_whole(alloc, shelf, Role::Report, name, most)?;
-    match decode(alloc, &bytes) {
-        Ok(report) => Ok(Ok(report)),
-        Err(OrMemory::Memory) => Err(InputError::Halt(Halt::Memory)),
-        Err(OrMemory::Other(fault)) => Ok(Err(fault.at as u64)),
-    }
+    let report = or_fault(decode(alloc, &bytes))?;
+    Ok(report.map_err(|fault| fault.at as u64))
 }

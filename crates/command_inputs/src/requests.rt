@@ -4,11 +4,9 @@ ghost use Rattle.command_inputs.specs.Faults.{UsesToRead};
 ghost use Rattle.command_inputs.specs.Inputs.{IsReadUnder};
 ghost use Rattle.command_inputs.specs.Requests.{requests_input};
 
-use crate::fault::{InputError, InputFault};
+use crate::fault::{InputError, InputFault, or_fault};
 use crate::file::read_whole;
-use crate::halt::Halt;
 use crate::role::Role;
-use basis::OrMemory;
 use outside::Shelf;
 use std::alloc::Global;
 use workload::Requests;
@@ -27,9 +25,6 @@ pub fn read_requests<F: Shelf>(
     ensures once { IsReadOnce (F.reads shelf.old) (F.reads shelf.new) name.now }
 {
     let bytes = read_whole(alloc, shelf, Role::Requests, name, most)?;
-    match workload::read_requests(alloc, &bytes) {
-        Ok(requests) => Ok(requests),
-        Err(OrMemory::Memory) => Err(InputError::Halt(Halt::Memory)),
-        Err(OrMemory::Other(fault)) => Err(InputError::Fault(InputFault::Requests(fault))),
-    }
+    let requests = or_fault(workload::read_requests(alloc, &bytes))?;
+    Ok(requests.map_err(InputFault::Requests)?)
 }

@@ -4,11 +4,9 @@ ghost use Rattle.command_inputs.specs.Faults.{UsesToRead};
 ghost use Rattle.command_inputs.specs.Inputs.{IsReadUnder};
 ghost use Rattle.command_inputs.specs.Schedule.{schedule_input};
 
-use crate::fault::InputError;
+use crate::fault::{InputError, or_fault};
 use crate::file::read_whole;
-use crate::halt::Halt;
 use crate::role::Role;
-use basis::OrMemory;
 use outside::Shelf;
 use schedule_format::schedule_file::ScheduleFile;
 use std::alloc::Global;
@@ -27,9 +25,6 @@ pub fn read_schedule<F: Shelf>(
     ensures once { IsReadOnce (F.reads shelf.old) (F.reads shelf.new) name.now }
 {
     let bytes = read_whole(alloc, shelf, Role::Schedule, name, most)?;
-    match ScheduleFile::read(alloc, bytes) {
-        Ok(schedule) => Ok(Ok(schedule)),
-        Err(OrMemory::Memory) => Err(InputError::Halt(Halt::Memory)),
-        Err(OrMemory::Other(fault)) => Ok(Err(fault.at as u64)),
-    }
+    let schedule = or_fault(ScheduleFile::read(alloc, bytes))?;
+    Ok(schedule.map_err(|fault| fault.at as u64))
 }

@@ -5,11 +5,9 @@ ghost use Rattle.command_inputs.specs.Faults.{UsesToRead};
 ghost use Rattle.command_inputs.specs.Inputs.{IsReadUnder};
 ghost use Rattle.command_inputs.specs.State.{state_input};
 
-use crate::fault::{InputError, InputFault};
+use crate::fault::{InputError, InputFault, or_fault};
 use crate::file::read_whole;
-use crate::halt::Halt;
 use crate::role::Role;
-use basis::OrMemory;
 use object_set::ObjectSet;
 use outside::Shelf;
 use script_check::program::Program;
@@ -31,9 +29,6 @@ pub fn read_state<F: Shelf>(
     ensures once { IsReadOnce (F.reads shelf.old) (F.reads shelf.new) name.now }
 {
     let bytes = read_whole(alloc, shelf, Role::State, name, most)?;
-    match state_file::read_state(alloc, program, &bytes) {
-        Ok(objects) => Ok(objects),
-        Err(OrMemory::Memory) => Err(InputError::Halt(Halt::Memory)),
-        Err(OrMemory::Other(fault)) => Err(InputError::Fault(InputFault::State(fault))),
-    }
+    let objects = or_fault(state_file::read_state(alloc, program, &bytes))?;
+    Ok(objects.map_err(InputFault::State)?)
 }

@@ -6,9 +6,8 @@ ghost use Rattle.command_inputs.specs.Faults.{UsesToRead};
 ghost use Rattle.command_inputs.specs.Inputs.{IsReadUnder};
 ghost use Rattle.command_inputs.specs.Trace.{trace_input, HasTraceFault, SpellsTrace};
 
-use crate::fault::{InputError, InputFault, TraceFault};
+use crate::fault::{InputError, InputFault, TraceFault, or_fault};
 use crate::file::read_whole;
-use crate::halt::Halt;
 use crate::role::Role;
 use basis::OrMemory;
 use outside::Shelf;
@@ -20,13 +19,9 @@ use trace_format::trace_file::TraceFile;
 fn balanced(alloc: Global, bytes: Vec<u8>) -> Result<TraceFile, OrMemory<TraceFault>>
     ensures { UnlessMemory (SpellsTrace bytes.items) (HasTraceFault bytes.items) result }
 {
-    let trace = match TraceFile::read(alloc, bytes) {
-        Ok(trace) => trace,
-        Err(OrMemory::Memory) => return Err(OrMemory::Memory),
-        Err(OrMemory::Other(fault)) => {
-            return Err(OrMemory::Other(TraceFault::Unreadable(fault.at as u64)));
-        }
-    };
+    let trace = or_fault(TraceFile::read(alloc, bytes))?.map_err(|fault| OrMemory::Other(
+        TraceFault::Unreadable(fault.at as u64),
+    ))?;
     match first_unbalanced(alloc, &trace)? {
         None => Ok(trace),
         Some(rid) => Err(OrMemory::Other(TraceFault::Unbalanced(rid))),
@@ -48,9 +43,6 @@ pub fn read_trace<F: Shelf>(
     ensures once { IsReadOnce (F.reads shelf.old) (F.reads shelf.new) name.now }
 {
     let bytes = read_whole(alloc, shelf, Role::Trace, name, most)?;
-    match balanced(alloc, bytes) {
-        Ok(trace) => Ok(trace),
-        Err(OrMemory::Memory) => Err(InputError::Halt(Halt::Memory)),
-        Err(OrMemory::Other(fault)) => Err(InputError::Fault(InputFault::Trace(fault))),
-    }
+    let trace = or_fault(balanced(alloc, bytes))?;
+    Ok(trace.map_err(InputFault::Trace)?)
 }

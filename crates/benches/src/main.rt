@@ -13,6 +13,9 @@ mod words;
 use crate::words::{split, wrong_words};
 use std::{env, fs, io};
 
+/// The words that there are.
+const PARTS: &str = "files|groups|order|pages|versions .., or rows FILE";
+
 fn main(rt: HostRuntime) -> io::Result<()> {
     let words = Vec::from_iter(rt.alloc(), env::args(&rt)?)?;
     run(&rt, words.as_slice())
@@ -23,14 +26,14 @@ fn run(rt: &HostRuntime, words: &[String]) -> io::Result<()> {
     match words {
         [_, part, file] if part.as_str() == "rows" => run_rows(rt, file.as_str()),
         [_, words @ ..] => run_part(rt, words),
-        [] => wrong_words(rt, "PART .."),
+        [] => wrong_words(rt, PARTS),
     }
 }
 
 /// Runs the part that the first word names, with the others.
 fn run_part(rt: &HostRuntime, words: &[String]) -> io::Result<()> {
     let [part, words @ ..] = words else {
-        return wrong_words(rt, "PART ..");
+        return wrong_words(rt, PARTS);
     };
     match part.as_str() {
         "files" => files::run(rt, words),
@@ -38,7 +41,7 @@ fn run_part(rt: &HostRuntime, words: &[String]) -> io::Result<()> {
         "order" => order::run(rt, words),
         "pages" => pages::run(rt, words),
         "versions" => versions::run(rt, words),
-        _ => wrong_words(rt, "files|groups|order|pages|versions .., or rows FILE"),
+        _ => wrong_words(rt, PARTS),
     }
 }
 

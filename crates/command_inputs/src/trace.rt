@@ -19,9 +19,8 @@ use trace_format::trace_file::TraceFile;
 fn balanced(alloc: Global, bytes: Vec<u8>) -> Result<TraceFile, OrMemory<TraceFault>>
     ensures { UnlessMemory (SpellsTrace bytes.items) (HasTraceFault bytes.items) result }
 {
-    let trace = or_fault(TraceFile::read(alloc, bytes))?.map_err(|fault| OrMemory::Other(
-        TraceFault::Unreadable(fault.at as u64),
-    ))?;
+    let read = or_fault(TraceFile::read(alloc, bytes))?;
+    let trace = read.map_err(|fault| OrMemory::Other(TraceFault::Unreadable(fault.at as u64)))?;
     match first_unbalanced(alloc, &trace)? {
         None => Ok(trace),
         Some(rid) => Err(OrMemory::Other(TraceFault::Unbalanced(rid))),

@@ -9,5 +9,6 @@ pub mod Outcomes
 pub mod Puts
 pub mod RecordSteps
 pub mod Recordings
+pub mod Runs
 pub mod Steps
 pub mod Verdicts

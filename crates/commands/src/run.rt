@@ -1,11 +1,12 @@
 ghost use Rattle.std.specs.Prelude.{◌≡◌, ◌<◌, ◌≤◌, Err, IfOk, IsOkAnd};
 ghost use Rattle.std.specs.Option.{ForSome};
 ghost use Rattle.outside.specs.Shelves.{UsesShelf};
+ghost use Rattle.command_inputs.specs.Faults.{UsesToRead};
 ghost use Rattle.commands.specs.Asked.{MayAnswer, asked_of};
 ghost use Rattle.commands.specs.Explained.{AskAudit, AskCheck, AskReplay, IsAcceptedBy, IsExplained, IsProgramFile, IsRejectedBy, IsUnexplained};
-ghost use Rattle.commands.specs.Outcome.{SaysAbsent, IsOutcome};
+ghost use Rattle.commands.specs.Outcome.{IfFound, IsOutcome, SaysAbsent};
 ghost use Rattle.commands.specs.Recorded.{AskRecord, IsRecordedBy};
-ghost use Rattle.commands.specs.Runs.{IsAnswered, IsHalted};
+ghost use Rattle.commands.specs.Runs.{IsAnswered, IsBrokenOff, IsCarriedOut, IsHalted};
 ghost use Rattle.command_inputs.specs.declared.halt.Halt.TheVariants.{Failed};
 
 use crate::answer::Answer;
@@ -76,10 +77,25 @@ pub fn run<F: Shelf, O: Sink, H: House, C: Clock + Sync, G: Gate + Sync>(
     recorded_is_accepted();
     traces_are_balanced();
     one_way();
-    let outcome = match outcome_of(alloc, words, shelf, clock, gate) {
-        Ok(outcome) => outcome,
-        Err(halt) => return halt.status(),
-    };
+    match outcome_of(alloc, words, shelf, clock, gate) {
+        Ok(outcome) => carry_out(alloc, shelf, out, outcome),
+        Err(halt) => halt.status(),
+    }
+}
+
+/// Writes the files of an outcome and prints its line, as far as it can, and answers the status.
+fn carry_out<F: Shelf, O: Sink>(
+    alloc: Global,
+    shelf: &mut F,
+    out: &mut O,
+    outcome: Outcome<'_>,
+) -> u8
+    ensures done { result < 4 → IsCarriedOut outcome.entry (F.told shelf.old) (F.told shelf.new)
+        (O.told out.old) (O.told out.new) result }
+    ensures halted { 4 ≤ result → IsBrokenOff outcome.entry (F.told shelf.old) (F.told shelf.new)
+        (O.told out.old) (O.told out.new) result }
+    ensures status { result ≤ 5 }
+{
     if let Err(fault) = write_outputs(shelf, &outcome.outputs) {
         return Halt::from(fault).status();
     }
@@ -89,7 +105,7 @@ pub fn run<F: Shelf, O: Sink, H: House, C: Clock + Sync, G: Gate + Sync>(
     }
 }
 
-/// The outcome of the words over the files.
+/// The outcome of the words over the files. The fault of an input is an answer too.
 fn outcome_of<'w, F: Shelf, C: Clock, G: Gate + Sync>(
     alloc: Global,
     words: &'w Words,
@@ -103,33 +119,41 @@ fn outcome_of<'w, F: Shelf, C: Clock, G: Gate + Sync>(
     ensures used { UsesShelf (F.told shelf.old) (F.told shelf.new) (result ≡ Err Failed)
         (IsOkAnd result SaysAbsent) }
 {
+    match found_by(alloc, words, shelf, clock, gate) {
+        Ok(outcome) => Ok(outcome),
+        Err(InputError::Fault(fault)) => Ok(Outcome::says(alloc, Answer::Input(fault))),
+        Err(InputError::Halt(halt)) => Err(halt),
+    }
+}
+
+/// The outcome of the words over the files, where no input is at fault.
+fn found_by<'w, F: Shelf, C: Clock, G: Gate + Sync>(
+    alloc: Global,
+    words: &'w Words,
+    shelf: &mut F,
+    clock: &C,
+    gate: &G,
+) -> Result<Outcome<'w>, InputError>
+    ensures outcome { let outcome = IsOutcome words.now (C.reading clock.now) in
+        ForSome (F.told shelf.old).files (λ files. IfFound (λ found. found) (outcome files) result) }
+    ensures asked { let asked = asked_of words.now in
+        IfFound (λ found. found) (λ outcome. MayAnswer asked outcome.answer) result }
+    ensures found { IfOk result (λ outcome. ¬ SaysAbsent outcome) }
+    ensures used { UsesToRead (F.told shelf.old) (F.told shelf.new) result }
+{
     if let Some(names) = words.replay_names(alloc)? {
-        return match replay_files(alloc, shelf, names) {
-            Ok(finding) => Ok(Outcome::says(alloc, Answer::Replay(finding))),
-            Err(InputError::Fault(fault)) => Ok(Outcome::says(alloc, Answer::Input(fault))),
-            Err(InputError::Halt(halt)) => Err(halt),
-        };
+        let finding = replay_files(alloc, shelf, names)?;
+        return Ok(Outcome::says(alloc, Answer::Replay(finding)));
     }
     if let Some(name) = words.check_name() {
-        return match check_file(alloc, shelf, name) {
-            Ok(counts) => Ok(Outcome::says(alloc, Answer::Checked(counts))),
-            Err(InputError::Fault(fault)) => Ok(Outcome::says(alloc, Answer::Input(fault))),
-            Err(InputError::Halt(halt)) => Err(halt),
-        };
+        let counts = check_file(alloc, shelf, name)?;
+        return Ok(Outcome::says(alloc, Answer::Checked(counts)));
     }
     if let Some(words) = words.record_words(alloc)? {
-        return match record_files(alloc, shelf, words, clock) {
-            Ok(outcome) => Ok(outcome),
-            Err(InputError::Fault(fault)) => Ok(Outcome::says(alloc, Answer::Input(fault))),
-            Err(InputError::Halt(halt)) => Err(halt),
-        };
+        return record_files(alloc, shelf, words, clock);
     }
     if let Some(words) = words.audit_words(alloc)? {
-        return match audit_files(alloc, shelf, words, gate) {
-            Ok(outcome) => Ok(outcome),
-            Err(InputError::Fault(fault)) => Ok(Outcome::says(alloc, Answer::Input(fault))),
-            Err(InputError::Halt(halt)) => Err(halt),
-        };
+        return audit_files(alloc, shelf, words, gate);
     }
     Ok(Outcome::says(alloc, Answer::Usage))
 }

@@ -1,0 +1,6 @@
+pub mod Histories
+pub mod Sums
+pub mod Parts
+pub mod Turning
+pub mod Seating
+pub mod Told

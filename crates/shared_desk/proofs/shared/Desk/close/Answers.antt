@@ -1,0 +1,29 @@
+use Rattle.shared_desk.proofs.Seating.{IsClosed, closes}
+use Rattle.shared_desk.proofs.Told.{closed_some, closed_none}
+use Rattle.shared_desk.proofs.shared.Desk.close.Given as given
+use Rattle.shared_desk.proofs.shared.Desk.close.Goals as goal
+
+closed : (g : given.Over) (c : goal.In-Some g) → IsClosed g.B.Bench.steps c.args.self.table.shared.key.value c.args.seat.seat.me.0 c.in-Some.held
+closed g c =
+    let seat = c.args.seat in
+    let steps = g.B.Bench.steps in
+    let start = c.args.self.table.shared.key.value in
+    let all = closes steps start seat.seat.id seat.seat.me.0 _ _ c.requires.first seat.live seat.no_turn c.requires.all c.close_with-closed.ensures.values.2 in
+    closed_some steps start seat.seat.me.0 _ c.take-slot.result c.in-Some.held all c.take-slot.ensures.value c.in-Some.is
+
+pub unreachable-requires : goal.unreachable-requires
+unreachable-requires g c =
+    let seat = c.args.seat in
+    let steps = g.B.Bench.steps in
+    let start = c.args.self.table.shared.key.value in
+    let all = closes steps start seat.seat.id seat.seat.me.0 _ _ c.requires.first seat.live seat.no_turn c.requires.all c.close_with-closed.ensures.values.2 in
+    closed_none steps start seat.seat.me.0 _ c.take-slot.result all c.take-slot.ensures.value c.in_default.is
+
+pub returns-clause-runs : goal.returns-clause-runs
+returns-clause-runs g c = (closed g c).runs
+
+pub returns-clause-calls : goal.returns-clause-calls
+returns-clause-calls g c = (closed g c).calls
+
+pub returns-clause-seen : goal.returns-clause-seen
+returns-clause-seen g c = (closed g c).seen

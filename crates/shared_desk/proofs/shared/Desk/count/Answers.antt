@@ -1,0 +1,29 @@
+use Rattle.std.proofs.Common.{rules, arith, ap, ◌∙◌}
+use mathlib.Core.Option.{none}
+use Rattle.atomic_table.specs.Table.{step}
+use Rattle.shared_desk.proofs.Told.{put_in, counts_at, counted_is}
+use Rattle.shared_desk.proofs.shared.Desk.count.Goals as goal
+
+pub fetch_add-requires : goal.fetch_add-requires
+fetch_add-requires g c =
+    let n = c.len-length.ensures in let o = c.args.held.calls.ok.0 in let t = c.len-length.type_inv in
+    let is = put_in c.args.seat.now.me c.exchange.new.seat.me c.args.held c.requires.slot c.exchange.ensures.3 in (
+      search rules,
+      search rules,
+      counts_at g.B.Bench.steps c.args.self.now.table.shared.key.value _ _ c.exchange.new.seat.me c.args.seat.now.me.0 c.args.held is c.requires.slot.turn c.requires.call (omega arith),
+    )
+
+pub returns-clause-own : goal.returns-clause-own
+returns-clause-own g c =
+    let is = put_in c.args.seat.now.me c.exchange.new.seat.me c.args.held c.requires.slot c.exchange.ensures.3 in
+    let counted = counted_is (step c.args.self.now.table.shared.table_id.slots 2 1 0 none) c.exchange.new.seat.me _ c.fetch_add.result c.args.seat.now.me.0 c.args.held is c.fetch_add.ensures.2 in
+    let new = c.requires.call in
+    record {
+      table = c.fetch_add.ensures.0 ∙ (c.exchange.ensures.0 ∙ c.requires.own.table);
+      start = ap (λ m. m.0.start) (counted.left new.new_call new.calls) ∙ c.requires.own.start;
+    }
+
+pub returns-clause-call : goal.returns-clause-call
+returns-clause-call g c =
+    let is = put_in c.args.seat.now.me c.exchange.new.seat.me c.args.held c.requires.slot c.exchange.ensures.3 in
+    counted_is (step c.args.self.now.table.shared.table_id.slots 2 1 0 none) c.exchange.new.seat.me _ c.fetch_add.result c.args.seat.now.me.0 c.args.held is c.fetch_add.ensures.2

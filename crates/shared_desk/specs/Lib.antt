@@ -1,0 +1,5 @@
+pub mod Views
+pub mod Calls
+pub mod InOrder
+pub mod Steps
+pub mod Seats

@@ -1,0 +1,8 @@
+//! The desk at which many threads make calls of one bench, each of them one step of one history.
+#![tactic(auto)]
+
+mod rule;
+mod shared;
+
+pub use rule::View;
+pub use shared::{Desk, DeskSeat, MOST_SEATS};

@@ -1,0 +1,282 @@
+//! The desk and its seats.
+ghost use Rattle.std.specs.Prelude.{◌≡◌, ◌<◌, ◌+◌, [], false, length, IfOk, OnErr};
+ghost use Rattle.desk.specs.Runs.{Runs, StartsWith};
+ghost use Rattle.shared_desk.specs.Views.{seats, HasAllSeats, first_view, with_split, new_view, with_joined};
+ghost use Rattle.shared_desk.specs.Calls.{MayCall, HasCalled, HasSeen, HaveSameCalls};
+ghost use Rattle.shared_desk.specs.InOrder.{waiting, IsAfter};
+ghost use Rattle.shared_desk.specs.Steps.{Rests, HasTurn, HasTaken, HasEmptySlot, HasNewCall, HasFullSlot, HasCounted, EndsWithCall, with_ticket};
+
+use crate::rule::{
+    CountsCall, DrawsTicket, EndsTurn, LooksForTurn, OneHistory, Sharing, ViewOf,
+};
+use atomic_table::{Seat, Table};
+use desk::bench::Bench;
+use desk::held::{HeldOf, make_call, opened};
+use std::alloc::{AllocError, Global};
+use std::hint;
+use std::snapshot::Snapshot;
+use std::sync::Wait;
+
+/// How many seats a desk may have.
+pub const MOST_SEATS: u64 = 4_294_967_296;
+
+/// How often a seat looks for its turn before it sleeps.
+const LOOKS_AWAKE: u32 = 64;
+
+// The words of the table.
+const NEXT: usize = 0;
+
+const SERVED: usize = 1;
+
+const COUNT: usize = 2;
+
+type SeatOf<B> = Seat<Option<HeldOf<B>>, ViewOf<B>>;
+
+/// A bench that many threads call, one after the other. What its calls lead to lies in a slot, which is with the
+/// seat that has its turn.
+#[derive(Drop)]
+pub struct Desk<B: Bench> {
+    table: Table<Option<HeldOf<B>>, ViewOf<B>, Snapshot<B::State>, OneHistory<B>, Global>,
+    ghost three_words: { table.shared.table_id.words ≡ 3 },
+    ghost one_slot: { table.shared.table_id.slots ≡ 1 },
+}
+
+/// What a thread calls with. Between calls it has neither ticket nor turn nor slot.
+#[derive(Drop)]
+pub struct DeskSeat<B: Bench> {
+    seat: SeatOf<B>,
+    number: u32,
+    split_off: u32,
+    ghost number_is: { number ≡ seat.me.0.number },
+    ghost split_off_is: { split_off ≡ seat.me.0.split_off },
+    ghost no_slot: { length seat.me.1 ≡ 0 },
+    ghost no_ticket: { waiting seat.me.0 ≡ 0 },
+    ghost no_turn: { seat.me.0.turn ≡ false },
+    ghost live: { 0 < seats seat.me.0 },
+}
+
+impl<B: Bench> Desk<B> {
+    ghost use Rattle.shared_desk.specs.Seats.{view, start_of, IsSeatOf, IsAtDesk};
+
+    /// A desk that opens in this state, and its first seat.
+    pub fn new(alloc: Global, state: B::State) -> Result<(Desk<B>, DeskSeat<B>), AllocError>
+        ensures start { IfOk result (λ r. start_of r.0 ≡ state) }
+        ensures own { IfOk result (λ r. IsSeatOf r.0 r.1) }
+        ensures first { IfOk result (λ r. view r.1 ≡ first_view state) }
+    {
+        let about = Snapshot::of(&state);
+        let mut slots = Vec::new(alloc);
+        slots.reserve(1)?;
+        slots.push_reserved(Some(opened::<B>(alloc, state)));
+        let Ok((table, seat)) = Table::new(alloc, &[0, 0, 0], slots, &about) else {
+            return Err(AllocError);
+        };
+        let first = DeskSeat {
+            seat,
+            number: 0,
+            split_off: 0,
+        };
+        Ok((Desk { table }, first))
+    }
+
+    /// A new seat, for another thread. Only the first seat may split one off.
+    pub fn split(&self, seat: &mut DeskSeat<B>) -> DeskSeat<B>
+        requires own { IsSeatOf self.now seat.old }
+        requires first { (view seat.old).number ≡ 0 }
+        requires room { (view seat.old).split_off + 1 < MOST_SEATS }
+        ensures own { IsSeatOf self.now seat.new }
+        ensures counted { view seat.new ≡ with_split (view seat.old) }
+        ensures new_own { IsSeatOf self.now result }
+        ensures new { view result ≡ new_view (view seat.old) }
+    {
+        seat.split_off += 1;
+        DeskSeat {
+            number: seat.split_off,
+            seat: self
+                .table
+                .shared
+                .split_seat::<Sharing>(&mut seat.seat),
+            split_off: 0,
+        }
+    }
+
+    /// Takes in a seat whose thread is done.
+    pub fn join(&self, seat: &mut DeskSeat<B>, other: DeskSeat<B>)
+        requires own { IsSeatOf self.now seat.old }
+        requires other_own { IsSeatOf self.now other }
+        ensures own { IsSeatOf self.now seat.new }
+        ensures joined { view seat.new ≡ with_joined (view seat.old) (view other) }
+    {
+        let DeskSeat {
+            seat: taken_in,
+            number: _,
+            split_off: _,
+        } = other;
+        self.table
+            .shared
+            .join_seat::<Sharing>(&mut seat.seat, taken_in);
+    }
+
+    /// Waits for the seat's turn, and makes the call in it. No clause says that the turn comes.
+    pub fn call<R: Wait>(
+        &self,
+        rt: &R,
+        seat: &mut DeskSeat<B>,
+        event: B::Event,
+    ) -> Result<B::Reply, AllocError>
+        requires own { IsSeatOf self.now seat.old }
+        requires may { MayCall B.steps (start_of self.now) B.may (view seat.old) event }
+        ensures own { IsSeatOf self.now seat.new }
+        ensures called { IfOk result (λ reply.
+            HasCalled B.steps (start_of self.now) (view seat.old) event reply (view seat.new)) }
+        ensures err { OnErr result (
+            HasSeen B.steps (start_of self.now) (view seat.old) (view seat.new)) }
+    {
+        let number = seat.number;
+        self.call_as(rt, &mut seat.seat, number, event)
+    }
+
+    /// The whole history, and the state after it, once the first seat has taken in all others.
+    pub fn close(self, seat: DeskSeat<B>) -> HeldOf<B>
+        requires own { IsSeatOf self seat }
+        requires first { (view seat).number ≡ 0 }
+        requires all { HasAllSeats (view seat) }
+        ensures runs { Runs B.steps (start_of self) result.calls.items result.state }
+        ensures calls { HaveSameCalls result.calls.items (view seat).calls }
+        ensures seen { StartsWith result.calls.items (view seat).seen }
+    {
+        let Desk { table } = self;
+        let DeskSeat {
+            seat,
+            number: _,
+            split_off: _,
+        } = seat;
+        let mut closed = table.close_with(seat);
+        let slot = closed.take(0);
+        closed.free();
+        let Some(held) = slot else {
+            unreachable!()
+        };
+        held
+    }
+
+    // One call, from its ticket to the end of its turn.
+    fn call_as<R: Wait>(
+        &self,
+        rt: &R,
+        seat: &mut SeatOf<B>,
+        number: u32,
+        event: B::Event,
+    ) -> Result<B::Reply, AllocError>
+        requires own { IsAtDesk self.now seat.old }
+        requires number { number ≡ seat.old.me.0.number }
+        requires rests { Rests seat.old.me }
+        requires may { MayCall B.steps (start_of self.now) B.may seat.old.me.0 event }
+        ensures own { IsAtDesk self.now seat.new }
+        ensures no_slot { seat.new.me.1 ≡ [] }
+        ensures called { IfOk result (λ reply.
+            HasCalled B.steps (start_of self.now) seat.old.me.0 event reply seat.new.me.0) }
+        ensures err { OnErr result (
+            HasSeen B.steps (start_of self.now) seat.old.me.0 seat.new.me.0) }
+    {
+        let mut held = self.take(rt, seat);
+        match make_call::<B>(&mut held, number, event) {
+            Ok(reply) => {
+                self.finish(seat, held);
+                Ok(reply)
+            }
+            Err(error) => {
+                self.put_back(seat, held);
+                Err(error)
+            }
+        }
+    }
+
+    // Waits for the turn, and takes the value out of the slot.
+    fn take<R: Wait>(&self, rt: &R, seat: &mut SeatOf<B>) -> HeldOf<B>
+        requires own { IsAtDesk self.now seat.old }
+        requires rests { Rests seat.old.me }
+        ensures own { IsAtDesk self.now seat.new }
+        ensures taken { HasTaken B.steps (start_of self.now) seat.old.me.0 result seat.new.me }
+    {
+        self.take_turn(rt, seat);
+        let Some(held) = self.table.shared.exchange(seat, 0, None) else {
+            unreachable!()
+        };
+        held
+    }
+
+    // Draws a ticket, and waits until it is served.
+    fn take_turn<R: Wait>(&self, rt: &R, seat: &mut SeatOf<B>)
+        requires own { IsAtDesk self.now seat.old }
+        requires rests { Rests seat.old.me }
+        ensures own { IsAtDesk self.now seat.new }
+        ensures turn { HasTurn B.steps (start_of self.now) seat.old.me.0 seat.new.me }
+    {
+        let ticket = self.table.shared.fetch_add::<DrawsTicket>(seat, NEXT, 1);
+        let mut looks: u32 = 0;
+        for _ in rt.forever() {
+            let served = self.table.shared.load::<LooksForTurn<B>>(seat, SERVED);
+            if served == ticket {
+                return;
+            }
+            if looks < LOOKS_AWAKE {
+                looks += 1;
+                hint::spin_loop();
+            } else {
+                self.table
+                    .shared
+                    .park(rt, SERVED, (served & 0xffff_ffff) as u32);
+            }
+        }
+        unreachable!()
+    }
+
+    // Counts the call that the value has behind what was seen, and ends the turn.
+    fn finish(&self, seat: &mut SeatOf<B>, held: HeldOf<B>)
+        requires own { IsAtDesk self.now seat.old }
+        requires slot { HasEmptySlot seat.old.me }
+        requires call { HasNewCall B.steps (start_of self.now) seat.old.me.0 held }
+        ensures own { IsAtDesk self.now seat.new }
+        ensures end { EndsWithCall seat.old.me.0 held seat.new.me }
+    {
+        self.count(seat, held);
+        self.end_turn(seat);
+    }
+
+    // Puts the value into the slot, and counts its last call.
+    fn count(&self, seat: &mut SeatOf<B>, held: HeldOf<B>)
+        requires own { IsAtDesk self.now seat.old }
+        requires slot { HasEmptySlot seat.old.me }
+        requires call { HasNewCall B.steps (start_of self.now) seat.old.me.0 held }
+        ensures own { IsAtDesk self.now seat.new }
+        ensures call { HasCounted seat.old.me.0 held seat.new.me }
+    {
+        let _length = held.calls.len();
+        self.table.shared.exchange(seat, 0, Some(held));
+        self.table.shared.fetch_add::<CountsCall>(seat, COUNT, 1);
+    }
+
+    // Puts the value back as it was, and ends the turn.
+    fn put_back(&self, seat: &mut SeatOf<B>, held: HeldOf<B>)
+        requires own { IsAtDesk self.now seat.old }
+        requires slot { HasEmptySlot seat.old.me }
+        requires kept { IsAfter B.steps (start_of self.now) seat.old.me.0.seen held }
+        ensures own { IsAtDesk self.now seat.new }
+        ensures end { seat.new.me ≡ (with_ticket seat.old.me.0 None, []) }
+    {
+        self.table.shared.exchange(seat, 0, Some(held));
+        self.end_turn(seat);
+    }
+
+    // Serves the next ticket; the slot goes home.
+    fn end_turn(&self, seat: &mut SeatOf<B>)
+        requires own { IsAtDesk self.now seat.old }
+        requires slot { HasFullSlot B.steps (start_of self.now) seat.old.me }
+        ensures own { IsAtDesk self.now seat.new }
+        ensures end { seat.new.me ≡ (with_ticket seat.old.me.0 None, []) }
+    {
+        self.table.shared.fetch_add::<EndsTurn>(seat, SERVED, 1);
+        self.table.shared.wake_all(SERVED);
+    }
+}

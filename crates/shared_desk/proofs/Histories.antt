@@ -1,5 +1,6 @@
 -- Histories that grow, and what was seen of them.
-use Rattle.std.proofs.Common.{◌≡◌, ◌≢◌, ℕ, List, [], ◌∷◌, ◌++◌, length, Bool, true, false, cond, refl, sym, ap, ◌∙◌, append_assoc, append-nil, eqb, ne_eqb, nat_lt}
+use Rattle.std.proofs.Common.{◌≡◌, ◌≢◌, ℕ, List, [], ◌∷◌, ◌++◌, length, Bool, true, false, cond, refl, sym, ap, ◌∙◌, append_assoc, append-nil, eqb}
+use Rattle.std.proofs.Common.{ne_eqb, nat_lt}
 use Rattle.desk.specs.declared.bench.Call.{Call}
 use Rattle.desk.specs.Runs.{calls_by, StartsWith}
 use Rattle.shared_desk.specs.Views.{longer}

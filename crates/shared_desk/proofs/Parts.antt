@@ -1,10 +1,9 @@
 -- Each part of the rule, when one view changes, and when one is added.
-use Rattle.std.proofs.Common.{◌≡◌, ◌≢◌, ℕ, ◌+◌, ◌<◌, ◌≤◌, List, [], ◌∷◌, ◌++◌, true, false, Bool, length, length-set, length-append, refl, sym, ap, ◌∙◌, subst, set, arith, append-nil}
-use Rattle.std.specs.Prelude.{Option, Some, None, sum_by}
+use Rattle.std.proofs.Common.{◌≡◌, ◌≢◌, ℕ, ◌+◌, ◌<◌, ◌≤◌, List, [], ◌∷◌, ◌++◌, true, false, Bool, length, length-set, length-append, refl, sym, ap}
+use Rattle.std.proofs.Common.{◌∙◌, subst, set, arith}
+use Rattle.std.specs.Prelude.{Option, Some, None}
 use Rattle.std.proofs.lemmas.List.Sums.{sum_by_push}
-use mathlib.Core.Logic.{dite}
 use mathlib.Core.Option.{some}
-use native.Mathlib.Decide.{ℕ_discrete}
 use lib.ListN.{get_elem?}
 use Rattle.atomic_table.proofs.Lists.{set_here, set_else, at_longer}
 use Rattle.desk.specs.declared.bench.Call.{Call}
@@ -12,7 +11,6 @@ use Rattle.shared_desk.specs.declared.rule.View.{View}
 use Rattle.shared_desk.specs.declared.shared.TheConstants.{MOST_SEATS}
 use Rattle.shared_desk.specs.Views.{seats}
 use Rattle.shared_desk.specs.InOrder.{ticket_count, waiting, times_held, AreNumbered, AreInLine, IsServed, IsOneTurn, HasItsCalls, AreCalled}
-use Rattle.shared_desk.proofs.Histories.{calls_by-other}
 use Rattle.shared_desk.proofs.Sums.{times, once_below-suc, place_below, same_at, each_set, each_end, sum_by-set}
 
 pub some_same : {A : Type 0} (x y : A) → Some x ≡ Some y → x ≡ y
@@ -37,7 +35,8 @@ ticket_count-le (Some k) = omega arith
 
 module _ {S E R : Type 0} (views : List (View S E R)) where
   -- a seat that is added has the next number
-  pub numbered_end : (made : ℕ) (w : View S E R) → made < MOST_SEATS → w.numbers ≡ made ∷ [] → AreNumbered made views → AreNumbered (made + 1) (views ++ w ∷ [])
+  pub numbered_end : (made : ℕ) (w : View S E R) → made < MOST_SEATS → w.numbers ≡ made ∷ [] → AreNumbered made views
+      → AreNumbered (made + 1) (views ++ w ∷ [])
   numbered_end made w few is a =
       let one : seats w ≡ 1 = ap length is in
       let one_each = a.one_each in let seated = a.seated in record {
@@ -98,7 +97,8 @@ module _ {S E R : Type 0} (views : List (View S E R)) (id : ℕ) (v w : View S E
       }
 
   -- the next ticket is drawn
-  pub line_drawn : (served next : ℕ) → v.ticket ≡ None → w.ticket ≡ Some next → AreInLine served next views → AreInLine served (next + 1) (set views id w)
+  pub line_drawn : (served next : ℕ) → v.ticket ≡ None → w.ticket ≡ Some next → AreInLine served next views
+      → AreInLine served (next + 1) (set views id w)
   line_drawn served next none is l =
       let old : waiting v ≡ 0 = ap ticket_count none in
       let new : waiting w ≡ 1 = ap ticket_count is in
@@ -120,7 +120,8 @@ module _ {S E R : Type 0} (views : List (View S E R)) (id : ℕ) (v w : View S E
       below_next next k h e = absurd (omega arith)
 
   -- the ticket that was served is given up
-  pub line_served : (served next : ℕ) → v.ticket ≡ Some served → w.ticket ≡ None → AreInLine served next views → AreInLine (served + 1) next (set views id w)
+  pub line_served : (served next : ℕ) → v.ticket ≡ Some served → w.ticket ≡ None → AreInLine served next views
+      → AreInLine (served + 1) next (set views id w)
   line_served served next was none l =
       let old : waiting v ≡ 1 = ap ticket_count was in
       let new : waiting w ≡ 0 = ap ticket_count none in
@@ -129,7 +130,7 @@ module _ {S E R : Type 0} (views : List (View S E R)) (id : ℕ) (v w : View S E
         between = λ j u k e t. each_set (λ j u. u.ticket ≡ Some k → (served + 1 ≤ k) × (k < next)) views id w
             (λ t. absurd (none_some k (sym none ∙ t)))
             (λ j u ne e t. let b = l.between j u k e t in
-                let other : served ≢ k = λ (q : served ≡ k). ne (l.apart j id u v k e at t (was ∙ ap Some q)) in omega arith) j u e t;
+            let other : served ≢ k = λ (q : served ≡ k). ne (l.apart j id u v k e at t (was ∙ ap Some q)) in omega arith) j u e t;
         apart = λ i j u u' k e e' t t'. each_set (λ i u. u.ticket ≡ Some k → i ≡ j) views id w
             (λ t. absurd (none_some k (sym none ∙ t)))
             (λ i u ne e t. each_set (λ j u'. u'.ticket ≡ Some k → i ≡ j) views id w
@@ -161,7 +162,8 @@ module _ {S E R : Type 0} (views : List (View S E R)) (id : ℕ) (v w : View S E
   }
 
   -- the seat has the turn, and the history grows
-  pub turn_kept : (history longer_one : List (Call E R)) (served : ℕ) (who : Option ℕ) → who ≡ Some id → w.turn ≡ true → IsServed longer_one served who id w
+  pub turn_kept : (history longer_one : List (Call E R)) (served : ℕ) (who : Option ℕ) → who ≡ Some id → w.turn ≡ true
+      → IsServed longer_one served who id w
       → IsOneTurn history served who views → IsOneTurn longer_one served who (set views id w)
   turn_kept history longer_one served who mine is serves o = record {
     served_is = λ j u e t. each_set (λ j u. u.turn ≡ true → IsServed longer_one served who j u) views id w
@@ -180,7 +182,8 @@ module _ {S E R : Type 0} (views : List (View S E R)) (id : ℕ) (v w : View S E
   }
 
   -- the calls of each seat stay
-  pub called_set : (history : List (Call E R)) (made : ℕ) → HasItsCalls history w → AreCalled history made views → AreCalled history made (set views id w)
+  pub called_set : (history : List (Call E R)) (made : ℕ) → HasItsCalls history w → AreCalled history made views
+      → AreCalled history made (set views id w)
   called_set history made has a = record {
     own = each_set (λ j u. HasItsCalls history u) views id w has (λ j u ne e. a.own j u e);
     unmade = a.unmade;

@@ -1,12 +1,13 @@
 -- A desk opens and closes, and its seats are split off and taken in, by the rule.
-use Rattle.std.proofs.Common.{◌≡◌, ◌≢◌, ℕ, ◌+◌, ◌<◌, ◌≤◌, List, [], ◌∷◌, ◌++◌, true, false, eqb, cond, refl, sym, ap, ◌∙◌, subst, set, length, length-set, length-append, arith, append-nil}
+use Rattle.std.proofs.Common.{◌≡◌, ◌≢◌, ℕ, ◌+◌, ◌<◌, ◌≤◌, List, [], ◌∷◌, ◌++◌, false, eqb, cond, refl, sym, ap, ◌∙◌, subst, set, length}
+use Rattle.std.proofs.Common.{length-set, length-append, arith, append-nil}
 use Rattle.std.specs.Prelude.{Option, Some, None, sum_by}
 use Rattle.std.proofs.lemmas.List.Sums.{sum_by-append}
 use mathlib.Core.Logic.{dite}
 use mathlib.Core.Option.{Option as May, some, some-ne-none}
 use native.Mathlib.Decide.{ℕ_discrete, dec_le}
 use lib.ListN.{get_elem?}
-use Rattle.atomic_table.specs.Table.{State, opening, Splits, Joins, Final, Seen}
+use Rattle.atomic_table.specs.Table.{opening, Splits, Joins, Final, Seen}
 use Rattle.atomic_table.proofs.Lists.{set_else}
 use Rattle.desk.specs.declared.bench.Call.{Call}
 use Rattle.desk.specs.declared.held.Held.{Held}
@@ -15,9 +16,11 @@ use Rattle.shared_desk.specs.declared.rule.View.{View}
 use Rattle.shared_desk.specs.declared.shared.TheConstants.{MOST_SEATS}
 use Rattle.shared_desk.specs.Views.{seats, HasAllSeats, first_view, with_split, new_view, with_joined, spent_view}
 use Rattle.shared_desk.specs.Calls.{HaveSameCalls}
-use Rattle.shared_desk.specs.InOrder.{waiting, times_held, once_below, KnowsHistory, HasItsCalls, AreNumbered, AreInLine, IsOneTurn, AreCalled, IsAfter, IsKept, IsInOrder}
+use Rattle.shared_desk.specs.InOrder.{DeskSlot, DeskState, times_held, once_below, KnowsHistory, HasItsCalls, AreNumbered}
+use Rattle.shared_desk.specs.InOrder.{IsInOrder}
 use Rattle.shared_desk.proofs.Histories.{calls_by-append, starts_with_longer}
-use Rattle.shared_desk.proofs.Sums.{once_below-one, once_below-le, once_below-in, once_below-out, times_one, times_self, times_none, same_at, at_end, each_set, each_end, sum_by-set, sum_by-two, sum_by-alone}
+use Rattle.shared_desk.proofs.Sums.{once_below-one, once_below-le, once_below-in, once_below-out, times_one, times_self, times_none, same_at}
+use Rattle.shared_desk.proofs.Sums.{each_set, each_end, sum_by-set, sum_by-two, sum_by-alone}
 use Rattle.shared_desk.proofs.Parts.{none_some, false_true, numbered_set, numbered_end, line_set, line_end, turn_idle, turn_end, called_set}
 
 module _ {S E R : Type 0} (steps : S → ℕ → E → R → S → Type 0) (start : S) where
@@ -52,14 +55,15 @@ module _ {S E R : Type 0} (steps : S → ℕ → E → R → S → Type 0) (star
     };
   }
 
-  pub opens_with : (xs : List (Option (Held S E R))) (h : Held S E R) → xs ≡ Some h ∷ [] → h.calls.items ≡ [] → h.state ≡ start
+  pub opens_with : (xs : List (DeskSlot S E R)) (h : Held S E R) → xs ≡ Some h ∷ [] → h.calls.items ≡ [] → h.state ≡ start
       → IsInOrder steps start (opening (0 ∷ 0 ∷ 0 ∷ []) xs (first_view start))
   opens_with xs h is empty same =
-      subst (λ (l : List (Option (Held S E R))). IsInOrder steps start (opening (0 ∷ 0 ∷ 0 ∷ []) l (first_view start))) (sym is) (opens h empty same)
+      subst (λ (l : List (DeskSlot S E R)). IsInOrder steps start (opening (0 ∷ 0 ∷ 0 ∷ []) l (first_view start))) (sym is) (opens h empty same)
 
 module _ {S E R : Type 0} (steps : S → ℕ → E → R → S → Type 0) (start : S) (id : ℕ) (v : View S E R) where
   -- a seat is split off by the first
-  pub splits_on : v.number ≡ 0 → 0 < seats v → v.turn ≡ false → v.split_off + 1 < MOST_SEATS → Splits (IsInOrder steps start) id v (with_split v) (new_view v)
+  pub splits_on : v.number ≡ 0 → 0 < seats v → v.turn ≡ false → v.split_off + 1 < MOST_SEATS
+      → Splits (IsInOrder steps start) id v (with_split v) (new_view v)
   splits_on first live no_turn few s r at =
       let left = with_split v in let right = new_view v in
       let views = set s.views id left in
@@ -79,7 +83,8 @@ module _ {S E R : Type 0} (steps : S → ℕ → E → R → S → Type 0) (star
         words_are = r.words_are;
         numbered = numbered_end views r.made right (omega arith) (ap (λ (n : ℕ). n ∷ []) all_made) numbered;
         in_line = line_end views r.served r.next right refl (line_set s.views id v left at r.served r.next refl r.in_line);
-        one_turn = turn_end views r.history r.served r.who right refl (turn_idle s.views id v left at r.history r.served r.who no_turn no_turn r.one_turn);
+        one_turn = turn_end views r.history r.served r.who right refl
+            (turn_idle s.views id v left at r.history r.served r.who no_turn no_turn r.one_turn);
         called = record {
           own = each_end (λ j u. HasItsCalls r.history u) views right
               record { held = λ p e. sym (r.called.unmade p (let q = times_one p (v.split_off + 1) e in omega arith)); bare = λ p e. refl } called.own;
@@ -96,7 +101,11 @@ module _ {S E R : Type 0} (steps : S → ℕ → E → R → S → Type 0) (star
             (each_set (λ j u. 0 < seats u → KnowsHistory start r.history (r.made + 1) j u) s.views id left
             (λ l. record { opened = k.opened; numbered = k.numbered; own = k.own; counted = λ e. omega arith; seen = k.seen })
             (λ j u ne e l. let o = r.known j u e l in record {
-              opened = o.opened; numbered = o.numbered; own = o.own; counted = λ e. absurd (ne (e ∙ sym id_is)); seen = o.seen;
+              opened = o.opened;
+              numbered = o.numbered;
+              own = o.own;
+              counted = λ e. absurd (ne (e ∙ sym id_is));
+              seen = o.seen;
             }));
         kept = r.kept;
       }
@@ -114,7 +123,8 @@ module _ {S E R : Type 0} (steps : S → ℕ → E → R → S → Type 0) (star
   times_held-joined p w = sum_by-append (λ n. cond (eqb n p) 1 0) v.numbers w.numbers
 
   -- the numbers of two seats are each held once in all
-  numbered_joined : (views : List (View S E R)) (other : ℕ) (w : View S E R) (made : ℕ) → get_elem? views id ≡ some v → get_elem? (set views id (with_joined v w)) other ≡ some w
+  numbered_joined : (views : List (View S E R)) (other : ℕ) (w : View S E R) (made : ℕ) → get_elem? views id ≡ some v
+      → get_elem? (set views id (with_joined v w)) other ≡ some w
       → AreNumbered made views → AreNumbered made (set (set views id (with_joined v w)) other spent_view)
   numbered_joined views other w made at at' a =
       let both = with_joined v w in
@@ -181,7 +191,7 @@ pub record IsClosed {S E R : Type 0} (steps : S → ℕ → E → R → S → Ty
 
 module _ {S E R : Type 0} (steps : S → ℕ → E → R → S → Type 0) (start : S) (id : ℕ) (v : View S E R) where
   -- nobody has the turn but a seat that isn't spent
-  no_turn_left : (s : State (Option (Held S E R)) (View S E R)) (r : IsInOrder steps start s) → get_elem? s.views id ≡ some v → v.turn ≡ false
+  no_turn_left : (s : DeskState S E R) (r : IsInOrder steps start s) → get_elem? s.views id ≡ some v → v.turn ≡ false
       → sum_by seats s.views ≡ seats v → (who : Option ℕ) → r.who ≡ who → r.who ≡ None
   no_turn_left s r at no_turn mine None e = e
   no_turn_left s r at no_turn mine (Some j) e =
@@ -194,16 +204,17 @@ module _ {S E R : Type 0} (steps : S → ℕ → E → R → S → Type 0) (star
       let live = its.live in
       absurd (omega arith)
 
-  all_calls : (history : List (Call E R)) (made p : ℕ) → HasItsCalls history v → (made ≤ p → calls_by p history ≡ []) → times_held p v ≡ once_below p made
+  all_calls : (history : List (Call E R)) (made p : ℕ) → HasItsCalls history v → (made ≤ p → calls_by p history ≡ [])
+      → times_held p v ≡ once_below p made
       → calls_by p v.calls ≡ calls_by p history
   all_calls history made p has unmade n = dite (dec_le made p)
       (λ (far : made ≤ p). has.bare p (n ∙ once_below-out p made far) ∙ sym (unmade far))
       (λ (near : ¬ (made ≤ p)). has.held p (n ∙ once_below-in p made (omega arith)))
 
-  pub closes : (ws : List ℕ) (xs : List (Option (Held S E R))) → v.number ≡ 0 → 0 < seats v → v.turn ≡ false → HasAllSeats v
-      → Final (Seen (IsInOrder steps start) id v) ws xs → (h : Held S E R) × (get_elem? xs 0 ≡ some (Some h)) × IsClosed steps start v h
-  closes ws xs first live no_turn all fin =
-      let s = fin.0 in let r = fin.1.0 in let at = fin.1.1 in
+  -- the slot is at home, with all calls
+  closed_at : (s : DeskState S E R) (r : IsInOrder steps start s) → get_elem? s.views id ≡ some v → v.number ≡ 0 → 0 < seats v → v.turn ≡ false → HasAllSeats v
+      → (h : Held S E R) × (s.homes ≡ some (Some h) ∷ []) × IsClosed steps start v h
+  closed_at s r at first live no_turn all =
       let k = r.known id v at live in
       let all_made : v.split_off + 1 ≡ r.made = k.counted (sym k.numbered ∙ first) in
       let seated = r.numbered.seated in
@@ -211,14 +222,19 @@ module _ {S E R : Type 0} (steps : S → ℕ → E → R → S → Type 0) (star
       let home = r.kept.home (no_turn_left s r at no_turn mine r.who refl) in
       let h = home.0 in let after = home.2 in (
         h,
-        fin.4 0 (Some h) (ap (λ (hs : List (May (Option (Held S E R)))). get_elem? hs 0) home.1),
+        home.1,
         record {
-          runs = subst (λ (l : List (Call E R)). Runs steps start l h.state) (sym after.calls) after.runs;
+          runs = subst (λ (l : List (Call E R)). Runs steps start l h.state) (sym {A = List (Call E R)} after.calls) after.runs;
           calls = λ p.
               let alone = sum_by-alone (times_held p) seats s.views id v at mine (λ (z : View S E R) (e : seats z ≡ 0). times_none p z.numbers e) in
-              let has : calls_by p v.calls ≡ calls_by p r.history =
-              all_calls r.history r.made p (r.called.own id v at) (r.called.unmade p) (sym alone ∙ r.numbered.once p) in
-              ap (calls_by p) after.calls ∙ sym {A = List (Call E R)} has;
-          seen = subst (λ (l : List (Call E R)). StartsWith l v.seen) (sym after.calls) k.seen;
+              ap (calls_by p) after.calls ∙ sym {A = List (Call E R)} (all_calls r.history r.made p (r.called.own id v at) (r.called.unmade p)
+              (sym alone ∙ r.numbered.once p));
+          seen = subst (λ (l : List (Call E R)). StartsWith l v.seen) (sym {A = List (Call E R)} after.calls) k.seen;
         },
       )
+
+  pub closes : (ws : List ℕ) (xs : List (DeskSlot S E R)) → v.number ≡ 0 → 0 < seats v → v.turn ≡ false → HasAllSeats v
+      → Final (Seen (IsInOrder steps start) id v) ws xs → (h : Held S E R) × (get_elem? xs 0 ≡ some (Some h)) × IsClosed steps start v h
+  closes ws xs first live no_turn all final =
+      let c = closed_at final.0 final.1.0 final.1.1 first live no_turn all in
+      (c.0, final.4 0 (Some c.0) (ap (λ (hs : List (May (DeskSlot S E R))). get_elem? hs 0) c.1), c.2)

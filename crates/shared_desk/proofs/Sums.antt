@@ -1,5 +1,6 @@
 -- Sums over the views, when one of them changes, and what a list has at a place.
-use Rattle.std.proofs.Common.{◌≡◌, ◌≢◌, ℕ, zero, suc, ◌+◌, ◌<◌, ◌≤◌, ◌⊎◌, List, [], ◌∷◌, ◌++◌, length, refl, sym, ap, ◌∙◌, subst, set, arith, inl, inr, ⊎_elim}
+use Rattle.std.proofs.Common.{◌≡◌, ◌≢◌, ℕ, zero, suc, ◌+◌, ◌<◌, ◌≤◌, ◌⊎◌, List, [], ◌∷◌, ◌++◌, length, refl, sym, ap, ◌∙◌, subst, set, arith, inl}
+use Rattle.std.proofs.Common.{inr, ⊎_elim}
 use Rattle.std.specs.Prelude.{sum_by, count_by, ◌==◌}
 use Rattle.std.proofs.lemmas.Bool.Decides.{nat_tests}
 use Rattle.std.proofs.lemmas.List.Sums.{sum_by-cons}
@@ -101,7 +102,8 @@ module _ {A : Type 0} where
       let others = sum_by-none f g xs (omega arith) idle in omega (arith, sum_by-cons f x xs)
 
   -- the same where one has all of g: it has all of f
-  pub sum_by-alone : (f g : A → ℕ) (l : List A) (id : ℕ) (v : A) → get_elem? l id ≡ some v → sum_by g l ≡ g v → ((w : A) → g w ≡ 0 → f w ≡ 0) → sum_by f l ≡ f v
+  pub sum_by-alone : (f g : A → ℕ) (l : List A) (id : ℕ) (v : A) → get_elem? l id ≡ some v → sum_by g l ≡ g v → ((w : A) → g w ≡ 0 → f w ≡ 0)
+      → sum_by f l ≡ f v
   sum_by-alone f g [] id v e all idle = absurd (some-ne-none v (sym e))
   sum_by-alone f g (x ∷ xs) zero v e all idle =
       let is : f x ≡ f v = ap f (some-injective x v e) in let of_g : g x ≡ g v = ap g (some-injective x v e) in

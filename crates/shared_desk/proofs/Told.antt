@@ -1,5 +1,6 @@
 -- What the steps of a call come to, one after the other.
-use Rattle.std.proofs.Common.{◌≡◌, ℕ, ◌+◌, ◌%◌, ◌^◌, ◌<◌, List, [], ◌∷◌, ◌++◌, Bool, true, false, eqb, refl, sym, ap, ◌∙◌, subst, length, arith, MatchBool, eq-eqb}
+use Rattle.std.proofs.Common.{◌≡◌, ℕ, ◌+◌, ◌%◌, ◌^◌, ◌<◌, List, [], ◌∷◌, ◌++◌, true, false, refl, sym, ap, ◌∙◌, subst, length, arith}
+use Rattle.std.proofs.Common.{MatchBool, eq-eqb}
 use Rattle.std.specs.Prelude.{Option, Some, None}
 use mathlib.Core.Option.{none, some, some-injective}
 use lib.ListN.{get_elem?}
@@ -9,9 +10,10 @@ use Rattle.desk.specs.declared.held.Held.{Held}
 use Rattle.desk.specs.Runs.{Runs, call}
 use Rattle.shared_desk.specs.declared.rule.View.{View}
 use Rattle.shared_desk.specs.Views.{seats}
-use Rattle.shared_desk.specs.Calls.{MayFind, HasCalled, HasSeen}
-use Rattle.shared_desk.specs.InOrder.{ticket_count, waiting, IsAfter, IsInOrder}
-use Rattle.shared_desk.specs.Steps.{Hand, Rests, with_ticket, with_turn, with_call, HasEmptySlot, HasFullSlot, HasTurn, HasTaken, HasNewCall, HasCounted, EndsWithCall, TicketIsDrawn, CallIsCounted, TurnIsEnded, IsTurned, TurnIsSeen}
+use Rattle.shared_desk.specs.Calls.{HasCalled, HasSeen}
+use Rattle.shared_desk.specs.InOrder.{DeskSlot, ticket_count, IsAfter, IsInOrder}
+use Rattle.shared_desk.specs.Steps.{Hand, Rests, with_ticket, with_turn, with_call, HasEmptySlot, HasFullSlot, HasTurn, HasTaken, HasNewCall}
+use Rattle.shared_desk.specs.Steps.{HasCounted, EndsWithCall, TicketIsDrawn, CallIsCounted, TurnIsEnded, IsTurned, TurnIsSeen}
 use Rattle.shared_desk.proofs.Parts.{some_same, none_some, first_slot}
 use Rattle.shared_desk.proofs.Turning.{draws_on, looks_on, counts_on, ends_on}
 use Rattle.shared_desk.proofs.Seating.{IsClosed}
@@ -25,14 +27,15 @@ no_ticket_left None e = refl
 no_ticket_left (Some k) e = absurd (omega arith)
 
 module _ {S E R : Type 0} where
-  pub slot_rest : (m : Hand S E R) (x : Option (Held S E R)) → m.1 ≡ (0, x) ∷ [] → m.1 ≡ (0, x) ∷ rest m.1
-  slot_rest m x e = subst (λ (l : List (ℕ × Option (Held S E R))). l ≡ (0, x) ∷ rest l) (sym e) refl
+  pub slot_rest : (m : Hand S E R) (x : DeskSlot S E R) → m.1 ≡ (0, x) ∷ [] → m.1 ≡ (0, x) ∷ rest m.1
+  slot_rest m x e = subst (λ (l : List (ℕ × DeskSlot S E R)). l ≡ (0, x) ∷ rest l) (sym e) refl
 
   -- a value was put into the slot that the seat has
   pub put_in : (m n : Hand S E R) (h : Held S E R) → HasEmptySlot m → n ≡ (m.0, (0, Some h) ∷ rest m.1) → n ≡ (m.0, (0, Some h) ∷ [])
   put_in m n h empty is = is ∙ ap (λ l. (m.0, (0, Some h) ∷ rest l)) empty.slot
 
-  pub counted_is : (st : Step (Option (Held S E R))) (m n : Hand S E R) (found : ℕ) (v : View S E R) (h : Held S E R) → m ≡ (v, (0, Some h) ∷ []) → CallIsCounted st m found n → HasCounted v h n
+  pub counted_is : (st : Step (DeskSlot S E R)) (m n : Hand S E R) (found : ℕ) (v : View S E R) (h : Held S E R) → m ≡ (v, (0, Some h) ∷ [])
+      → CallIsCounted st m found n → HasCounted v h n
   counted_is st m n found v h is told =
       let t : CallIsCounted st (v, (0, Some h) ∷ []) found n = subst (λ (z : Hand S E R). CallIsCounted st z found n) is told in
       record { left = λ c grown. t.left c record { held = h; slot = refl; calls = grown } }
@@ -40,15 +43,20 @@ module _ {S E R : Type 0} where
 module _ {S E R : Type 0} (steps : S → ℕ → E → R → S → Type 0) (start : S) (slots id : ℕ) where
   pub looks_at : (m : Hand S E R) (v : View S E R) (k : ℕ) → m ≡ (with_ticket v (Some k), []) → 0 < seats v
       → Allows (IsInOrder steps start) slots id m 1 (λ x. x) (TurnIsSeen steps (step slots 1 0 0 none) m)
-  looks_at m v k is live = subst (λ (z : Hand S E R). Allows (IsInOrder steps start) slots id z 1 (λ x. x) (TurnIsSeen steps (step slots 1 0 0 none) z)) (sym is)
+  looks_at m v k is live =
+      subst (λ (z : Hand S E R). Allows (IsInOrder steps start) slots id z 1 (λ x. x) (TurnIsSeen steps (step slots 1 0 0 none) z)) (sym is)
       (looks_on steps start slots id (with_ticket v (Some k)) k live refl refl)
 
-  pub draws_at : (m : Hand S E R) → Rests m → Allows (IsInOrder steps start) slots id m 0 (λ x. (x + 1) % 2 ^ 64) (TicketIsDrawn (step slots 0 1 0 none) m)
+  pub draws_at : (m : Hand S E R) → Rests m
+      → Allows (IsInOrder steps start) slots id m 0 (λ x. (x + 1) % 2 ^ 64) (TicketIsDrawn (step slots 0 1 0 none) m)
   draws_at m rests =
-      subst (λ (c : List (ℕ × Option (Held S E R))). Allows (IsInOrder steps start) slots id (m.0, c) 0 (λ x. (x + 1) % 2 ^ 64) (TicketIsDrawn (step slots 0 1 0 none) (m.0, c))) (sym rests.no_slot)
+      subst (λ (c : List (ℕ × DeskSlot S E R)).
+      Allows (IsInOrder steps start) slots id (m.0, c) 0 (λ x. (x + 1) % 2 ^ 64) (TicketIsDrawn (step slots 0 1 0 none) (m.0, c)))
+      (sym rests.no_slot)
       (draws_on steps start slots id m.0 rests.no_ticket rests.no_turn)
 
-  pub counts_at : (m : Hand S E R) (v : View S E R) (h : Held S E R) → m ≡ (v, (0, Some h) ∷ []) → v.turn ≡ true → HasNewCall steps start v h → length h.calls.items < 2 ^ 64
+  pub counts_at : (m : Hand S E R) (v : View S E R) (h : Held S E R) → m ≡ (v, (0, Some h) ∷ []) → v.turn ≡ true → HasNewCall steps start v h
+      → length h.calls.items < 2 ^ 64
       → Allows (IsInOrder steps start) slots id m 2 (λ x. (x + 1) % 2 ^ 64) (CallIsCounted (step slots 2 1 0 none) m)
   counts_at m v h is turn new small =
       subst (λ (z : Hand S E R). Allows (IsInOrder steps start) slots id z 2 (λ x. (x + 1) % 2 ^ 64) (CallIsCounted (step slots 2 1 0 none) z)) (sym is)
@@ -57,12 +65,15 @@ module _ {S E R : Type 0} (steps : S → ℕ → E → R → S → Type 0) (star
   pub ends_at : (m : Hand S E R) → HasFullSlot steps start m
       → Allows (IsInOrder steps start) slots id m 1 (λ x. (x + 1) % 2 ^ 64) (TurnIsEnded (step slots 1 1 0 none) m)
   ends_at m full =
-      subst (λ (c : List (ℕ × Option (Held S E R))). Allows (IsInOrder steps start) slots id (m.0, c) 1 (λ x. (x + 1) % 2 ^ 64) (TurnIsEnded (step slots 1 1 0 none) (m.0, c))) (sym full.slot)
+      subst (λ (c : List (ℕ × DeskSlot S E R)).
+      Allows (IsInOrder steps start) slots id (m.0, c) 1 (λ x. (x + 1) % 2 ^ 64) (TurnIsEnded (step slots 1 1 0 none) (m.0, c)))
+      (sym full.slot)
       (ends_on steps start slots id m.0 full.held full.turn full.kept)
 
 module _ {S E R : Type 0} (steps : S → ℕ → E → R → S → Type 0) (start : S) where
   -- the value was put back, and the slot has what was seen
-  pub put_full : (m n : Hand S E R) (h : Held S E R) → HasEmptySlot m → n ≡ (m.0, (0, Some h) ∷ rest m.1) → IsAfter steps start m.0.seen h → HasFullSlot steps start n
+  pub put_full : (m n : Hand S E R) (h : Held S E R) → HasEmptySlot m → n ≡ (m.0, (0, Some h) ∷ rest m.1) → IsAfter steps start m.0.seen h
+      → HasFullSlot steps start n
   put_full m n h empty is after =
       let now = put_in m n h empty is in
       record {
@@ -74,7 +85,8 @@ module _ {S E R : Type 0} (steps : S → ℕ → E → R → S → Type 0) (star
 
 module _ {S E R : Type 0} (steps : S → ℕ → E → R → S → Type 0) (start : S) (v : View S E R) where
   -- the word shows the seat's ticket
-  pub turn_told : (st : Step (Option (Held S E R))) (m n : Hand S E R) (found k : ℕ) → m ≡ (with_ticket v (Some k), []) → v.start ≡ Some start → found ≡ k % 2 ^ 64
+  pub turn_told : (st : Step (DeskSlot S E R)) (m n : Hand S E R) (found k : ℕ) → m ≡ (with_ticket v (Some k), []) → v.start ≡ Some start
+      → found ≡ k % 2 ^ 64
       → TurnIsSeen steps st m found n → HasTurn steps start v n
   turn_told st m n found k is opened served told =
       let waits : Hand S E R = (with_ticket v (Some k), []) in
@@ -87,7 +99,10 @@ module _ {S E R : Type 0} (steps : S → ℕ → E → R → S → Type 0) (star
   pub counted_full : (h : Held S E R) (m : Hand S E R) → v.turn ≡ true → HasNewCall steps start v h → HasCounted v h m → HasFullSlot steps start m
   counted_full h m turn new counted =
       let is = counted.left new.new_call new.calls in
-      let after : IsAfter steps start (with_call v new.new_call).seen h = record { calls = new.calls; runs = subst (λ (l : List (Call E R)). Runs steps start l h.state) new.calls new.runs } in
+      let after : IsAfter steps start (with_call v new.new_call).seen h = record {
+        calls = new.calls;
+        runs = subst (λ (l : List (Call E R)). Runs steps start l h.state) new.calls new.runs;
+      } in
       record {
         turn = ap (λ (z : Hand S E R). z.0.turn) is ∙ turn;
         held = h;
@@ -95,13 +110,14 @@ module _ {S E R : Type 0} (steps : S → ℕ → E → R → S → Type 0) (star
         kept = subst (λ (z : Hand S E R). IsAfter steps start z.0.seen h) (sym is) after;
       }
 
-  pub slot_full : (m : Hand S E R) (x : Option (Held S E R)) (t : HasTurn steps start v m) → m.1 ≡ (0, x) ∷ rest m.1 → x ≡ Some t.held
+  pub slot_full : (m : Hand S E R) (x : DeskSlot S E R) (t : HasTurn steps start v m) → m.1 ≡ (0, x) ∷ rest m.1 → x ≡ Some t.held
   slot_full m x t e = first_slot x (Some t.held) _ _ (sym e ∙ ap (λ (z : Hand S E R). z.1) t.left)
 
-  pub took_none : (m : Hand S E R) (x : Option (Held S E R)) → HasTurn steps start v m → m.1 ≡ (0, x) ∷ rest m.1 → x ≡ None → ⊥
+  pub took_none : (m : Hand S E R) (x : DeskSlot S E R) → HasTurn steps start v m → m.1 ≡ (0, x) ∷ rest m.1 → x ≡ None → ⊥
   took_none m x t e empty = none_some t.held (sym empty ∙ slot_full m x t e)
 
-  pub took_told : (m n : Hand S E R) (x : Option (Held S E R)) (h : Held S E R) → HasTurn steps start v m → m.1 ≡ (0, x) ∷ rest m.1 → n ≡ (m.0, (0, None) ∷ rest m.1) → x ≡ Some h
+  pub took_told : (m n : Hand S E R) (x : DeskSlot S E R) (h : Held S E R) → HasTurn steps start v m → m.1 ≡ (0, x) ∷ rest m.1
+      → n ≡ (m.0, (0, None) ∷ rest m.1) → x ≡ Some h
       → HasTaken steps start v h n
   took_told m n x h t e e' is =
       let same : t.held ≡ h = some_same t.held h (sym (slot_full m x t e) ∙ is) in
@@ -120,14 +136,16 @@ module _ {S E R : Type 0} (steps : S → ℕ → E → R → S → Type 0) (star
           runs = subst (λ (z : S × List (Call E R)). Runs steps start z.1 z.0) (λ i. (sym state i, sym seen i)) t.found.runs;
         }
 
-    pub new_call_of : (k : Held S E R) (n : ℕ) (e : E) (r : R) → n ≡ v.number → k.calls.items ≡ h.calls.items ++ call n e r ∷ [] → Runs steps start k.calls.items k.state
+    pub new_call_of : (k : Held S E R) (n : ℕ) (e : E) (r : R) → n ≡ v.number → k.calls.items ≡ h.calls.items ++ call n e r ∷ []
+        → Runs steps start k.calls.items k.state
         → HasNewCall steps start m.0 k
     new_call_of k n e r num grown runs =
         let seen : m.0.seen ≡ h.calls.items = ap (λ (z : Hand S E R). z.0.seen) t.left in
         let number : m.0.number ≡ v.number = ap (λ (z : Hand S E R). z.0.number) t.left in
         record { new_call = call n e r; by_seat = num ∙ sym number; calls = grown ∙ ap (λ l. l ++ call n e r ∷ []) (sym seen); runs = runs }
 
-    pub called_told : (k : Held S E R) (n : ℕ) (e : E) (r : R) (end : Hand S E R) → v.ticket ≡ None → v.turn ≡ false → n ≡ v.number → k.calls.items ≡ h.calls.items ++ call n e r ∷ []
+    pub called_told : (k : Held S E R) (n : ℕ) (e : E) (r : R) (end : Hand S E R) → v.ticket ≡ None → v.turn ≡ false → n ≡ v.number
+        → k.calls.items ≡ h.calls.items ++ call n e r ∷ []
         → steps h.state n e r k.state → EndsWithCall m.0 k end → HasCalled steps start v e r end.0
     called_told k n e r end no_ticket no_turn num grown st ends =
         let c = call v.number e r in
@@ -141,7 +159,8 @@ module _ {S E R : Type 0} (steps : S → ℕ → E → R → S → Type 0) (star
           after = k.state;
           found = t.found;
           step = subst (λ (z : ℕ). steps h.state z e r k.state) num st;
-          left = ap (λ (z : Hand S E R). z.0) left ∙ (λ i. record v { calls = v.calls ++ c ∷ []; seen = h.calls.items ++ c ∷ []; ticket = sym no_ticket i; turn = sym no_turn i });
+          left = ap (λ (z : Hand S E R). z.0) left
+              ∙ (λ i. record v { calls = v.calls ++ c ∷ []; seen = h.calls.items ++ c ∷ []; ticket = sym no_ticket i; turn = sym no_turn i });
         }
 
     pub seen_told : (end : Hand S E R) → v.ticket ≡ None → v.turn ≡ false → end ≡ (with_ticket m.0 None, []) → HasSeen steps start v end.0
@@ -159,13 +178,13 @@ module _ {S E R : Type 0} (steps : S → ℕ → E → R → S → Type 0) (star
         let seen : m.0.seen ≡ h.calls.items = ap (λ (z : Hand S E R). z.0.seen) t.left in
         ap (λ (z : Hand S E R). z.1) (ends.left (call n e r) (grown ∙ ap (λ l. l ++ call n e r ∷ []) (sym seen)))
 
-module _ {S E R : Type 0} (steps : S → ℕ → E → R → S → Type 0) (start : S) (v : View S E R) (xs : List (Option (Held S E R))) where
+module _ {S E R : Type 0} (steps : S → ℕ → E → R → S → Type 0) (start : S) (v : View S E R) (xs : List (DeskSlot S E R)) where
   -- the value that was taken out at the end
-  pub closed_some : (slot : Option (Held S E R)) (h : Held S E R) → (k : Held S E R) × (get_elem? xs 0 ≡ some (Some k)) × IsClosed steps start v k
+  pub closed_some : (slot : DeskSlot S E R) (h : Held S E R) → (k : Held S E R) × (get_elem? xs 0 ≡ some (Some k)) × IsClosed steps start v k
       → get_elem? xs 0 ≡ some slot → slot ≡ Some h → IsClosed steps start v h
   closed_some slot h c e is =
       subst (IsClosed steps start v) (some_same c.0 h (some-injective (Some c.0) (Some h) (sym c.1 ∙ (e ∙ ap some is)))) c.2
 
-  pub closed_none : (slot : Option (Held S E R)) → (k : Held S E R) × (get_elem? xs 0 ≡ some (Some k)) × IsClosed steps start v k
+  pub closed_none : (slot : DeskSlot S E R) → (k : Held S E R) × (get_elem? xs 0 ≡ some (Some k)) × IsClosed steps start v k
       → get_elem? xs 0 ≡ some slot → slot ≡ None → ⊥
   closed_none slot c e is = none_some c.0 (some-injective None (Some c.0) (sym (e ∙ ap some is) ∙ c.1))

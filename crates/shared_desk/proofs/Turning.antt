@@ -1,25 +1,24 @@
 -- The steps of a call keep the rule: a ticket is drawn, the one that is served is read, a call is counted, and the turn is ended.
-use Rattle.std.proofs.Common.{◌≡◌, ◌≢◌, ℕ, ◌+◌, ◌%◌, ◌^◌, ◌<◌, ◌≤◌, List, [], ◌∷◌, ◌++◌, Bool, true, false, eqb, refl, sym, ap, ◌∙◌, subst, set, length, length-append, arith, slice_index, slice_set, MatchBool, eqb-true}
+use Rattle.std.proofs.Common.{◌≡◌, ◌≢◌, ℕ, ◌+◌, ◌%◌, ◌^◌, ◌<◌, ◌≤◌, List, [], ◌∷◌, ◌++◌, Bool, true, false, eqb, refl, sym, ap, ◌∙◌, subst}
+use Rattle.std.proofs.Common.{length, length-append, arith, slice_index, slice_set, MatchBool, eqb-true}
 use Rattle.std.specs.Prelude.{Option, Some, None, unwrap_or, sum_by}
 use mathlib.Core.Option.{Option as May, none, some}
 use lib.ListN.{get_elem?}
-use Rattle.atomic_table.specs.Table.{State, Act, Valid, step, keeps, takes, gives, stepped, carried_after, Allows}
+use Rattle.atomic_table.specs.Table.{Act, Valid, step, keeps, takes, gives, stepped, carried_after, Allows}
 use Rattle.atomic_table.proofs.Lists.{set_again, one_turn}
 use Rattle.desk.specs.declared.bench.Call.{Call}
 use Rattle.desk.specs.declared.held.Held.{Held}
 use Rattle.desk.specs.Runs.{Runs, calls_by, StartsWith}
 use Rattle.shared_desk.specs.declared.rule.View.{View}
 use Rattle.shared_desk.specs.Views.{seats}
-use Rattle.shared_desk.specs.InOrder.{ticket_count, waiting, times_held, once_below, KnowsHistory, HasItsCalls, IsServed, IsOneTurn, AreCalled, IsAfter, IsKept, IsInOrder}
-use Rattle.shared_desk.specs.Calls.{MayFind}
-use Rattle.shared_desk.specs.Steps.{Hand, with_ticket, with_turn, with_call, HoldsCall, TicketIsDrawn, CallIsCounted, TurnIsEnded, IsTurned, TurnIsSeen}
+use Rattle.shared_desk.specs.InOrder.{DeskSlot, DeskState, waiting, times_held, KnowsHistory, HasItsCalls, IsOneTurn}
+use Rattle.shared_desk.specs.InOrder.{IsAfter, IsInOrder}
+use Rattle.shared_desk.specs.Steps.{Hand, with_ticket, with_turn, with_call, HoldsCall, TicketIsDrawn, CallIsCounted, TurnIsEnded, IsTurned}
+use Rattle.shared_desk.specs.Steps.{TurnIsSeen}
 use Rattle.shared_desk.proofs.Histories.{calls_by-append, calls_by-other, starts_with_more, starts_with_all, last_call}
-use Rattle.shared_desk.proofs.Sums.{once_below-le, place_below, same_at, each_set, sum_by-two, sum_by-le-length, times}
-use Rattle.shared_desk.proofs.Parts.{some_same, none_some, first_slot, false_true, ticket_count-le, numbered_set, line_set, line_drawn, line_served, turn_idle, turn_taken, turn_kept, turn_ended, called_set}
-
--- what lies in a slot, and what a table is
-abbrev Slot : Type 0 → Type 0 → Type 0 → Type 0
-Slot S E R = Option (Held S E R)
+use Rattle.shared_desk.proofs.Sums.{once_below-le, place_below, same_at, each_set, sum_by-two, sum_by-le-length}
+use Rattle.shared_desk.proofs.Parts.{some_same, none_some, first_slot, false_true, ticket_count-le, numbered_set, line_set, line_drawn, line_served}
+use Rattle.shared_desk.proofs.Parts.{turn_idle, turn_taken, turn_kept, turn_ended, called_set}
 
 module _ {S E R : Type 0} (steps : S → ℕ → E → R → S → Type 0) (start : S) (slots id : ℕ) (v : View S E R) where
   pub draws_on : v.ticket ≡ None → v.turn ≡ false
@@ -44,7 +43,8 @@ module _ {S E R : Type 0} (steps : S → ℕ → E → R → S → Type 0) (star
           one_turn = turn_idle s.views id v w at r.history r.served r.who no_turn refl r.one_turn;
           called = called_set s.views id v w at r.history r.made (let h = r.called.own id v at in record { held = h.held; bare = h.bare }) r.called;
           known = each_set (λ j u. 0 < seats u → KnowsHistory start r.history r.made j u) s.views id w
-              (λ live. let k = r.known id v at live in record { opened = k.opened; numbered = k.numbered; own = k.own; counted = k.counted; seen = k.seen })
+              (λ live. let k = r.known id v at live in
+              record { opened = k.opened; numbered = k.numbered; own = k.own; counted = k.counted; seen = k.seen })
               (λ j u ne e. r.known j u e);
           kept = r.kept;
         },
@@ -52,13 +52,14 @@ module _ {S E R : Type 0} (steps : S → ℕ → E → R → S → Type 0) (star
       )
 
   -- nothing changes
-  unmoved : (s : State (Slot S E R) (View S E R)) (r : IsInOrder steps start s) (word : ℕ) → slice_set s.words word (slice_index s.words word) ≡ s.words → get_elem? s.views id ≡ some v
+  unmoved : (s : DeskState S E R) (r : IsInOrder steps start s) (word : ℕ) → slice_set s.words word (slice_index s.words word) ≡ s.words
+      → get_elem? s.views id ≡ some v
       → IsInOrder steps start (stepped s word (slice_index s.words word) id [] v keeps)
   unmoved s r word same at =
       subst (IsInOrder steps start) (λ i. record { words = sym same i; homes = s.homes; views = sym (set_again s.views id v at) i }) r
 
   -- who has a ticket that is served, and not the turn: then nobody has the turn
-  no_turn_yet : (s : State (Slot S E R) (View S E R)) (r : IsInOrder steps start s) → get_elem? s.views id ≡ some v → v.ticket ≡ Some r.served → v.turn ≡ false
+  no_turn_yet : (s : DeskState S E R) (r : IsInOrder steps start s) → get_elem? s.views id ≡ some v → v.ticket ≡ Some r.served → v.turn ≡ false
       → (who : Option ℕ) → r.who ≡ who → r.who ≡ None
   no_turn_yet s r at ticket no_turn None e = e
   no_turn_yet s r at ticket no_turn (Some j) e =
@@ -69,9 +70,9 @@ module _ {S E R : Type 0} (steps : S → ℕ → E → R → S → Type 0) (star
       absurd (false_true v.turn no_turn (sym (ap (λ (z : View S E R). z.turn) same) ∙ t.2))
 
   -- the seat's ticket is served, and the slot is at home
-  turn_begins : (s : State (Slot S E R) (View S E R)) (r : IsInOrder steps start s) → get_elem? s.views id ≡ some v → 0 < seats v → v.ticket ≡ Some r.served
+  turn_begins : (s : DeskState S E R) (r : IsInOrder steps start s) → get_elem? s.views id ≡ some v → 0 < seats v → v.ticket ≡ Some r.served
       → r.who ≡ None → (h : Held S E R) → s.homes ≡ some (Some h) ∷ [] → IsAfter steps start r.history h
-      → (w : View S E R) × (a : Act (Slot S E R)) × Valid s.homes [] a × IsInOrder steps start (stepped s 1 (slice_index s.words 1) id [] w a)
+      → (w : View S E R) × (a : Act (DeskSlot S E R)) × Valid s.homes [] a × IsInOrder steps start (stepped s 1 (slice_index s.words 1) id [] w a)
       × IsTurned steps (v, []) (w, carried_after [] a)
   turn_begins s r at live ticket free h home after =
       let w = with_turn v h.calls.items in
@@ -79,7 +80,7 @@ module _ {S E R : Type 0} (steps : S → ℕ → E → R → S → Type 0) (star
       let has = r.called.own id v at in (
         w,
         takes 0 (Some h),
-        ap (λ (hs : List (May (Slot S E R))). get_elem? hs 0) home,
+        ap (λ (hs : List (May (DeskSlot S E R))). get_elem? hs 0) home,
         record {
           history = r.history;
           served = r.served;
@@ -94,13 +95,16 @@ module _ {S E R : Type 0} (steps : S → ℕ → E → R → S → Type 0) (star
           called = called_set s.views id v w at r.history r.made record { held = has.held; bare = has.bare } r.called;
           known = each_set (λ j u. 0 < seats u → KnowsHistory start r.history r.made j u) s.views id w
               (λ live. record {
-                opened = k.opened; numbered = k.numbered; own = k.own; counted = k.counted;
+                opened = k.opened;
+                numbered = k.numbered;
+                own = k.own;
+                counted = k.counted;
                 seen = starts_with_all r.history h.calls.items after.calls;
               })
               (λ j u ne e. r.known j u e);
           kept = record {
             home = λ e. absurd (none_some id (sym e));
-            away = λ j e. ap (λ (hs : List (May (Slot S E R))). slice_set hs 0 none) home;
+            away = λ j e. ap (λ (hs : List (May (DeskSlot S E R))). slice_set hs 0 none) home;
           };
         },
         record {
@@ -108,15 +112,16 @@ module _ {S E R : Type 0} (steps : S → ℕ → E → R → S → Type 0) (star
           left = refl;
           found = λ s' e.
               let same : start ≡ s' = some_same start s' (sym k.opened ∙ e) in record {
-                seen = subst (λ (l : List (Call E R)). StartsWith l v.seen) (sym after.calls) k.seen;
+                seen = subst (λ (l : List (Call E R)). StartsWith l v.seen) (sym {A = List (Call E R)} after.calls) k.seen;
                 runs = subst (λ (z : S × List (Call E R)). Runs steps z.0 z.1 h.state) (λ i. (same i, sym after.calls i)) after.runs;
-                own = subst (λ (z : ℕ × List (Call E R)). calls_by z.0 z.1 ≡ calls_by z.0 v.calls) (λ i. (sym k.numbered i, sym after.calls i)) (sym (has.held id k.own));
+                own = subst (λ (z : ℕ × List (Call E R)). calls_by z.0 z.1 ≡ calls_by z.0 v.calls) (λ i. (sym k.numbered i, sym after.calls i))
+                    (sym (has.held id k.own));
               };
         },
       )
 
   -- the word shows the seat's ticket, hence it is the one that is served
-  served_now : (s : State (Slot S E R) (View S E R)) (r : IsInOrder steps start s) (k : ℕ) → get_elem? s.views id ≡ some v → v.ticket ≡ Some k
+  served_now : (s : DeskState S E R) (r : IsInOrder steps start s) (k : ℕ) → get_elem? s.views id ≡ some v → v.ticket ≡ Some k
       → slice_index s.words 1 ≡ k % 2 ^ 64 → r.served ≡ k
   served_now s r k at ticket found =
       let shown : r.served % 2 ^ 64 ≡ k % 2 ^ 64 = sym (ap (λ (ws : List ℕ). slice_index ws 1) r.words_are) ∙ found in
@@ -136,7 +141,7 @@ module _ {S E R : Type 0} (steps : S → ℕ → E → R → S → Type 0) (star
       same_test = ap (λ (o : Option ℕ). eqb (slice_index s.words 1) (unwrap_or o 0 % 2 ^ 64)) ticket
 
       go : (b : Bool) → eqb (slice_index s.words 1) (k % 2 ^ 64) ≡ b
-          → (w : View S E R) × (a : Act (Slot S E R)) × Valid s.homes [] a × IsInOrder steps start (stepped s 1 (slice_index s.words 1) id [] w a)
+          → (w : View S E R) × (a : Act (DeskSlot S E R)) × Valid s.homes [] a × IsInOrder steps start (stepped s 1 (slice_index s.words 1) id [] w a)
           × TurnIsSeen steps (step slots 1 0 0 none) (v, []) (slice_index s.words 1) (w, carried_after [] a)
       go true e =
           let now = served_now s r k at ticket (eqb-true (slice_index s.words 1) (k % 2 ^ 64) e) in
@@ -154,8 +159,10 @@ module _ {S E R : Type 0} (steps : S → ℕ → E → R → S → Type 0) (star
       )
 
   -- the call is counted: the history grows by it
-  pub counts_on : (c : Call E R) (h : Held S E R) → v.turn ≡ true → c.seat ≡ v.number → h.calls.items ≡ v.seen ++ c ∷ [] → length h.calls.items < 2 ^ 64
-      → Allows (IsInOrder steps start) slots id (v, (0, Some h) ∷ []) 2 (λ x. (x + 1) % 2 ^ 64) (CallIsCounted (step slots 2 1 0 none) (v, (0, Some h) ∷ []))
+  pub counts_on : (c : Call E R) (h : Held S E R) → v.turn ≡ true → c.seat ≡ v.number → h.calls.items ≡ v.seen ++ c ∷ []
+      → length h.calls.items < 2 ^ 64
+      → Allows (IsInOrder steps start) slots id (v, (0, Some h) ∷ []) 2 (λ x. (x + 1) % 2 ^ 64)
+      (CallIsCounted (step slots 2 1 0 none) (v, (0, Some h) ∷ []))
   counts_on c h turn by_seat grown small s r _ at _ =
       let w = with_call v c in
       let its = r.one_turn.served_is id v at turn in
@@ -185,7 +192,8 @@ module _ {S E R : Type 0} (steps : S → ℕ → E → R → S → Type 0) (star
           called = record {
             own = each_set (λ j u. HasItsCalls more u) s.views id w
                 record {
-                  held = λ p e. calls_by-append p v.calls (c ∷ []) ∙ (ap (λ l. l ++ calls_by p (c ∷ [])) (has.held p e) ∙ sym (calls_by-append p r.history (c ∷ [])));
+                  held = λ p e. calls_by-append p v.calls (c ∷ [])
+                      ∙ (ap (λ l. l ++ calls_by p (c ∷ [])) (has.held p e) ∙ sym (calls_by-append p r.history (c ∷ [])));
                   bare = λ p e. calls_by-other p v.calls c (not_its c.seat p mine k.own e) ∙ has.bare p e;
                 }
                 (λ j u ne e. let other = r.called.own j u e in record {
@@ -201,9 +209,19 @@ module _ {S E R : Type 0} (steps : S → ℕ → E → R → S → Type 0) (star
                 calls_by-other p r.history c other ∙ r.called.unmade p far;
           };
           known = each_set (λ j u. 0 < seats u → KnowsHistory start more r.made j u) s.views id w
-              (λ live. record { opened = k.opened; numbered = k.numbered; own = k.own; counted = k.counted; seen = starts_with_all more (v.seen ++ c ∷ []) seen_all })
+              (λ live. record {
+                opened = k.opened;
+                numbered = k.numbered;
+                own = k.own;
+                counted = k.counted;
+                seen = starts_with_all more (v.seen ++ c ∷ []) seen_all;
+              })
               (λ j u ne e live. let o = r.known j u e live in record {
-                opened = o.opened; numbered = o.numbered; own = o.own; counted = o.counted; seen = starts_with_more r.history u.seen c o.seen;
+                opened = o.opened;
+                numbered = o.numbered;
+                own = o.own;
+                counted = o.counted;
+                seen = starts_with_more r.history u.seen c o.seen;
               });
           kept = record { home = λ e. absurd (none_some id (sym e ∙ its.who_is)); away = r.kept.away };
         },
@@ -222,7 +240,8 @@ module _ {S E R : Type 0} (steps : S → ℕ → E → R → S → Type 0) (star
 
   -- the turn is ended, and the slot goes home
   pub ends_on : (h : Held S E R) → v.turn ≡ true → IsAfter steps start v.seen h
-      → Allows (IsInOrder steps start) slots id (v, (0, Some h) ∷ []) 1 (λ x. (x + 1) % 2 ^ 64) (TurnIsEnded (step slots 1 1 0 none) (v, (0, Some h) ∷ []))
+      → Allows (IsInOrder steps start) slots id (v, (0, Some h) ∷ []) 1 (λ x. (x + 1) % 2 ^ 64)
+      (TurnIsEnded (step slots 1 1 0 none) (v, (0, Some h) ∷ []))
   ends_on h turn after s r _ at _ =
       let w = with_ticket v None in
       let its = r.one_turn.served_is id v at turn in
@@ -244,12 +263,13 @@ module _ {S E R : Type 0} (steps : S → ℕ → E → R → S → Type 0) (star
           one_turn = turn_ended s.views id v w at r.history r.served (r.served + 1) r.who its.who_is refl r.one_turn;
           called = called_set s.views id v w at r.history r.made (let h = r.called.own id v at in record { held = h.held; bare = h.bare }) r.called;
           known = each_set (λ j u. 0 < seats u → KnowsHistory start r.history r.made j u) s.views id w
-              (λ live. let k = r.known id v at live in record { opened = k.opened; numbered = k.numbered; own = k.own; counted = k.counted; seen = k.seen })
+              (λ live. let k = r.known id v at live in
+              record { opened = k.opened; numbered = k.numbered; own = k.own; counted = k.counted; seen = k.seen })
               (λ j u ne e. r.known j u e);
           kept = record {
             home = λ e. (
               h,
-              ap (λ (hs : List (May (Slot S E R))). slice_set hs 0 (some (Some h))) (r.kept.away id its.who_is),
+              ap (λ (hs : List (May (DeskSlot S E R))). slice_set hs 0 (some (Some h))) (r.kept.away id its.who_is),
               subst (λ (l : List (Call E R)). IsAfter steps start l h) its.seen_is after,
             );
             away = λ j e. absurd (none_some j e);

@@ -1,5 +1,6 @@
 -- The rule of a desk. Its words are the next ticket, the ticket that is served, and how many calls were made.
-use Rattle.std.specs.Prelude.{◌≡◌, ℕ, ◌+◌, ◌<◌, ◌≤◌, ◌^◌, ◌%◌, ◌==◌, nat_lt, Some, None, Option, true, List, [], ◌∷◌, length, sum_by, count_by, if◌then◌else◌}
+use Rattle.std.specs.Prelude.{◌≡◌, ℕ, ◌+◌, ◌<◌, ◌≤◌, ◌^◌, ◌%◌, ◌==◌, nat_lt, Some, None, Option, true, List, [], ◌∷◌, length, sum_by, count_by}
+use Rattle.std.specs.Prelude.{if◌then◌else◌}
 use mathlib.Core.Option.{some, none, Option as May}
 use lib.ListN.{get_elem?}
 use Rattle.atomic_table.specs.Table.{State}
@@ -9,6 +10,14 @@ use Rattle.desk.specs.Runs.{Runs, calls_by, StartsWith}
 use Rattle.shared_desk.specs.declared.rule.View.{View}
 use Rattle.shared_desk.specs.declared.shared.TheConstants.{MOST_SEATS}
 use Rattle.shared_desk.specs.Views.{seats}
+
+-- what the slot holds: the calls and the state after them, or nothing where a seat took them out
+abbrev pub DeskSlot : Type 0 → Type 0 → Type 0 → Type 0
+DeskSlot S E R = Option (Held S E R)
+
+-- a desk's table at one time
+abbrev pub DeskState : Type 0 → Type 0 → Type 0 → Type 0
+DeskState S E R = State (DeskSlot S E R) (View S E R)
 
 -- one for a ticket
 abbrev pub ticket_count : Option ℕ → ℕ
@@ -51,8 +60,10 @@ module _ {S E R : Type 0} where
   -- Each ticket from the one that is served to the next one is with one seat.
   pub record AreInLine (served next : ℕ) (views : List (View S E R)) : Type 0 where
     pub count : next ≡ served + sum_by waiting views
-    pub between : (place : ℕ) (v : View S E R) (ticket : ℕ) → get_elem? views place ≡ some v → v.ticket ≡ Some ticket → (served ≤ ticket) × (ticket < next)
-    pub apart : (i j : ℕ) (v w : View S E R) (ticket : ℕ) → get_elem? views i ≡ some v → get_elem? views j ≡ some w → v.ticket ≡ Some ticket → w.ticket ≡ Some ticket → i ≡ j
+    pub between : (place : ℕ) (v : View S E R) (ticket : ℕ) → get_elem? views place ≡ some v → v.ticket ≡ Some ticket
+        → (served ≤ ticket) × (ticket < next)
+    pub apart : (i j : ℕ) (v w : View S E R) (ticket : ℕ) → get_elem? views i ≡ some v → get_elem? views j ≡ some w → v.ticket ≡ Some ticket
+        → w.ticket ≡ Some ticket → i ≡ j
 
   -- A seat that has the turn is the one who has it: its ticket is served, and it has seen all.
   pub record IsServed (history : List (Call E R)) (served : ℕ) (who : Option ℕ) (place : ℕ) (v : View S E R) : Type 0 where
@@ -78,12 +89,12 @@ module _ {S E R : Type 0} (steps : S → ℕ → E → R → S → Type 0) (star
     pub runs : Runs steps start history h.state
 
   -- The slot has the history and its state, or is with who has the turn.
-  pub record IsKept (history : List (Call E R)) (who : Option ℕ) (homes : List (May (Option (Held S E R)))) : Type 0 where
+  pub record IsKept (history : List (Call E R)) (who : Option ℕ) (homes : List (May (DeskSlot S E R))) : Type 0 where
     pub home : who ≡ None → (h : Held S E R) × (homes ≡ some (Some h) ∷ []) × IsAfter history h
     pub away : (place : ℕ) → who ≡ Some place → homes ≡ none ∷ []
 
   -- There is one history. Seats take turns at it, in the order of their tickets.
-  pub record IsInOrder (s : State (Option (Held S E R)) (View S E R)) : Type 0 where
+  pub record IsInOrder (s : DeskState S E R) : Type 0 where
     pub history : List (Call E R)
     pub served : ℕ
     pub next : ℕ

@@ -1,8 +1,8 @@
 -- What a clause reads of a desk and of its seats.
-use Rattle.std.specs.Prelude.{◌≡◌, Some, Option}
+use Rattle.std.specs.Prelude.{◌≡◌, Some}
 use Rattle.atomic_table.specs.declared.shared.Seat.{Seat}
 use Rattle.desk.specs.declared.bench.Bench.{Ghosts}
-use Rattle.desk.specs.declared.held.Held.{Held}
+use Rattle.shared_desk.specs.InOrder.{DeskSlot}
 use Rattle.shared_desk.specs.declared.rule.View.{View}
 use Rattle.shared_desk.specs.declared.shared.Desk.{Desk}
 use Rattle.shared_desk.specs.declared.shared.DeskSeat.{DeskSeat}
@@ -13,7 +13,7 @@ module _ {X S E R : Type 0} where
   start_of desk = desk.table.shared.key.value
 
   -- The seat of the table is one of the desk's.
-  pub record IsAtDesk (desk : Desk X S E R) (seat : Seat (Option (Held S E R)) (View S E R)) : Type 0 where
+  pub record IsAtDesk (desk : Desk X S E R) (seat : Seat (DeskSlot S E R) (View S E R)) : Type 0 where
     pub table : seat.table_id ≡ desk.table.shared.table_id
     pub start : seat.me.0.start ≡ Some (start_of desk)
 

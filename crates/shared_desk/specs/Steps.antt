@@ -7,11 +7,11 @@ use Rattle.desk.specs.Runs.{Runs}
 use Rattle.shared_desk.specs.declared.rule.View.{View}
 use Rattle.shared_desk.specs.Views.{seats}
 use Rattle.shared_desk.specs.Calls.{MayFind}
-use Rattle.shared_desk.specs.InOrder.{IsAfter}
+use Rattle.shared_desk.specs.InOrder.{DeskSlot, IsAfter}
 
 -- what a seat of the table has: what it knows, and the slots that are out with it
 abbrev pub Hand : Type 0 → Type 0 → Type 0 → Type 0
-Hand S E R = Me (Option (Held S E R)) (View S E R)
+Hand S E R = Me (DeskSlot S E R) (View S E R)
 
 module _ {S E R : Type 0} where
   -- the seat, when its ticket is this
@@ -45,17 +45,17 @@ module _ {S E R : Type 0} where
     pub calls : held.calls.items ≡ m.0.seen ++ c ∷ []
 
   -- A ticket was drawn, of which the word shows the remainder.
-  pub record TicketIsDrawn (st : Step (Option (Held S E R))) (m : Hand S E R) (found : ℕ) (n : Hand S E R) : Type 0 where
+  pub record TicketIsDrawn (st : Step (DeskSlot S E R)) (m : Hand S E R) (found : ℕ) (n : Hand S E R) : Type 0 where
     pub ticket : ℕ
     pub left : n ≡ (with_ticket m.0 (Some ticket), m.1)
     pub shown : found ≡ ticket % 2 ^ 64
 
   -- The call in the slot was counted.
-  pub record CallIsCounted (st : Step (Option (Held S E R))) (m : Hand S E R) (found : ℕ) (n : Hand S E R) : Type 0 where
+  pub record CallIsCounted (st : Step (DeskSlot S E R)) (m : Hand S E R) (found : ℕ) (n : Hand S E R) : Type 0 where
     pub left : (c : Call E R) → HoldsCall m c → n ≡ (with_call m.0 c, m.1)
 
   -- The turn was ended, and the slot went home.
-  pub record TurnIsEnded (st : Step (Option (Held S E R))) (m : Hand S E R) (found : ℕ) (n : Hand S E R) : Type 0 where
+  pub record TurnIsEnded (st : Step (DeskSlot S E R)) (m : Hand S E R) (found : ℕ) (n : Hand S E R) : Type 0 where
     pub left : n ≡ (with_ticket m.0 None, [])
 
   -- The call that this value has behind what the seat had seen was counted, and the seat has the slot with the value.
@@ -102,5 +102,5 @@ module _ {S E R : Type 0} (steps : S → ℕ → E → R → S → Type 0) where
     pub found : (start : S) → m.0.start ≡ Some start → MayFind steps start m.0 held.calls.items held.state
 
   -- It was seen which ticket is served: the seat's own, or else nothing changed.
-  abbrev pub TurnIsSeen : Step (Option (Held S E R)) → Hand S E R → ℕ → Hand S E R → Type 0
+  abbrev pub TurnIsSeen : Step (DeskSlot S E R) → Hand S E R → ℕ → Hand S E R → Type 0
   TurnIsSeen st m found n = MatchBool (found == unwrap_or m.0.ticket 0 % 2 ^ 64) (IsTurned m n) (n ≡ m)

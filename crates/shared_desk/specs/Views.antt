@@ -1,5 +1,5 @@
 -- What a seat knows, and how that changes where seats are split off and joined.
-use Rattle.std.specs.Prelude.{◌≡◌, ℕ, ◌+◌, ◌==◌, nat_lt, Some, None, false, true, List, [], ◌∷◌, ◌++◌, length, count_by, if◌then◌else◌, Option}
+use Rattle.std.specs.Prelude.{◌≡◌, ℕ, ◌+◌, nat_lt, Some, None, false, List, [], ◌∷◌, ◌++◌, length, if◌then◌else◌}
 use Rattle.desk.specs.declared.bench.Call.{Call}
 use Rattle.shared_desk.specs.declared.rule.View.{View}
 

@@ -6,9 +6,7 @@ ghost use Rattle.shared_desk.specs.Calls.{MayCall, HasCalled, HasSeen, HaveSameC
 ghost use Rattle.shared_desk.specs.InOrder.{waiting, IsAfter};
 ghost use Rattle.shared_desk.specs.Steps.{Rests, HasTurn, HasTaken, HasEmptySlot, HasNewCall, HasFullSlot, HasCounted, EndsWithCall, with_ticket};
 
-use crate::rule::{
-    CountsCall, DrawsTicket, EndsTurn, LooksForTurn, OneHistory, Sharing, ViewOf,
-};
+use crate::rule::{CountsCall, DrawsTicket, EndsTurn, LooksForTurn, OneHistory, Sharing, ViewOf};
 use atomic_table::{Seat, Table};
 use desk::bench::Bench;
 use desk::held::{HeldOf, make_call, opened};
@@ -32,8 +30,8 @@ const COUNT: usize = 2;
 
 type SeatOf<B> = Seat<Option<HeldOf<B>>, ViewOf<B>>;
 
-/// A bench that many threads call, one after the other. What its calls lead to lies in a slot, which is with the
-/// seat that has its turn.
+/// A bench that many threads call, each from a seat of its own. The calls so far and the state after them lie in
+/// a slot of a table, which is with the seat that has its turn.
 #[derive(Drop)]
 pub struct Desk<B: Bench> {
     table: Table<Option<HeldOf<B>>, ViewOf<B>, Snapshot<B::State>, OneHistory<B>, Global>,
@@ -41,7 +39,8 @@ pub struct Desk<B: Bench> {
     ghost one_slot: { table.shared.table_id.slots ≡ 1 },
 }
 
-/// What a thread calls with. Between calls it has neither ticket nor turn nor slot.
+/// What a thread calls with. Between its calls it has neither ticket nor turn nor slot. Where one is dropped,
+/// its desk can't be closed any more.
 #[derive(Drop)]
 pub struct DeskSeat<B: Bench> {
     seat: SeatOf<B>,
@@ -92,10 +91,7 @@ impl<B: Bench> Desk<B> {
         seat.split_off += 1;
         DeskSeat {
             number: seat.split_off,
-            seat: self
-                .table
-                .shared
-                .split_seat::<Sharing>(&mut seat.seat),
+            seat: self.table.shared.split_seat::<Sharing>(&mut seat.seat),
             split_off: 0,
         }
     }
@@ -154,9 +150,7 @@ impl<B: Bench> Desk<B> {
         let mut closed = table.close_with(seat);
         let slot = closed.take(0);
         closed.free();
-        let Some(held) = slot else {
-            unreachable!()
-        };
+        let Some(held) = slot else { unreachable!() };
         held
     }
 
@@ -252,7 +246,8 @@ impl<B: Bench> Desk<B> {
         ensures own { IsAtDesk self.now seat.new }
         ensures call { HasCounted seat.old.me.0 held seat.new.me }
     {
-        let _length = held.calls.len();
+        // It tells that a word can count the calls.
+        held.calls.len();
         self.table.shared.exchange(seat, 0, Some(held));
         self.table.shared.fetch_add::<CountsCall>(seat, COUNT, 1);
     }

@@ -8,7 +8,8 @@ closed g c =
     let seat = c.args.seat in
     let steps = g.B.Bench.steps in
     let start = c.args.self.table.shared.key.value in
-    let all = closes steps start seat.seat.id seat.seat.me.0 _ _ c.requires.first seat.live seat.no_turn c.requires.all c.close_with-closed.ensures.values.2 in
+    let final = c.close_with-closed.ensures.values.2 in
+    let all = closes steps start seat.seat.id seat.seat.me.0 _ _ c.requires.first seat.live seat.no_turn c.requires.all final in
     closed_some steps start seat.seat.me.0 _ c.take-slot.result c.in-Some.held all c.take-slot.ensures.value c.in-Some.is
 
 pub unreachable-requires : goal.unreachable-requires
@@ -16,7 +17,8 @@ unreachable-requires g c =
     let seat = c.args.seat in
     let steps = g.B.Bench.steps in
     let start = c.args.self.table.shared.key.value in
-    let all = closes steps start seat.seat.id seat.seat.me.0 _ _ c.requires.first seat.live seat.no_turn c.requires.all c.close_with-closed.ensures.values.2 in
+    let final = c.close_with-closed.ensures.values.2 in
+    let all = closes steps start seat.seat.id seat.seat.me.0 _ _ c.requires.first seat.live seat.no_turn c.requires.all final in
     closed_none steps start seat.seat.me.0 _ c.take-slot.result all c.take-slot.ensures.value c.in_default.is
 
 pub returns-clause-runs : goal.returns-clause-runs

@@ -6,24 +6,27 @@ use Rattle.shared_desk.proofs.shared.Desk.count.Goals as goal
 
 pub fetch_add-requires : goal.fetch_add-requires
 fetch_add-requires g c =
-    let n = c.len-length.ensures in let o = c.args.held.calls.ok.0 in let t = c.len-length.type_inv in
-    let is = put_in c.args.seat.now.me c.exchange.new.seat.me c.args.held c.requires.slot c.exchange.ensures.3 in (
+    let steps = g.B.Bench.steps in
+    let start = c.args.self.now.table.shared.key.value in
+    let seat = c.args.seat.now in
+    let is = put_in seat.me c.exchange.new.seat.me c.args.held c.requires.slot c.exchange.ensures.3 in
+    let n = c.len.ensures in let o = c.args.held.calls.ok.0 in let t = c.len.type_inv in (
       search rules,
       search rules,
-      counts_at g.B.Bench.steps c.args.self.now.table.shared.key.value _ _ c.exchange.new.seat.me c.args.seat.now.me.0 c.args.held is c.requires.slot.turn c.requires.call (omega arith),
+      counts_at steps start _ _ c.exchange.new.seat.me seat.me.0 c.args.held is c.requires.slot.turn c.requires.call (omega arith),
     )
-
-pub returns-clause-own : goal.returns-clause-own
-returns-clause-own g c =
-    let is = put_in c.args.seat.now.me c.exchange.new.seat.me c.args.held c.requires.slot c.exchange.ensures.3 in
-    let counted = counted_is (step c.args.self.now.table.shared.table_id.slots 2 1 0 none) c.exchange.new.seat.me _ c.fetch_add.result c.args.seat.now.me.0 c.args.held is c.fetch_add.ensures.2 in
-    let new = c.requires.call in
-    record {
-      table = c.fetch_add.ensures.0 ∙ (c.exchange.ensures.0 ∙ c.requires.own.table);
-      start = ap (λ m. m.0.start) (counted.left new.new_call new.calls) ∙ c.requires.own.start;
-    }
 
 pub returns-clause-call : goal.returns-clause-call
 returns-clause-call g c =
-    let is = put_in c.args.seat.now.me c.exchange.new.seat.me c.args.held c.requires.slot c.exchange.ensures.3 in
-    counted_is (step c.args.self.now.table.shared.table_id.slots 2 1 0 none) c.exchange.new.seat.me _ c.fetch_add.result c.args.seat.now.me.0 c.args.held is c.fetch_add.ensures.2
+    let counting = step c.args.self.now.table.shared.table_id.slots 2 1 0 none in
+    let seat = c.args.seat.now in
+    let is = put_in seat.me c.exchange.new.seat.me c.args.held c.requires.slot c.exchange.ensures.3 in
+    counted_is counting c.exchange.new.seat.me _ c.fetch_add.result seat.me.0 c.args.held is c.fetch_add.ensures.2
+
+pub returns-clause-own : goal.returns-clause-own
+returns-clause-own g c =
+    let new = c.requires.call in
+    record {
+      table = c.fetch_add.ensures.0 ∙ (c.exchange.ensures.0 ∙ c.requires.own.table);
+      start = ap (λ m. m.0.start) ((returns-clause-call g c).left new.new_call new.calls) ∙ c.requires.own.start;
+    }

@@ -5,4 +5,6 @@ use Rattle.shared_desk.proofs.shared.Desk.split.Goals as goal
 pub split_seat-requires : goal.split_seat-requires
 split_seat-requires g c =
     let seat = c.args.seat.now in
-    (search rules, search rules, splits_on g.B.Bench.steps c.args.self.now.table.shared.key.value seat.seat.id seat.seat.me.0 c.requires.first seat.live seat.no_turn c.requires.room)
+    let steps = g.B.Bench.steps in
+    let start = c.args.self.now.table.shared.key.value in
+    (search rules, search rules, splits_on steps start seat.seat.id seat.seat.me.0 c.requires.first seat.live seat.no_turn c.requires.room)

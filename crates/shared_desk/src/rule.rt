@@ -41,7 +41,7 @@ impl<B: Bench> TableRule<Option<HeldOf<B>>, ViewOf<B>, Snapshot<B::State>> for O
 }
 
 /// A ticket is drawn.
-pub struct DrawsTicket;
+pub(crate) struct DrawsTicket;
 
 impl<S, E, R> Play<Option<Held<S, E, R>>, View<S, E, R>> for DrawsTicket {
     ghost use Rattle.shared_desk.specs.Steps.{TicketIsDrawn};
@@ -50,7 +50,7 @@ impl<S, E, R> Play<Option<Held<S, E, R>>, View<S, E, R>> for DrawsTicket {
 }
 
 /// It is seen which ticket is served.
-pub struct LooksForTurn<B> {
+pub(crate) struct LooksForTurn<B> {
     bench: PhantomData<B>,
 }
 
@@ -61,7 +61,7 @@ impl<B: Bench> Play<Option<HeldOf<B>>, ViewOf<B>> for LooksForTurn<B> {
 }
 
 /// A call is counted, and the history has it.
-pub struct CountsCall;
+pub(crate) struct CountsCall;
 
 impl<S, E, R> Play<Option<Held<S, E, R>>, View<S, E, R>> for CountsCall {
     ghost use Rattle.shared_desk.specs.Steps.{CallIsCounted};
@@ -70,7 +70,7 @@ impl<S, E, R> Play<Option<Held<S, E, R>>, View<S, E, R>> for CountsCall {
 }
 
 /// The turn is ended.
-pub struct EndsTurn;
+pub(crate) struct EndsTurn;
 
 impl<S, E, R> Play<Option<Held<S, E, R>>, View<S, E, R>> for EndsTurn {
     ghost use Rattle.shared_desk.specs.Steps.{TurnIsEnded};
@@ -79,7 +79,7 @@ impl<S, E, R> Play<Option<Held<S, E, R>>, View<S, E, R>> for EndsTurn {
 }
 
 /// A seat is split off, or taken in.
-pub struct Sharing;
+pub(crate) struct Sharing;
 
 impl<S, E, R> Split<View<S, E, R>> for Sharing {
     ghost use Rattle.shared_desk.specs.Views.{with_split, new_view};

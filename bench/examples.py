@@ -1,6 +1,5 @@
 """Examples whose answers are known: those of docs/language.md, of docs/formats.md and of docs/today.md."""
 
-from auditing import evaluated
 from meaning import records
 from record_text import records_of
 
@@ -159,9 +158,9 @@ def report(text):
     return records.write("report", records_of("report", text.replace(" / ", "\n").encode())[0])
 
 
-def accepted(requests, groups, _, plain):
-    """The line; what it says as evaluated is told otherwise for now."""
-    return f"accepted: requests {requests}, groups {groups}, evaluated {evaluated(plain)}, plain {plain}"
+def accepted(requests, groups, evaluated, plain):
+    """The line of an audit that accepts."""
+    return f"accepted: requests {requests}, groups {groups}, evaluated {evaluated}, plain {plain}"
 
 
 def audits():

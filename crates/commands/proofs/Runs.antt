@@ -1,5 +1,5 @@
 -- From what became of an outcome to what the statuses of a run mean.
-use Rattle.std.proofs.Common.{◌≡◌, ◌∙◌, ℕ, ◌<◌, List, Option, Ok, Err, Result, arith, sym}
+use Rattle.std.proofs.Common.{◌≡◌, ◌∙◌, ℕ, ◌<◌, List, Option, Ok, Err, Result, sym}
 use Rattle.std.specs.Option.{ForSome}
 use Rattle.outside.specs.Shelves.{ShelfTold, UsesShelf}
 use Rattle.outside.specs.Sinks.{SinkTold}
@@ -22,6 +22,7 @@ use Rattle.commands.proofs.Audits.{has_reason, has_schedule}
 use Rattle.commands.proofs.Recordings.{has_recording}
 use Rattle.commands.proofs.Verdicts.{explained, is_program_file, unexplained}
 
+-- what was answered, where the reads came to this outcome
 abbrev came_of : Outcome → Result Outcome Halt
 came_of outcome = Ok outcome
 
@@ -37,6 +38,7 @@ answered {read = read} {outcome = outcome} is may used done below = record {
   done = done below;
 }
 
+-- what its status means
 module _ {words : List (List ℕ)} {reading : Option ℕ} {shelf shelf' : ShelfTold} {out out' : SinkTold} {status : ℕ}
     (run : IsAnswered words reading shelf shelf' out out' status) where
   pub valid : status ≡ 0 → AskCheck words → ForSome shelf.files (IsProgramFile words)

@@ -135,9 +135,9 @@ fn found_by<'w, F: Shelf, C: Clock, G: Gate + Sync>(
     gate: &G,
 ) -> Result<Outcome<'w>, InputError>
     ensures outcome { let outcome = IsOutcome words.now (C.reading clock.now) in
-        ForSome (F.told shelf.old).files (λ files. IfFound (λ found. found) (outcome files) result) }
+        ForSome (F.told shelf.old).files (λ files. IfFound (λ o. o) (outcome files) result) }
     ensures asked { let asked = asked_of words.now in
-        IfFound (λ found. found) (λ outcome. MayAnswer asked outcome.answer) result }
+        IfFound (λ o. o) (λ outcome. MayAnswer asked outcome.answer) result }
     ensures found { IfOk result (λ outcome. ¬ SaysAbsent outcome) }
     ensures used { UsesToRead (F.told shelf.old) (F.told shelf.new) result }
 {

@@ -40,6 +40,23 @@ CODED = {
     "unary": "unary_row.the_row.coded", "binary": "binary_row.the_row.coded",
     "comparison": "comparison_row.the_row.coded", "name": "coded_name", "names": "coded_names",
 }
+# what the comments say of each kind: as it is stored, several of it, how it is stored
+SAID = {
+    "Expression": ("an expression as it is stored: the number of its form, then its parts", "Expressions",
+        "an expression is"),
+    "Expressions": ("a list of expressions as it is stored", "Lists of expressions", "a list of expressions is"),
+    "Query": ("a statement of a transaction as it is stored", "Statements of a transaction",
+        "a statement of a transaction is"),
+    "Queries": ("the statements of a transaction as they are stored", "Lists of statements of a transaction",
+        "the statements of a transaction are"),
+    "Conditions": ("the tests of a where as they are stored", "Lists of tests", "the tests of a where are"),
+    "Assignments": ("the assignments of an update as they are stored", "Lists of assignments",
+        "the assignments of an update are"),
+    "Statement": ("a statement as it is stored: the number of its form, then its parts", "Statements",
+        "a statement is"),
+    "Else": ("an else as it is stored", "Elses", "an else is"),
+    "Statements": ("the statements of a block as they are stored", "Blocks", "the statements of a block are"),
+}
 HEAD = """-- How a proof stores a syntax tree. Written by tools/syntax_codes.py.
 use Rattle.std.specs.Prelude.{◌≡◌, ℕ, List, refl}
 use Rattle.std.proofs.Common.{ap, arith}
@@ -51,25 +68,31 @@ use Rattle.script_tree.specs.contracts.syntax.operator.BinaryOperator as binary_
 use Rattle.script_tree.specs.contracts.syntax.name.Name as name_row
 use Rattle.script_tree.specs.declared.syntax.name.Name.{Name}"""
 WORDS = """
+-- how a text is stored
 abbrev pub coded_bytes : Coded (List ℕ)
 coded_bytes = coded_list coded_ℕ
 
+-- how a name is stored
 abbrev pub coded_name : Coded Name
 coded_name = name_row.the_row.coded
 
+-- how a list of names is stored
 abbrev pub coded_names : Coded (List Name)
 coded_names = coded_list coded_name
 
+-- what is stored first
 abbrev head : Gv → Gv
 head gnil = gnil
 head (gnum n) = gnil
 head (gcons a b) = a
 
+-- what is stored behind the first
 abbrev tail : Gv → Gv
 tail gnil = gnil
 tail (gnum n) = gnil
 tail (gcons a b) = b
 
+-- the number that is stored first, which tells the forms apart
 abbrev tag : Gv → ℕ
 tag g = num (head g)
 """
@@ -124,14 +147,16 @@ def main():
         for block in (EXPRESSIONS, STATEMENTS):
             write("\nabbrev mutual")
             for i, (kind, name, constructors) in enumerate(block):
-                write(("\n" if i else "") + "  pub %s_code : %s → Gv" % (name, kind))
+                write(("\n" if i else "") + "  -- %s\n  pub %s_code : %s → Gv" % (SAID[kind][0], name, kind))
                 code_of(name, constructors, kind, low, write)
             write("\nmutual")
             for i, (kind, name, constructors) in enumerate(block):
-                write(("\n" if i else "") + "  pub %s_inj : (x y : %s) → %s_code x ≡ %s_code y → x ≡ y" % (name, kind, name, name))
+                write(("\n" if i else "") + "  -- %s that are stored alike are one." % SAID[kind][1])
+                write("  pub %s_inj : (x y : %s) → %s_code x ≡ %s_code y → x ≡ y" % (name, kind, name, name))
                 injection_of(name, constructors, low, write)
             for kind, name, _ in block:
-                write("\nabbrev pub coded_%s : Coded %s\ncoded_%s = record { code = %s_code; inj = %s_inj }" % (
+                write("\n-- how %s stored" % SAID[kind][2])
+                write("abbrev pub coded_%s : Coded %s\ncoded_%s = record { code = %s_code; inj = %s_inj }" % (
                     name, kind, name, name, name))
 
 

@@ -9,11 +9,11 @@ use Rattle.basis.proofs.Options.{some_is, none_is_not}
 use Rattle.basis.proofs.Places.{In}
 use Rattle.audit_meaning.specs.Lists.{befores}
 use Rattle.script_tree.specs.declared.request.Response.{Response}
-use Rattle.script_tree.specs.declared.trace.TraceEvent.{TraceEvent}
-use Rattle.script_tree.specs.declared.trace.TraceEvent.TheVariants.{Asked, Answered}
-use Rattle.script_tree.specs.declared.schedule.Moment.{Moment}
+use Rattle.period.specs.declared.trace.TraceEvent.{TraceEvent}
+use Rattle.period.specs.declared.trace.TraceEvent.TheVariants.{Asked, Answered}
+use Rattle.period.specs.declared.schedule.Moment.{Moment}
 use Rattle.script_tree.specs.Objects.{Objects}
-use Rattle.script_tree.specs.Traces.{request_of}
+use Rattle.period.specs.Traces.{request_of}
 use Rattle.audit_meaning.specs.Nodes.{moment}
 use Rattle.audit_meaning.specs.Orders.{order_of}
 use Rattle.audit_meaning.specs.Cycles.{cycle_of}
@@ -49,9 +49,11 @@ any_is_true p (y ∷ xs) (suc i) x e h = right (p y) (list_any p xs) (any_is_tru
     right true b e = refl
     right false b e = e
 
-module _ (P : Program) (O : Objects) (E : List Named) (run : IsRun P (hall O) E) (fitting : AsksFitting P) (short : HasShortRequests (trace_in E)) (one_shape : SameShape P) where
+module _ (P : Program) (O : Objects) (E : List Named) (run : IsRun P (hall O) E) (fitting : AsksFitting P)
+    (short : HasShortRequests (trace_in E)) (one_shape : SameShape P) where
   -- a group is that of a path
-  group_of : (i : ℕ) (g : List ℕ) → nth (report_in E).groups i ≡ Some g → (p : Path) × (nth (firsts same_path (filter_map path_in E)) i ≡ Some p) × (filter_map (member_in p) E ≡ g)
+  group_of : (i : ℕ) (g : List ℕ) → nth (report_in E).groups i ≡ Some g
+      → (p : Path) × (nth (firsts same_path (filter_map path_in E)) i ≡ Some p) × (filter_map (member_in p) E ≡ g)
   group_of i g h = nth_map (λ p. filter_map (member_in p) E) (firsts same_path (filter_map path_in E)) i g h
 
   went_of : (p : Path) (r i : ℕ) → nth (filter_map (member_in p) E) i ≡ Some r → (j : ℕ) × (x : Response) × (nth E j ≡ Some (went r x p))
@@ -151,7 +153,9 @@ module _ (P : Program) (O : Objects) (E : List Named) (run : IsRun P (hall O) E)
         map (moment (report_in E)) n.0,
         V,
         N,
-        ap (λ a. judged a C (order_of (trace_in E) (report_in E)) (or_else (grouping_fault (trace_in E) (report_in E)) (unsound_group P O (trace_in E) (report_in E))) (report_in E) V N) (no_log_fault P O E run fitting short)
+        ap (λ a. judged a C (order_of (trace_in E) (report_in E))
+            (or_else (grouping_fault (trace_in E) (report_in E)) (unsound_group P O (trace_in E) (report_in E)))
+            (report_in E) V N) (no_log_fault P O E run fitting short)
             ∙ ap (λ o. judged None C o (or_else (grouping_fault (trace_in E) (report_in E)) (unsound_group P O (trace_in E) (report_in E))) (report_in E) V N) n.1
             ∙ ap (λ l. judged None C (Some n.0) l (report_in E) V N) (none_or (grouping_fault (trace_in E) (report_in E)) _ none_grouping none_group),
       )

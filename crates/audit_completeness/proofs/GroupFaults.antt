@@ -14,10 +14,10 @@ use Rattle.basis.proofs.Places.{In, nth_take, first_some}
 use Rattle.audit_meaning.specs.Lists.{numbers}
 use Rattle.script_tree.specs.Requests.{Request}
 use Rattle.script_tree.specs.declared.request.Response.{Response}
-use Rattle.script_tree.specs.declared.trace.TraceEvent.{TraceEvent}
-use Rattle.script_tree.specs.declared.trace.TraceEvent.TheVariants.{Asked, Answered}
+use Rattle.period.specs.declared.trace.TraceEvent.{TraceEvent}
+use Rattle.period.specs.declared.trace.TraceEvent.TheVariants.{Asked, Answered}
 use Rattle.script_tree.specs.Objects.{Objects, is_same, acted}
-use Rattle.script_tree.specs.Traces.{request_of, response_of, response_in}
+use Rattle.period.specs.Traces.{request_of, response_of, response_in}
 use Rattle.script_meaning.specs.Replay.{ending_of}
 use Rattle.audit_meaning.specs.Spots.{spot_of, count_of}
 use Rattle.audit_meaning.specs.Members.{answer_at, told, is_entry_of, wants_as, is_good, good_from, performed, Sign, decision, operation, bad, ended, MemberMark, last_sign, sign_of, trail_of, page_number, signs, marks_of, fault_in, same_sign, same_mark, is_bad}

@@ -12,15 +12,15 @@ use Rattle.audit_meaning.specs.Lists.{befores, last, numbers}
 use Rattle.script_tree.specs.declared.operation.Choice.{Choice}
 use Rattle.script_tree.specs.declared.operation.Choice.TheVariants.{Nothing, Number}
 use Rattle.script_tree.specs.Requests.{Request, IsRequestWithinLimits}
-use Rattle.script_tree.specs.declared.trace.TraceEvent.{TraceEvent}
-use Rattle.script_tree.specs.declared.trace.TraceEvent.TheVariants.{Asked, Answered}
-use Rattle.report.specs.declared.LogEntry.{LogEntry}
-use Rattle.report.specs.declared.Count.{Count}
-use Rattle.report.specs.declared.Report.{Report}
+use Rattle.period.specs.declared.trace.TraceEvent.{TraceEvent}
+use Rattle.period.specs.declared.trace.TraceEvent.TheVariants.{Asked, Answered}
+use Rattle.period.specs.declared.report.LogEntry.{LogEntry}
+use Rattle.period.specs.declared.report.Count.{Count}
+use Rattle.period.specs.declared.report.Report.{Report}
 use Rattle.script_tree.specs.Objects.{Objects, Cell, is_same, plausible}
 use Rattle.audit_meaning.specs.Spots.{Spot, spots, spot_of, count_of}
-use Rattle.report.specs.LeftBy.{left_by}
-use Rattle.script_tree.specs.Traces.{request_of}
+use Rattle.period.specs.LeftBy.{left_by}
+use Rattle.period.specs.Traces.{request_of}
 use Rattle.audit_meaning.specs.declared.reason.Reason.TheVariants.{ForeignEntry, EntryOfNoRequest, UncountedEntry, SecondEntry, EntryOutOfOrder}
 use Rattle.audit_meaning.specs.LogFaults.{is_named, faulty_entry, is_of_no_request, is_foreign, is_uncounted, is_second, is_implausible, is_out_of_order, at_entry, entry_fault, second_log, second_count, count_of_no_request, request_without_count, operation_without_entry, if_without_count, if_without_entry, log_fault}
 use Rattle.script_fit.specs.OfProgram.{is_of_program, choice_is_of}
@@ -131,7 +131,8 @@ module _ (P : Program) (O : Objects) (E : List Named) (run : IsRun P (hall O) E)
           mine : member.operations_in r (record { rid = r; operations = total E r }) ≡ Some (total E r)
           mine = ap (λ b. cond b (Some (total E r)) None) (eq-eqb r r refl)
 
-          missing : (o : Option ℕ) → first_answer (member.operations_in r) R.counts ≡ o → In R.counts (record { rid = r; operations = total E r }) → is_none o ≡ false
+          missing : (o : Option ℕ) → first_answer (member.operations_in r) R.counts ≡ o
+              → In R.counts (record { rid = r; operations = total E r }) → is_none o ≡ false
           missing None e k = absurd (none_is_not (sym (first_none (member.operations_in r) R.counts k.0 _ e k.1) ∙ mine))
           missing (Some n) e k = refl
 
@@ -166,7 +167,8 @@ module _ (P : Program) (O : Objects) (E : List Named) (run : IsRun P (hall O) E)
   unfolding entry_fault is_of_no_request is_foreign is_uncounted is_second is_implausible is_out_of_order
   none_entry i b h =
       none_or (at_entry ForeignEntry s (is_foreign P s)) _ (none_answer (is_foreign P s) _ foreign)
-      (none_or (at_entry EntryOfNoRequest s (is_of_no_request T s)) _ (none_answer (is_of_no_request T s) _ (there_not_none (request_of T s.entry.rid) w.request in_trace))
+      (none_or (at_entry EntryOfNoRequest s (is_of_no_request T s)) _
+      (none_answer (is_of_no_request T s) _ (there_not_none (request_of T s.entry.rid) w.request in_trace))
       (none_or (at_entry UncountedEntry s (is_uncounted R s.entry)) _ (none_answer (is_uncounted R s.entry) _ inside)
       (none_or (at_entry SecondEntry s (is_second b.0 s.entry)) _ (none_answer (is_second b.0 s.entry) _ alone)
       (none_or (at_entry EntryOutOfOrder s (is_out_of_order (last s.past) s.entry)) _ (none_answer (is_out_of_order (last s.past) s.entry) _ rises)
@@ -201,7 +203,9 @@ module _ (P : Program) (O : Objects) (E : List Named) (run : IsRun P (hall O) E)
       foreign : not (is_of_program P s.object s.entry.act && choice_is_of s.entry.act s.entry.choice) ≡ false
       foreign =
           let act : is_of_program P s.object s.entry.act ≡ true =
-          subst (λ e. is_of_program P s.object e.act ≡ true) f.entry (subst (λ x. is_of_program P x f.op.act ≡ true) (sym f.object) (fitting at.2.0.0 at.2.0.1 f.op (short_visit f.place at.0 f.r at.2.0 at.1 at.2.1) at.2.3)) in
+          subst (λ e. is_of_program P s.object e.act ≡ true) f.entry
+          (subst (λ x. is_of_program P x f.op.act ≡ true) (sym f.object)
+          (fitting at.2.0.0 at.2.0.1 f.op (short_visit f.place at.0 f.r at.2.0 at.1 at.2.1) at.2.3)) in
           not_true _ (and_from _ _ act (choice_is_fit s.entry.act s.entry.choice (left_by s.past (O s.object)) fits))
 
       in_trace : request_of T s.entry.rid ≡ Some w.request
@@ -212,7 +216,8 @@ module _ (P : Program) (O : Objects) (E : List Named) (run : IsRun P (hall O) E)
           let range = did_range P O E run f.place f.r f.k f.op f.c f.here in
           let count = count_is P O E run f.r w.comes.0 w.request w.comes.1 in
           subst (λ e. (nat_eq e.number 0 || nat_lt (count_of R e.rid) e.number) ≡ false) f.entry
-          (either_false (nat_eq f.k 0) (nat_lt (count_of R f.r) f.k) (ne_eqb f.k 0 (λ e. omega (arith, range.0))) (le-ltb (count_of R f.r) f.k (omega (arith, range.1, count))))
+          (either_false (nat_eq f.k 0) (nat_lt (count_of R f.r) f.k) (ne_eqb f.k 0 (λ e. omega (arith, range.0)))
+          (le-ltb (count_of R f.r) f.k (omega (arith, range.1, count))))
 
       alone : list_any (is_named s.entry.rid s.entry.number) b.0 ≡ false
       alone = false_any (is_named s.entry.rid s.entry.number) b.0 (λ k t at_k.
@@ -246,5 +251,7 @@ module _ (P : Program) (O : Objects) (E : List Named) (run : IsRun P (hall O) E)
   pub no_log_fault : log_fault P O T R ≡ None
   unfolding log_fault faulty_entry
   no_log_fault =
-      none_or (second_log R) _ none_2 (none_or (second_count R) _ none_3 (none_or (count_of_no_request T R) _ none_4 (none_or (request_without_count T R) _ none_5
-      (none_or (first_answer (entry_fault P O T R) (befores (spots R.logs))) _ (none_first (entry_fault P O T R) (befores (spots R.logs)) none_entry) none_10))))
+      none_or (second_log R) _ none_2 (none_or (second_count R) _ none_3
+      (none_or (count_of_no_request T R) _ none_4 (none_or (request_without_count T R) _ none_5
+      (none_or (first_answer (entry_fault P O T R) (befores (spots R.logs))) _
+      (none_first (entry_fault P O T R) (befores (spots R.logs)) none_entry) none_10))))

@@ -109,12 +109,14 @@ module _ (P : Program) (O : Objects) (E : List Named) (run : IsRun P (hall O) E)
           (range.0, omega (arith, range.1))
 
       -- what was seen of a request that is open with n answers has a rank below n + 1
-      below : (g : Named) (r n : ℕ) → In (take j E) g → id_of g ≡ r → filter_map (did_in r) (take j E) ≡ numbers 1 n → ((x : Response) (p : Path) → In (take j E) (went r x p) → ⊥) → rank E g < suc n
+      below : (g : Named) (r n : ℕ) → In (take j E) g → id_of g ≡ r → filter_map (did_in r) (take j E) ≡ numbers 1 n
+          → ((x : Response) (p : Path) → In (take j E) (went r x p) → ⊥) → rank E g < suc n
       below (came a q) r n m is dids stays = omega arith
       below (did a k op c) r n m is dids stays = let h = done_before a k n op c m (subst (λ x. filter_map (did_in x) (take j E) ≡ numbers 1 n) (sym is) dids) in omega (arith, h.1)
       below (went a x p) r n m is dids stays = absurd (stays x p (subst (λ y. In (take j E) (went y x p)) is m))
 
-      by : (g : Named) → nth E j ≡ Some g → id_of e ≡ id_of g → (z : Hall) → Takes P z g → Standing (take j E) z.arrived (id_of g) (z.visits (id_of g)) → rank E e < rank E g
+      by : (g : Named) → nth E j ≡ Some g → id_of e ≡ id_of g → (z : Hall) → Takes P z g
+          → Standing (take j E) z.arrived (id_of g) (z.visits (id_of g)) → rank E e < rank E g
       by g at_g is z takes (absent none low never dids) = absurd (never e seen is)
       by (came r q) at_g is z takes (present p ans some low m dids stays) = absurd (omega (arith, takes, low))
       by (came r q) at_g is z takes (gone n p x y none low m dids left) = absurd (omega (arith, takes, low))

@@ -7,8 +7,8 @@ use Rattle.script_tree.specs.declared.operation.Op.{Op}
 use Rattle.script_tree.specs.declared.path.Path.{Path}
 use Rattle.script_tree.specs.declared.operation.Choice.{Choice}
 use Rattle.script_tree.specs.Requests.{Request, IsRequestWithinLimits}
-use Rattle.script_tree.specs.declared.trace.TraceEvent.{TraceEvent}
-use Rattle.script_tree.specs.declared.trace.TraceEvent.TheVariants.{Asked, Answered}
+use Rattle.period.specs.declared.trace.TraceEvent.{TraceEvent}
+use Rattle.period.specs.declared.trace.TraceEvent.TheVariants.{Asked, Answered}
 use Rattle.basis.specs.Lists.{nth}
 use Rattle.basis.proofs.Options.{some_is, none_is_not}
 use Rattle.history.specs.TraceOf.{trace_in}
@@ -36,13 +36,15 @@ record Like (room : Room) (z : Hall) : Type 0 where
   seated_all : (r : ℕ) (x : by.Visit) → z.visits r ≡ Some x → (s : ℕ) × (v : Visit) × (room.open_at s ≡ Some v) × (v.rid ≡ r)
 
 -- what a seat holds after one seat changed
-after_seat : (s x : ℕ) (w : Option Visit) (f : ℕ → Option Visit) (v : Visit) → seated s w f x ≡ Some v → ((s ≡ x) × (w ≡ Some v)) ⊎ ((s ≡ x → ⊥) × (f x ≡ Some v))
+after_seat : (s x : ℕ) (w : Option Visit) (f : ℕ → Option Visit) (v : Visit) → seated s w f x ≡ Some v
+    → ((s ≡ x) × (w ≡ Some v)) ⊎ ((s ≡ x → ⊥) × (f x ≡ Some v))
 after_seat s x w f v e = elim (cases_eq s x) [
   | inl p ↦ inl (p, sym (subst (λ y. seated s w f y ≡ w) p (here_seated s w f)) ∙ e)
   | inr n ↦ inr (n, sym (there_seated s x w f n) ∙ e)
 ]
 
-after_visit : (r x : ℕ) (w : Option by.Visit) (f : ℕ → Option by.Visit) (v : by.Visit) → visited r w f x ≡ Some v → ((r ≡ x) × (w ≡ Some v)) ⊎ ((r ≡ x → ⊥) × (f x ≡ Some v))
+after_visit : (r x : ℕ) (w : Option by.Visit) (f : ℕ → Option by.Visit) (v : by.Visit) → visited r w f x ≡ Some v
+    → ((r ≡ x) × (w ≡ Some v)) ⊎ ((r ≡ x → ⊥) × (f x ≡ Some v))
 after_visit r x w f v e = elim (cases_eq r x) [
   | inl p ↦ inl (p, sym (subst (λ y. visited r w f y ≡ w) p (visited-here r w f)) ∙ e)
   | inr n ↦ inr (n, sym (visited-there r x w f n) ∙ e)
@@ -56,7 +58,8 @@ visited_at r x w f p = subst (λ y. visited r w f y ≡ w) p (visited-here r w f
 abbrev arrived_room : Room → ℕ → Request → Room
 arrived_room room s q = record room { arrived = suc room.arrived; open_at = seated s (Some (visit_of room.arrived q [])) room.open_at }
 
-like_arrives : (room : Room) (z : Hall) (s : ℕ) (q : Request) → Like room z → room.open_at s ≡ None → Like (arrived_room room s q) (next_hall z (came room.arrived q))
+like_arrives : (room : Room) (z : Hall) (s : ℕ) (q : Request) → Like room z → room.open_at s ≡ None
+    → Like (arrived_room room s q) (next_hall z (came room.arrived q))
 like_arrives room z s q like free = record {
   objects = like.objects;
   arrived = ap suc like.arrived;
@@ -91,7 +94,8 @@ like_arrives room z s q like free = record {
 
 -- ---- an operation
 
-like_performs : (room : Room) (z : Hall) (s k : ℕ) (op : Op) (c : Choice) (u : Visit) → Like room z → room.open_at s ≡ Some u → Like (onward room (Acts s u.rid k op c)) (next_hall z (did u.rid k op c))
+like_performs : (room : Room) (z : Hall) (s k : ℕ) (op : Op) (c : Choice) (u : Visit) → Like room z
+    → room.open_at s ≡ Some u → Like (onward room (Acts s u.rid k op c)) (next_hall z (did u.rid k op c))
 like_performs room z s k op c u like here = record {
   objects = ap (λ (f : Objects). holding op.object (acted op.act c (f op.object)).0 f) like.objects;
   arrived = like.arrived;
@@ -114,10 +118,20 @@ like_performs room z s k op c u like here = record {
     | inr h ↦ like.low x v h.1
   ];
   seated_all = λ r x e. elim (after_visit u.rid r (longer (z.visits u.rid) reply) z.visits x e) [
-    | inl h ↦ (s, record u { answers = u.answers ++ answer ∷ [] }, here_seated s (and_answer (room.open_at s) answer) room.open_at ∙ ap (λ w. and_answer w answer) here, h.0)
+    | inl h ↦ (
+      s,
+      record u { answers = u.answers ++ answer ∷ [] },
+      here_seated s (and_answer (room.open_at s) answer) room.open_at ∙ ap (λ w. and_answer w answer) here,
+      h.0,
+    )
     | inr h ↦
-        let old = like.seated_all r x h.1 in
-        (old.0, old.1, there_seated s old.0 (and_answer (room.open_at s) answer) room.open_at (λ p. h.0 (ap (λ w. rid_at w) (sym here ∙ ap room.open_at p ∙ old.2) ∙ old.3)) ∙ old.2, old.3)
+        let old = like.seated_all r x h.1 in (
+          old.0,
+          old.1,
+          there_seated s old.0 (and_answer (room.open_at s) answer) room.open_at
+              (λ p. h.0 (ap (λ w. rid_at w) (sym here ∙ ap room.open_at p ∙ old.2) ∙ old.3)) ∙ old.2,
+          old.3,
+        )
   ];
 }
   where
@@ -131,11 +145,13 @@ like_performs room z s k op c u like here = record {
     is v e = some_is (sym (ap (λ w. and_answer w answer) here) ∙ e)
 
     longer_is : longer (z.visits u.rid) reply ≡ Some (u.request, u.answers ++ answer ∷ [])
-    longer_is = ap (λ w. longer w reply) (like.seats s u here) ∙ ap (λ (f : Objects). Some (u.request, u.answers ++ (acted op.act c (f op.object)).1 ∷ [])) like.objects
+    longer_is = ap (λ w. longer w reply) (like.seats s u here)
+        ∙ ap (λ (f : Objects). Some (u.request, u.answers ++ (acted op.act c (f op.object)).1 ∷ [])) like.objects
 
 -- ---- a departure
 
-like_departs : (room : Room) (z : Hall) (s : ℕ) (x : Response) (p : Path) (u : Visit) → Like room z → room.open_at s ≡ Some u → Like (onward room (Depart s u.rid x p)) (next_hall z (went u.rid x p))
+like_departs : (room : Room) (z : Hall) (s : ℕ) (x : Response) (p : Path) (u : Visit) → Like room z
+    → room.open_at s ≡ Some u → Like (onward room (Depart s u.rid x p)) (next_hall z (went u.rid x p))
 like_departs room z s x p u like here = record {
   objects = like.objects;
   arrived = like.arrived;
@@ -156,22 +172,27 @@ like_departs room z s x p u like here = record {
   ];
 }
 
-run_from : (P : Program) (H : List Happening) (room : Room) (z : Hall) → Like room z → AreSteps P room H → ((s : ℕ) → (room_after room H).open_at s ≡ None) → IsRun P z (names H)
+run_from : (P : Program) (H : List Happening) (room : Room) (z : Hall) → Like room z → AreSteps P room H
+    → ((s : ℕ) → (room_after room H).open_at s ≡ None) → IsRun P z (names H)
 run_from P [] room z like legal closed = λ r. by_visit r (z.visits r) refl
   where
     by_visit : (r : ℕ) (v : Option by.Visit) → z.visits r ≡ v → v ≡ None
     by_visit r None e = refl
     by_visit r (Some v) e = let s = like.seated_all r v e in absurd (none_is_not (sym (closed s.0) ∙ s.2))
 run_from P (Arrive s r q ∷ H) room z like ((may, named), legal) closed =
-    subst (λ d. Takes P z d × IsRun P (next_hall z d) (names H)) (ap (λ i. came i q.value) (sym named))
-    (sym like.arrived, run_from P H (onward room (Arrive s r q)) (next_hall z (came room.arrived q.value)) (like_arrives room z s q.value like may.0) legal closed)
+    subst (λ d. Takes P z d × IsRun P (next_hall z d) (names H)) (ap (λ i. came i q.value) (sym named)) (
+      sym like.arrived,
+      run_from P H (onward room (Arrive s r q)) (next_hall z (came room.arrived q.value))
+          (like_arrives room z s q.value like may.0) legal closed,
+    )
 run_from P (Acts s r n op c ∷ H) room z like (((step, choice), (id, number)), legal) closed =
     let u = step.0 in
     let id_is : u.rid ≡ r = ap rid_at (sym step.1) ∙ sym id in
     let number_is : suc (length u.answers) ≡ n = ap number_at (sym step.1) ∙ sym number in
     subst (λ d. Takes P z d × IsRun P (next_hall z d) (names H)) (λ i. did (id_is i) (number_is i) op c) (
       (of_visit u, like.seats s u step.1, refl, step.2, subst (λ (f : Objects). plausible op.act c (f op.object) ≡ true) (sym like.objects) choice),
-      run_from P H (onward room (Acts s r n op c)) (next_hall z (did u.rid (suc (length u.answers)) op c)) (like_performs room z s (suc (length u.answers)) op c u like step.1) legal closed,
+      run_from P H (onward room (Acts s r n op c)) (next_hall z (did u.rid (suc (length u.answers)) op c))
+          (like_performs room z s (suc (length u.answers)) op c u like step.1) legal closed,
     )
 run_from P (Depart s r x p ∷ H) room z like ((step, id), legal) closed =
     let u = step.0 in

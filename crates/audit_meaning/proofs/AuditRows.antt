@@ -7,7 +7,7 @@ use Rattle.script_tree.specs.Objects.{Objects, rows, is_same, acted, plausible, 
 use Rattle.script_tree.specs.Programs.{Program, program_of}
 use Rattle.script_tree.specs.Requests.{Request}
 use Rattle.script_tree.specs.Syntax.{echo, do_, call, no_expression}
-use Rattle.script_tree.specs.Traces.{request_of, response_of}
+use Rattle.period.specs.Traces.{request_of, response_of}
 use Rattle.script_tree.specs.declared.operation.Act.{Act as Deed}
 use Rattle.script_tree.specs.declared.operation.Act.TheVariants.{Read, Write, Get, Put, Remove, Transact, Now, Roll}
 use Rattle.script_tree.specs.declared.operation.Choice.TheVariants.{Nothing, Number}
@@ -16,13 +16,13 @@ use Rattle.script_tree.specs.declared.operation.Object.TheVariants.{Register, St
 use Rattle.script_tree.specs.declared.request.Response.{Response}
 use Rattle.script_tree.specs.declared.transaction.Statement.{Statement}
 use Rattle.script_tree.specs.declared.transaction.Statement.TheVariants.{Insert, Select, Update, Delete}
-use Rattle.script_tree.specs.declared.schedule.Moment.TheVariants.{Arrive, Act, Depart}
-use Rattle.script_tree.specs.declared.trace.TraceEvent.{TraceEvent}
-use Rattle.script_tree.specs.declared.trace.TraceEvent.TheVariants.{Asked, Answered}
-use Rattle.report.specs.declared.Count.{Count}
-use Rattle.report.specs.declared.Log.{Log}
-use Rattle.report.specs.declared.LogEntry.{LogEntry}
-use Rattle.report.specs.declared.Report.{Report}
+use Rattle.period.specs.declared.schedule.Moment.TheVariants.{Arrive, Act, Depart}
+use Rattle.period.specs.declared.trace.TraceEvent.{TraceEvent}
+use Rattle.period.specs.declared.trace.TraceEvent.TheVariants.{Asked, Answered}
+use Rattle.period.specs.declared.report.Count.{Count}
+use Rattle.period.specs.declared.report.Log.{Log}
+use Rattle.period.specs.declared.report.LogEntry.{LogEntry}
+use Rattle.period.specs.declared.report.Report.{Report}
 use Rattle.script_meaning.specs.Replay.{ending_of}
 use Rattle.script_meaning.proofs.Programs.{sum_page, hit_page, two_calls_page, table_page, store_page, dice_page, page, get, call1, call2, str, num}
 use Rattle.audit_meaning.specs.Cycles.{cycle_of}
@@ -134,11 +134,13 @@ another_is_written = refl
 
 -- ---- a sum, without any operation
 
-in_no_group : verdict sum_page nothing_stored (Asked 0 (get (codes "/e")) ∷ Answered 0 (says (codes "3")) ∷ []) (report (counts 0 0 ∷ []) [] []) ≡ Rejected (RequestWithoutGroup 0)
+in_no_group : verdict sum_page nothing_stored (Asked 0 (get (codes "/e")) ∷ Answered 0 (says (codes "3")) ∷ [])
+    (report (counts 0 0 ∷ []) [] []) ≡ Rejected (RequestWithoutGroup 0)
 unfolding all
 in_no_group = refl
 
-another_answer : verdict sum_page nothing_stored (Asked 0 (get (codes "/e")) ∷ Answered 0 (says (codes "4")) ∷ []) (report (counts 0 0 ∷ []) [] ((0 ∷ []) ∷ [])) ≡ Rejected (OtherResponse 0)
+another_answer : verdict sum_page nothing_stored (Asked 0 (get (codes "/e")) ∷ Answered 0 (says (codes "4")) ∷ [])
+    (report (counts 0 0 ∷ []) [] ((0 ∷ []) ∷ [])) ≡ Rejected (OtherResponse 0)
 unfolding all
 another_answer = refl
 
@@ -150,14 +152,17 @@ read_page = program_of (page (codes "/r") (echo 0 (call1 (codes "read") (str (co
 abbrev read_it : ℕ → List ℕ → List TraceEvent
 read_it r body = Asked r (get (codes "/r")) ∷ Answered r (says body) ∷ []
 
-twice_logged : verdict read_page nothing_stored (read_it 0 (codes "null")) (report (counts 0 1 ∷ []) (register (codes "a") (reads 0 1 ∷ []) ∷ register (codes "b") (reads 0 1 ∷ []) ∷ []) ((0 ∷ []) ∷ []))
+twice_logged : verdict read_page nothing_stored (read_it 0 (codes "null"))
+    (report (counts 0 1 ∷ []) (register (codes "a") (reads 0 1 ∷ []) ∷ register (codes "b") (reads 0 1 ∷ []) ∷ [])
+    ((0 ∷ []) ∷ []))
     ≡ Rejected (SecondEntry (Register (codes "b")) 0)
 unfolding all
 twice_logged = refl
 
 -- three requests, one after the other; the walk goes by the nearest departure alone
 longer_cycle : verdict read_page nothing_stored
-    (Asked 0 (get (codes "/r")) ∷ Answered 0 (says (codes "null")) ∷ Asked 1 (get (codes "/r")) ∷ Answered 1 (says (codes "null")) ∷ Asked 2 (get (codes "/r")) ∷ Answered 2 (says (codes "null")) ∷ [])
+    (Asked 0 (get (codes "/r")) ∷ Answered 0 (says (codes "null")) ∷ Asked 1 (get (codes "/r")) ∷ Answered 1
+    (says (codes "null")) ∷ Asked 2 (get (codes "/r")) ∷ Answered 2 (says (codes "null")) ∷ [])
     (report (counts 0 1 ∷ counts 1 1 ∷ counts 2 1 ∷ []) (register (codes "a") (reads 2 1 ∷ reads 0 1 ∷ reads 1 1 ∷ []) ∷ []) ((0 ∷ 1 ∷ 2 ∷ []) ∷ []))
     ≡ Rejected (Cycle (step 0 1 ∷ step 1 1 ∷ close 1 ∷ step 2 0 ∷ step 2 1 ∷ []))
 unfolding all
@@ -171,7 +176,9 @@ crossed_page = program_of (
     ∷ page (codes "/g") (do_ 0 (call2 (codes "write") (str (codes "B")) (num 1)) ∷ echo 0 (call1 (codes "read") (str (codes "A"))) ∷ [])
     ∷ [])
 
-crossed : verdict crossed_page nothing_stored (Asked 0 (get (codes "/f")) ∷ Asked 1 (get (codes "/g")) ∷ Answered 0 (says (codes "0")) ∷ Answered 1 (says (codes "0")) ∷ [])
+crossed : verdict crossed_page nothing_stored
+    (Asked 0 (get (codes "/f")) ∷ Asked 1 (get (codes "/g")) ∷ Answered 0 (says (codes "0")) ∷ Answered 1
+    (says (codes "0")) ∷ [])
     (report two_counts (register (codes "A") (reads 1 2 ∷ writes 0 1 1 ∷ []) ∷ register (codes "B") (reads 0 2 ∷ writes 1 1 1 ∷ []) ∷ []) ((0 ∷ []) ∷ (1 ∷ []) ∷ []))
     ≡ Rejected (Cycle (step 0 1 ∷ step 0 2 ∷ step 1 1 ∷ step 1 2 ∷ []))
 unfolding all
@@ -188,12 +195,16 @@ clock_reads r n = record { rid = r; number = 1; act = Now; choice = Number (pos 
 abbrev two_clocks : ℕ → ℕ → Report
 two_clocks m n = report (counts 0 1 ∷ counts 1 1 ∷ []) (log Clock (clock_reads 0 m ∷ clock_reads 1 n ∷ []) ∷ []) ((0 ∷ 1 ∷ []) ∷ [])
 
-clock_goes_back : verdict clock_page nothing_stored (Asked 0 (get (codes "/t")) ∷ Asked 1 (get (codes "/t")) ∷ Answered 0 (says (codes "5")) ∷ Answered 1 (says (codes "4")) ∷ []) (two_clocks 5 4)
+clock_goes_back : verdict clock_page nothing_stored
+    (Asked 0 (get (codes "/t")) ∷ Asked 1 (get (codes "/t")) ∷ Answered 0 (says (codes "5")) ∷ Answered 1
+    (says (codes "4")) ∷ []) (two_clocks 5 4)
     ≡ Rejected (ImplausibleEntry Clock 1)
 unfolding all
 clock_goes_back = refl
 
-clock_stands : verdict clock_page nothing_stored (Asked 0 (get (codes "/t")) ∷ Asked 1 (get (codes "/t")) ∷ Answered 0 (says (codes "5")) ∷ Answered 1 (says (codes "5")) ∷ []) (two_clocks 5 5)
+clock_stands : verdict clock_page nothing_stored
+    (Asked 0 (get (codes "/t")) ∷ Asked 1 (get (codes "/t")) ∷ Answered 0 (says (codes "5")) ∷ Answered 1
+    (says (codes "5")) ∷ []) (two_clocks 5 5)
     ≡ Accepted (Arrive 0 ∷ Act 0 (Number (pos 5)) ∷ Depart 0 ∷ Arrive 1 ∷ Act 1 (Number (pos 5)) ∷ Depart 1 ∷ []) 3 4
 unfolding all
 clock_stands = refl
@@ -284,7 +295,9 @@ abbrev sums : List TraceEvent
 sums = Asked 0 (get (codes "/e")) ∷ Asked 1 (get (codes "/e")) ∷ Asked 2 (get (codes "/e"))
     ∷ Answered 0 (says (codes "3")) ∷ Answered 1 (says (codes "4")) ∷ Answered 2 (says (codes "4")) ∷ []
 
-least_group : verdict sum_page nothing_stored sums (report (counts 0 0 ∷ counts 1 0 ∷ counts 2 0 ∷ []) [] ((0 ∷ []) ∷ (2 ∷ []) ∷ (1 ∷ []) ∷ [])) ≡ Rejected (OtherResponse 2)
+least_group : verdict sum_page nothing_stored sums
+    (report (counts 0 0 ∷ counts 1 0 ∷ counts 2 0 ∷ []) [] ((0 ∷ []) ∷ (2 ∷ []) ∷ (1 ∷ []) ∷ []))
+    ≡ Rejected (OtherResponse 2)
 unfolding all
 least_group = refl
 
@@ -304,22 +317,27 @@ not_counted = refl
 
 -- ---- logs and groups
 
-two_logs : verdict read_page nothing_stored (read_it 0 (codes "null")) (report (counts 0 1 ∷ []) (register (codes "a") (reads 0 1 ∷ []) ∷ register (codes "a") [] ∷ []) ((0 ∷ []) ∷ []))
+two_logs : verdict read_page nothing_stored (read_it 0 (codes "null"))
+    (report (counts 0 1 ∷ []) (register (codes "a") (reads 0 1 ∷ []) ∷ register (codes "a") [] ∷ []) ((0 ∷ []) ∷ []))
     ≡ Rejected (SecondLog (Register (codes "a")))
 unfolding all
 two_logs = refl
 
-of_nobody : verdict read_page nothing_stored (read_it 0 (codes "null")) (report (counts 0 1 ∷ []) (register (codes "a") (reads 0 1 ∷ reads 5 1 ∷ []) ∷ []) ((0 ∷ []) ∷ []))
+of_nobody : verdict read_page nothing_stored (read_it 0 (codes "null"))
+    (report (counts 0 1 ∷ []) (register (codes "a") (reads 0 1 ∷ reads 5 1 ∷ []) ∷ []) ((0 ∷ []) ∷ []))
     ≡ Rejected (EntryOfNoRequest (Register (codes "a")) 1)
 unfolding all
 of_nobody = refl
 
-backwards : verdict hit_page nothing_stored (hit_answered (codes "1")) (report (counts 0 2 ∷ []) (register (codes "hits") (writes 0 2 1 ∷ reads 0 1 ∷ []) ∷ []) ((0 ∷ []) ∷ []))
+backwards : verdict hit_page nothing_stored (hit_answered (codes "1"))
+    (report (counts 0 2 ∷ []) (register (codes "hits") (writes 0 2 1 ∷ reads 0 1 ∷ []) ∷ []) ((0 ∷ []) ∷ []))
     ≡ Rejected (EntryOutOfOrder (Register (codes "hits")) 1)
 unfolding all
 backwards = refl
 
-never_issued : verdict hit_page nothing_stored (hit_answered (codes "1")) (report (counts 0 3 ∷ []) (register (codes "hits") (reads 0 1 ∷ writes 0 2 1 ∷ writes 0 3 9 ∷ []) ∷ []) ((0 ∷ []) ∷ []))
+never_issued : verdict hit_page nothing_stored (hit_answered (codes "1"))
+    (report (counts 0 3 ∷ []) (register (codes "hits") (reads 0 1 ∷ writes 0 2 1 ∷ writes 0 3 9 ∷ []) ∷ [])
+    ((0 ∷ []) ∷ []))
     ≡ Rejected (FewerOperations 0 3)
 unfolding all
 never_issued = refl
@@ -342,19 +360,26 @@ unfolding all
 two_hits_cost = refl
 
 -- 17 steps that both share, and 2 operations of each
-hits_at_once_cost : cost_of_all hit_page nothing_stored (Asked 0 hit ∷ Asked 1 hit ∷ Answered 0 (says (codes "1")) ∷ Answered 1 (says (codes "1")) ∷ []) at_once ((0 ∷ 1 ∷ []) ∷ []) ≡ 21
+hits_at_once_cost : cost_of_all hit_page nothing_stored
+    (Asked 0 hit ∷ Asked 1 hit ∷ Answered 0 (says (codes "1")) ∷ Answered 1 (says (codes "1")) ∷ []) at_once
+    ((0 ∷ 1 ∷ []) ∷ []) ≡ 21
 unfolding all
 hits_at_once_cost = refl
 
-clock_stands_cost : cost_of_all clock_page nothing_stored (Asked 0 (get (codes "/t")) ∷ Asked 1 (get (codes "/t")) ∷ Answered 0 (says (codes "5")) ∷ Answered 1 (says (codes "5")) ∷ []) (two_clocks 5 5) ((0 ∷ 1 ∷ []) ∷ []) ≡ 3
+clock_stands_cost : cost_of_all clock_page nothing_stored
+    (Asked 0 (get (codes "/t")) ∷ Asked 1 (get (codes "/t")) ∷ Answered 0 (says (codes "5")) ∷ Answered 1
+    (says (codes "5")) ∷ []) (two_clocks 5 5) ((0 ∷ 1 ∷ []) ∷ []) ≡ 3
 unfolding all
 clock_stands_cost = refl
 
 -- two values that differ are printed by a step of each
-clock_goes_on_cost : cost_of_all clock_page nothing_stored (Asked 0 (get (codes "/t")) ∷ Asked 1 (get (codes "/t")) ∷ Answered 0 (says (codes "5")) ∷ Answered 1 (says (codes "6")) ∷ []) (two_clocks 5 6) ((0 ∷ 1 ∷ []) ∷ []) ≡ 4
+clock_goes_on_cost : cost_of_all clock_page nothing_stored
+    (Asked 0 (get (codes "/t")) ∷ Asked 1 (get (codes "/t")) ∷ Answered 0 (says (codes "5")) ∷ Answered 1
+    (says (codes "6")) ∷ []) (two_clocks 5 6) ((0 ∷ 1 ∷ []) ∷ []) ≡ 4
 unfolding all
 clock_goes_on_cost = refl
 
-in_two_groups_cost : cost_of_all two_calls_page nothing_stored calls (report (counts 0 0 ∷ counts 1 0 ∷ []) [] ((0 ∷ []) ∷ (1 ∷ []) ∷ [])) ((0 ∷ []) ∷ (1 ∷ []) ∷ []) ≡ 23
+in_two_groups_cost : cost_of_all two_calls_page nothing_stored calls
+    (report (counts 0 0 ∷ counts 1 0 ∷ []) [] ((0 ∷ []) ∷ (1 ∷ []) ∷ [])) ((0 ∷ []) ∷ (1 ∷ []) ∷ []) ≡ 23
 unfolding all
 in_two_groups_cost = refl

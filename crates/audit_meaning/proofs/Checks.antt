@@ -7,14 +7,14 @@ use Rattle.basis.specs.Lists.{nth, first_answer}
 use Rattle.basis.proofs.Places.{any_false, nth_take}
 use Rattle.audit_meaning.specs.Lists.{answer_if, befores, last}
 use Rattle.script_tree.specs.Requests.{Request}
-use Rattle.script_tree.specs.declared.trace.TraceEvent.{TraceEvent}
-use Rattle.report.specs.declared.LogEntry.{LogEntry}
-use Rattle.report.specs.declared.Log.{Log}
-use Rattle.report.specs.declared.Report.{Report}
+use Rattle.period.specs.declared.trace.TraceEvent.{TraceEvent}
+use Rattle.period.specs.declared.report.LogEntry.{LogEntry}
+use Rattle.period.specs.declared.report.Log.{Log}
+use Rattle.period.specs.declared.report.Report.{Report}
 use Rattle.script_tree.specs.Objects.{Objects, is_same, plausible}
 use Rattle.audit_meaning.specs.Spots.{Spot, spots, count_of}
-use Rattle.report.specs.LeftBy.{left_by}
-use Rattle.script_tree.specs.Traces.{request_of}
+use Rattle.period.specs.LeftBy.{left_by}
+use Rattle.period.specs.Traces.{request_of}
 use Rattle.audit_meaning.specs.declared.reason.Reason.TheVariants.{SecondLog, ForeignEntry, EntryOfNoRequest, UncountedEntry, SecondEntry, EntryOutOfOrder}
 use Rattle.audit_meaning.specs.LogFaults.{is_foreign, is_of_no_request, is_uncounted, is_second, is_implausible, is_out_of_order, at_entry, entry_fault, faulty_entry, second_log, second_count, count_of_no_request, request_without_count, log_fault}
 use Rattle.audit_meaning.proofs.Places.{first_none, or_none, answer_none, befores_at}
@@ -55,7 +55,9 @@ module _ (P : Program) (O : Objects) (T : List TraceEvent) (R : Report) where
         positive = positive s.entry.number range.0;
         counted = ltb-false (count_of R s.entry.rid) s.entry.number range.1;
         alone = answer_none (is_second past s.entry) _ h9.0;
-        rises = λ e l same_request. rising e s.entry same_request (ap (λ o. is_out_of_order o s.entry) (sym l) ∙ answer_none (is_out_of_order (last s.past) s.entry) _ h11.0);
+        rises = λ e l same_request. rising e s.entry same_request
+            (ap (λ o. is_out_of_order o s.entry) (sym l)
+            ∙ answer_none (is_out_of_order (last s.past) s.entry) _ h11.0);
         fits = not-false _ (answer_none (is_implausible O s) _ h11.1);
       }
     where
@@ -82,5 +84,7 @@ module _ (P : Program) (O : Objects) (T : List TraceEvent) (R : Report) where
             let test : list_any (λ l. is_same l.object m.object) (take j R.logs) ≡ false =
             answer_none _ _ (first_none (λ b. answer_if (list_any (λ l. is_same l.object b.1.object) b.0) (SecondLog b.1.object)) (befores R.logs) j (take j R.logs, m) h2.0 (befores_at R.logs j m at_j)) in
             true≢false (sym eq ∙ any_false (λ l. is_same l.object m.object) (take j R.logs) i l test (nth_take R.logs j i l less at_i));
-        passes = λ j s at_j. passed (take j (spots R.logs)) s (first_none (entry_fault P O T R) (befores (spots R.logs)) j (take j (spots R.logs), s) h6.0 (befores_at (spots R.logs) j s at_j));
+        passes = λ j s at_j. passed (take j (spots R.logs)) s
+            (first_none (entry_fault P O T R) (befores (spots R.logs)) j (take j (spots R.logs), s) h6.0
+            (befores_at (spots R.logs) j s at_j));
       }

@@ -6,11 +6,11 @@ use Rattle.basis.specs.Lists.{nth}
 use Rattle.basis.proofs.Options.{some_is, none_is_not}
 use Rattle.basis.proofs.Places.{In, any_true, any_false, nth_take}
 use Rattle.script_tree.specs.Requests.{Request}
-use Rattle.script_tree.specs.Traces.{IsBalanced}
-use Rattle.script_tree.specs.declared.trace.TraceEvent.{TraceEvent}
-use Rattle.script_tree.specs.declared.trace.TraceEvent.TheVariants.{Asked, Answered}
-use Rattle.report.specs.declared.LogEntry.{LogEntry}
-use Rattle.report.specs.declared.Report.{Report}
+use Rattle.period.specs.Traces.{IsBalanced}
+use Rattle.period.specs.declared.trace.TraceEvent.{TraceEvent}
+use Rattle.period.specs.declared.trace.TraceEvent.TheVariants.{Asked, Answered}
+use Rattle.period.specs.declared.report.LogEntry.{LogEntry}
+use Rattle.period.specs.declared.report.Report.{Report}
 use Rattle.audit_meaning.specs.Cycles.{departure_of, is_direct, direct_edges}
 use Rattle.audit_meaning.specs.Edges.{Edge, request_edges, from_response, time_edges, neighbour_edge, log_edges, edges}
 use Rattle.audit_meaning.specs.EdgesAre.{NeighboursInRequest, NeighboursInLog, InTime, LiesBetween, IsDirect, by_request, by_log, by_time, IsEdge, of_request, of_log, of_time, EdgesAreThese}
@@ -38,14 +38,28 @@ module _ (T : List TraceEvent) (R : Report) where
       by (Asked r q) n k =
           let i = in_map_back (λ i. (node_at (count_of R r) r i, node_at (count_of R r) r (suc i))) (numbers 0 (count_of R r + 1)) (y, x) k in
           let range = numbers_in 0 (count_of R r + 1) i.0 i.1.0 i.1.1 in
-          record { rid = r; request = q; asked = n; number = i.0; within = omega (arith, range.1); earlier = ap (λ (e : Edge). e.0) (sym i.2); later = ap (λ (e : Edge). e.1) (sym i.2) }
+          record {
+            rid = r;
+            request = q;
+            asked = n;
+            number = i.0;
+            within = omega (arith, range.1);
+            earlier = ap
+                (λ (e : Edge). e.0) (sym i.2);
+            later = ap (λ (e : Edge). e.1) (sym i.2);
+          }
 
   request_in : (y x : Node) → NeighboursInRequest T R y x → In (flat_map (request_edges R) T) (y, x)
   request_in y x n =
       let made : In (request_edges R (Asked n.rid n.request)) (node_at (count_of R n.rid) n.rid n.number, node_at (count_of R n.rid) n.rid (suc n.number)) =
-      in_map (λ i. (node_at (count_of R n.rid) n.rid i, node_at (count_of R n.rid) n.rid (suc i))) (numbers 0 (count_of R n.rid + 1)) n.number (in_numbers 0 (count_of R n.rid + 1) n.number (omega arith) (omega (arith, n.within))) in
+      in_map (λ i. (node_at (count_of R n.rid) n.rid i, node_at (count_of R n.rid) n.rid (suc i)))
+      (numbers 0 (count_of R n.rid + 1)) n.number
+      (in_numbers 0 (count_of R n.rid + 1) n.number (omega arith) (omega (arith, n.within))) in
       subst (λ e. In {A = Edge} (flat_map (request_edges R) T) e) (λ i. (sym n.earlier i, sym n.later i))
-      (in_flat (request_edges R) T (Asked n.rid n.request) (node_at (count_of R n.rid) n.rid n.number, node_at (count_of R n.rid) n.rid (suc n.number)) n.asked.0 n.asked.1 made)
+      (in_flat (request_edges R) T (Asked n.rid n.request) (
+        node_at (count_of R n.rid) n.rid n.number,
+        node_at (count_of R n.rid) n.rid (suc n.number),
+      ) n.asked.0 n.asked.1 made)
 
   -- ---- neighbours in a log
 
@@ -60,7 +74,17 @@ module _ (T : List TraceEvent) (R : Report) where
           go true q k = absurd (none_is_not k.1)
           go false q k =
               let is = only (node_of e, node_of s.entry) (y, x) k in
-              record { spot = s; stands = n; before = e; last_before = p; differ = λ same. true≢false (sym (eq-eqb e.rid s.entry.rid same) ∙ q); earlier = ap (λ (d : Edge). d.0) (sym is); later = ap (λ (d : Edge). d.1) (sym is) }
+              record {
+                spot = s;
+                stands = n;
+                before = e;
+                last_before = p;
+                differ = λ same. true≢false
+                    (sym (eq-eqb e.rid s.entry.rid same) ∙ q);
+                earlier = ap (λ (d : Edge). d.0) (sym is);
+                later =
+                    ap (λ (d : Edge). d.1) (sym is);
+              }
 
   log_in : (y x : Node) → NeighboursInLog R y x → In (flat_map log_edges (spots R.logs)) (y, x)
   log_in y x n =
@@ -103,8 +127,11 @@ module _ (T : List TraceEvent) (R : Report) where
   time_in : (y x : Node) → InTime T y x → In (flat_map time_edges (befores T)) (y, x)
   time_in y x t =
       subst (λ e. In {A = Edge} (flat_map time_edges (befores T)) e) (λ i. (sym t.earlier i, sym t.later i))
-      (in_flat time_edges (befores T) (take t.right T, Asked t.come t.request) (close t.gone, step t.come 0) t.right (befores_at T t.right (Asked t.come t.request) t.asked)
-      (in_flat (from_response t.come) (take t.right T) (Answered t.gone t.response) (close t.gone, step t.come 0) t.left (nth_take T t.right t.left (Answered t.gone t.response) t.in_order t.answered) (0, refl)))
+      (in_flat time_edges (befores T) (take t.right T, Asked t.come t.request) (close t.gone, step t.come 0) t.right
+      (befores_at T t.right (Asked t.come t.request) t.asked)
+      (in_flat (from_response t.come) (take t.right T) (Answered t.gone t.response)
+      (close t.gone, step t.come 0) t.left (nth_take T t.right t.left
+      (Answered t.gone t.response) t.in_order t.answered) (0, refl)))
 
   -- ---- all edges
 
@@ -120,9 +147,14 @@ module _ (T : List TraceEvent) (R : Report) where
 
   is_edge : (y x : Node) → IsEdge T R y x → In (edges T R) (y, x)
   unfolding edges
-  is_edge y x (of_request n) = in_left (flat_map (request_edges R) T) (flat_map time_edges (befores T) ++ flat_map log_edges (spots R.logs)) (y, x) (request_in y x n)
-  is_edge y x (of_time t) = in_right (flat_map (request_edges R) T) (flat_map time_edges (befores T) ++ flat_map log_edges (spots R.logs)) (y, x) (in_left (flat_map time_edges (befores T)) (flat_map log_edges (spots R.logs)) (y, x) (time_in y x t))
-  is_edge y x (of_log n) = in_right (flat_map (request_edges R) T) (flat_map time_edges (befores T) ++ flat_map log_edges (spots R.logs)) (y, x) (in_right (flat_map time_edges (befores T)) (flat_map log_edges (spots R.logs)) (y, x) (log_in y x n))
+  is_edge y x (of_request n) = in_left (flat_map (request_edges R) T)
+      (flat_map time_edges (befores T) ++ flat_map log_edges (spots R.logs)) (y, x) (request_in y x n)
+  is_edge y x (of_time t) = in_right (flat_map (request_edges R) T)
+      (flat_map time_edges (befores T) ++ flat_map log_edges (spots R.logs)) (y, x)
+      (in_left (flat_map time_edges (befores T)) (flat_map log_edges (spots R.logs)) (y, x) (time_in y x t))
+  is_edge y x (of_log n) = in_right (flat_map (request_edges R) T)
+      (flat_map time_edges (befores T) ++ flat_map log_edges (spots R.logs)) (y, x)
+      (in_right (flat_map time_edges (befores T)) (flat_map log_edges (spots R.logs)) (y, x) (log_in y x n))
 
   -- ---- direct edges
 
@@ -224,7 +256,9 @@ module _ (T : List TraceEvent) (R : Report) where
 
   is_direct_edge : (y x : Node) → IsBalanced T → IsDirect T R y x → In (direct_edges T R) (y, x)
   is_direct_edge y x balanced (by_request n) = in_left (flat_map (request_edges R) T) (thin ++ flat_map log_edges (spots R.logs)) (y, x) (request_in y x n)
-  is_direct_edge y x balanced (by_log n) = in_right (flat_map (request_edges R) T) (thin ++ flat_map log_edges (spots R.logs)) (y, x) (in_right thin (flat_map log_edges (spots R.logs)) (y, x) (log_in y x n))
+  is_direct_edge y x balanced (by_log n) = in_right (flat_map (request_edges R) T)
+      (thin ++ flat_map log_edges (spots R.logs)) (y, x)
+      (in_right thin (flat_map log_edges (spots R.logs)) (y, x) (log_in y x n))
   is_direct_edge y x balanced (by_time t none) =
       let m = time_in y x t in
       let is : is_direct time (y, x) ≡ true = elim (cases_Bool (is_direct time (y, x))) [

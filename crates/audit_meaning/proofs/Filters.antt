@@ -21,14 +21,31 @@ pub from : {A B : Type 0} (f : A → Option B) (xs : List A) (m : ℕ) (y : B) �
 from f [] m y e = absurd (none_is_not e)
 from {A} {B} f (z ∷ xs) m y e = go (f z) refl m e (λ k h. from f xs k y h)
   where
-    go : (o : Option B) → f z ≡ o → (k : ℕ) → nth (cons_option o (filter_map f xs)) k ≡ Some y → ((j : ℕ) → nth (filter_map f xs) j ≡ Some y → From f xs j y) → From f (z ∷ xs) k y
+    go : (o : Option B) → f z ≡ o → (k : ℕ) → nth (cons_option o (filter_map f xs)) k ≡ Some y
+        → ((j : ℕ) → nth (filter_map f xs) j ≡ Some y → From f xs j y) → From f (z ∷ xs) k y
     go None p k h rest =
         let r = rest k h in
-        record { place = suc r.place; x = r.x; here = r.here; gives = r.gives; before = ap (λ w. take k (cons_option w (filter_map f xs))) p ∙ r.before ∙ ap (λ w. cons_option w (filter_map f (take r.place xs))) (sym p) }
+        record {
+          place = suc r.place;
+          x = r.x;
+          here = r.here;
+          gives = r.gives;
+          before = ap
+              (λ w. take k (cons_option w (filter_map f xs))) p ∙ r.before
+              ∙ ap (λ w. cons_option w (filter_map f (take r.place xs))) (sym p);
+        }
     go (Some w) p zero h rest = record { place = 0; x = z; here = refl; gives = p ∙ h; before = refl }
     go (Some w) p (suc k) h rest =
         let r = rest k h in
-        record { place = suc r.place; x = r.x; here = r.here; gives = r.gives; before = ap (λ v. take (suc k) (cons_option v (filter_map f xs))) p ∙ ap (λ v. w ∷ v) r.before ∙ ap (λ v. cons_option v (filter_map f (take r.place xs))) (sym p) }
+        record {
+          place = suc r.place;
+          x = r.x;
+          here = r.here;
+          gives = r.gives;
+          before = ap
+              (λ v. take (suc k) (cons_option v (filter_map f xs))) p ∙ ap (λ v. w ∷ v) r.before
+              ∙ ap (λ v. cons_option v (filter_map f (take r.place xs))) (sym p);
+        }
 
 pub in_filter : {A B : Type 0} (f : A → Option B) (xs : List A) (i : ℕ) (x : A) (y : B) → nth xs i ≡ Some x → f x ≡ Some y → In (filter_map f xs) y
 in_filter f [] i x y e g = absurd (none_is_not e)
@@ -44,7 +61,8 @@ take_more [] i x e = absurd (none_is_not e)
 take_more (z ∷ xs) zero x e = ap (λ w. w ∷ []) (some_is e)
 take_more (z ∷ xs) (suc i) x e = ap (λ w. z ∷ w) (take_more xs i x e)
 
-pub filter_more : {A B : Type 0} (f : A → Option B) (xs : List A) (i : ℕ) (x : A) → nth xs i ≡ Some x → filter_map f (take (suc i) xs) ≡ filter_map f (take i xs) ++ cons_option (f x) []
+pub filter_more : {A B : Type 0} (f : A → Option B) (xs : List A) (i : ℕ) (x : A) → nth xs i ≡ Some x
+    → filter_map f (take (suc i) xs) ≡ filter_map f (take i xs) ++ cons_option (f x) []
 filter_more f xs i x e = ap (filter_map f) (take_more xs i x e) ∙ filter_map-append f (take i xs) (x ∷ [])
 
 pub numbers_more : (k n : ℕ) → numbers k n ++ (k + n) ∷ [] ≡ numbers k (suc n)
@@ -64,7 +82,8 @@ pub filter_in : {A : Type 0} (p : A → Bool) (xs : List A) (x : A) (i : ℕ) �
 filter_in p [] x i e = absurd (none_is_not e)
 filter_in {A} p (z ∷ xs) x i e = go (p z) refl i e (λ j h. filter_in p xs x j h)
   where
-    go : (b : Bool) → p z ≡ b → (k : ℕ) → nth (cond b (z ∷ filter p xs) (filter p xs)) k ≡ Some x → ((j : ℕ) → nth (filter p xs) j ≡ Some x → (In xs x) × (p x ≡ true)) → (In (z ∷ xs) x) × (p x ≡ true)
+    go : (b : Bool) → p z ≡ b → (k : ℕ) → nth (cond b (z ∷ filter p xs) (filter p xs)) k ≡ Some x
+        → ((j : ℕ) → nth (filter p xs) j ≡ Some x → (In xs x) × (p x ≡ true)) → (In (z ∷ xs) x) × (p x ≡ true)
     go true q zero h rest = ((0, h), ap p (sym (some_is h)) ∙ q)
     go true q (suc k) h rest = let r = rest k h in ((suc r.0.0, r.0.1), r.1)
     go false q k h rest = let r = rest k h in ((suc r.0.0, r.0.1), r.1)
@@ -110,7 +129,9 @@ module _ {A : Type 0} (alike : A → A → Bool) (is : (x y : A) → alike x y �
       (λ m. true≢false (sym (itself z) ∙ not-true _ (filter_in (λ y. not (alike z y)) (firsts alike xs) z m.0 m.1).1))
       (filter_apart (λ y. not (alike z y)) (firsts alike xs) (firsts_apart xs))
 
-pub apart_picked : {A B : Type 0} (f : A → Option B) (xs : List A) → ((i j : ℕ) (x z : A) (y : B) → nth xs i ≡ Some x → nth xs j ≡ Some z → f x ≡ Some y → f z ≡ Some y → i ≡ j) → Apart (filter_map f xs)
+pub apart_picked : {A B : Type 0} (f : A → Option B) (xs : List A)
+    → ((i j : ℕ) (x z : A) (y : B) → nth xs i ≡ Some x → nth xs j ≡ Some z → f x ≡ Some y → f z ≡ Some y → i ≡ j)
+    → Apart (filter_map f xs)
 apart_picked f [] one = λ x i j a b. absurd (none_is_not a)
 apart_picked {A} {B} f (z ∷ xs) one = go (f z) refl (apart_picked f xs (λ i j x w y a b c d. let h : suc i ≡ suc j = one (suc i) (suc j) x w y a b c d in omega arith))
   where

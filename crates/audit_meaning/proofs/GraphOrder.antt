@@ -8,12 +8,12 @@ use Rattle.basis.proofs.Options.{some_is, none_is_not}
 use Rattle.basis.proofs.Places.{nth_within, In, first_some, nth_take}
 use Rattle.audit_meaning.specs.Lists.{befores, last, numbers}
 use Rattle.script_tree.specs.Requests.{Request}
-use Rattle.script_tree.specs.declared.trace.TraceEvent.{TraceEvent}
-use Rattle.script_tree.specs.declared.trace.TraceEvent.TheVariants.{Asked, Answered}
-use Rattle.report.specs.declared.LogEntry.{LogEntry}
-use Rattle.report.specs.declared.Report.{Report}
+use Rattle.period.specs.declared.trace.TraceEvent.{TraceEvent}
+use Rattle.period.specs.declared.trace.TraceEvent.TheVariants.{Asked, Answered}
+use Rattle.period.specs.declared.report.LogEntry.{LogEntry}
+use Rattle.period.specs.declared.report.Report.{Report}
 use Rattle.script_tree.specs.Objects.{Objects}
-use Rattle.script_tree.specs.Traces.{request_of, request_in, IsBalanced, Precedes}
+use Rattle.period.specs.Traces.{request_of, request_in, IsBalanced, Precedes}
 use Rattle.audit_meaning.specs.Spots.{Spot, spots, count_of}
 use Rattle.audit_meaning.specs.Nodes.{Node, step, close, node_at, node_of, log_of, nodes_in, nodes}
 use Rattle.audit_meaning.specs.Edges.{Edge, request_edges, from_response, time_edges, neighbour_edge, log_edges, edges}
@@ -54,7 +54,8 @@ request_found T r i q h = go (first_answer (request_in r) T) refl
 
 -- ---- nodes
 
-pub node_in_event : (R : Report) (e : TraceEvent) (x : Node) → In (nodes_in R e) x → (r : ℕ) × (q : Request) × (e ≡ Asked r q) × (i : ℕ) × (i < count_of R r + 2) × (node_at (count_of R r) r i ≡ x)
+pub node_in_event : (R : Report) (e : TraceEvent) (x : Node) → In (nodes_in R e) x
+    → (r : ℕ) × (q : Request) × (e ≡ Asked r q) × (i : ℕ) × (i < count_of R r + 2) × (node_at (count_of R r) r i ≡ x)
 node_in_event R (Asked r q) x m =
     let i = in_map_back (node_at (count_of R r) r) (numbers 0 (count_of R r + 2)) x m in
     let range = numbers_in 0 (count_of R r + 2) i.0 i.1.0 i.1.1 in
@@ -118,7 +119,8 @@ rising N f n there one i (suc k) a b l m at_a at_b = elim (cases_eq i k) [
       omega arith
 ]
 
-module _ (P : Program) (O : Objects) (T : List TraceEvent) (R : Report) (N : List Node) (balanced : IsBalanced T) (checked : Checked P O T R) (listed : order_of T R ≡ Some N) where
+module _ (P : Program) (O : Objects) (T : List TraceEvent) (R : Report) (N : List Node) (balanced : IsBalanced T)
+    (checked : Checked P O T R) (listed : order_of T R ≡ Some N) where
   order_is : OrderOf (edges T R) (nodes T R) N
   unfolding order_of
   order_is = ordered_is (edges T R) (length (nodes T R)) (nodes T R) N refl listed
@@ -127,14 +129,17 @@ module _ (P : Program) (O : Objects) (T : List TraceEvent) (R : Report) (N : Lis
   unfolding nodes
   node_there r i q h l =
       let there = request_there T r q h in
-      in_flat (nodes_in R) T (Asked r q) (node_at (count_of R r) r i) there.0 there.1 (in_map (node_at (count_of R r) r) (numbers 0 (count_of R r + 2)) i (in_numbers 0 (count_of R r + 2) i (omega arith) (omega arith)))
+      in_flat (nodes_in R) T (Asked r q) (node_at (count_of R r) r i) there.0 there.1
+      (in_map (node_at (count_of R r) r) (numbers 0 (count_of R r + 2)) i
+      (in_numbers 0 (count_of R r + 2) i (omega arith) (omega arith)))
 
   request_node : (r i : ℕ) (q : Request) → request_of T r ≡ Some q → i < count_of R r + 2 → In N (node_at (count_of R r) r i)
   request_node r i q h l = let m = node_there r i q h l in order_is.all _ m.0 m.1
 
   all_listed : (x : Node) → IsNode T R x → In N x
   all_listed (step r k) h = subst (In N) (node_at-step (count_of R r) r k h.2) (request_node r k h.0 h.1 (omega (arith, h.2)))
-  all_listed (close r) h = subst (In N) (node_at-close (count_of R r) r (suc (count_of R r)) (omega arith)) (request_node r (suc (count_of R r)) h.0 h.1 (omega arith))
+  all_listed (close r) h = subst (In N) (node_at-close (count_of R r) r (suc (count_of R r)) (omega arith))
+      (request_node r (suc (count_of R r)) h.0 h.1 (omega arith))
 
   is_node : (r i : ℕ) (q : Request) → request_of T r ≡ Some q → IsNode T R (node_at (count_of R r) r i)
   is_node r i q h = elim (cases_lt (count_of R r) i) [
@@ -151,7 +156,8 @@ module _ (P : Program) (O : Objects) (T : List TraceEvent) (R : Report) (N : Lis
       let q = request_found T one.0 from.1.0 one.1 (from.1.1 ∙ ap (λ y. Some y) one.2) in
       subst (IsNode T R) one.5 (is_node one.0 one.3 q.0 q.1)
 
-  by_request : (r : ℕ) (q : Request) → request_of T r ≡ Some q → (i k a b : ℕ) → i < k → k < count_of R r + 2 → nth N a ≡ Some (node_at (count_of R r) r i) → nth N b ≡ Some (node_at (count_of R r) r k) → a < b
+  by_request : (r : ℕ) (q : Request) → request_of T r ≡ Some q → (i k a b : ℕ) → i < k → k < count_of R r + 2
+      → nth N a ≡ Some (node_at (count_of R r) r i) → nth N b ≡ Some (node_at (count_of R r) r k) → a < b
   unfolding edges
   by_request r q h = rising N (node_at (count_of R r) r) (count_of R r + 2) (λ i l. request_node r i q h l) (λ i a b l at_a at_b.
       order_is.after (node_at (count_of R r) r i) (node_at (count_of R r) r (suc i)) a b (edge i l) at_a at_b)
@@ -161,7 +167,8 @@ module _ (P : Program) (O : Objects) (T : List TraceEvent) (R : Report) (N : Lis
           let there = request_there T r q h in
           in_left (flat_map (request_edges R) T) (flat_map time_edges (befores T) ++ flat_map log_edges (spots R.logs)) _
           (in_flat (request_edges R) T (Asked r q) (node_at (count_of R r) r i, node_at (count_of R r) r (suc i)) there.0 there.1
-          (in_map (λ j. (node_at (count_of R r) r j, node_at (count_of R r) r (suc j))) (numbers 0 (count_of R r + 1)) i (in_numbers 0 (count_of R r + 1) i (omega arith) (omega arith))))
+          (in_map (λ j. (node_at (count_of R r) r j, node_at (count_of R r) r (suc j)))
+          (numbers 0 (count_of R r + 1)) i (in_numbers 0 (count_of R r + 1) i (omega arith) (omega arith))))
 
   by_time : (a b i j : ℕ) → Precedes T a b → nth N i ≡ Some (close a) → nth N j ≡ Some (step b 0) → i < j
   unfolding edges
@@ -172,7 +179,8 @@ module _ (P : Program) (O : Objects) (T : List TraceEvent) (R : Report) (N : Lis
           in_right (flat_map (request_edges R) T) (flat_map time_edges (befores T) ++ flat_map log_edges (spots R.logs)) (close a, step b 0)
           (in_left (flat_map time_edges (befores T)) (flat_map log_edges (spots R.logs)) (close a, step b 0)
           (in_flat time_edges (befores T) (take p.right T, Asked b p.request) (close a, step b 0) p.right (befores_at T p.right (Asked b p.request) p.asks)
-          (in_flat (from_response b) (take p.right T) (Answered a p.response) (close a, step b 0) p.left (nth_take T p.right p.left (Answered a p.response) p.in_order p.answers) (0, refl))))
+          (in_flat (from_response b) (take p.right T) (Answered a p.response) (close a, step b 0) p.left
+          (nth_take T p.right p.left (Answered a p.response) p.in_order p.answers) (0, refl))))
 
   entry_there : (o : Object) (i : ℕ) (e : LogEntry) → nth (log_of R o) i ≡ Some e → In N (node_of e)
   entry_there o i e h =
@@ -181,7 +189,8 @@ module _ (P : Program) (O : Objects) (T : List TraceEvent) (R : Report) (N : Lis
       all_listed (node_of e) (p.in_trace.0, p.in_trace.1, p.counted)
 
   -- an entry comes after its neighbour
-  neighbours : (o : Object) (i : ℕ) (e f : LogEntry) → nth (log_of R o) i ≡ Some e → nth (log_of R o) (suc i) ≡ Some f → (a b : ℕ) → nth N a ≡ Some (node_of e) → nth N b ≡ Some (node_of f) → a < b
+  neighbours : (o : Object) (i : ℕ) (e f : LogEntry) → nth (log_of R o) i ≡ Some e → nth (log_of R o) (suc i) ≡ Some f
+      → (a b : ℕ) → nth N a ≡ Some (node_of e) → nth N b ≡ Some (node_of f) → a < b
   unfolding edges
   neighbours o i e f at_i at_k a b na nb = elim (cases_eq e.rid f.rid) [
     | inl same ↦
@@ -217,7 +226,8 @@ module _ (P : Program) (O : Objects) (T : List TraceEvent) (R : Report) (N : Lis
           (subst (λ x. In {A = Edge} (neighbour_edge x f) (node_of e, node_of f)) (sym before)
           (subst (λ c. In {A = Edge} (cond c [] ((node_of e, node_of f) ∷ [])) (node_of e, node_of f)) (sym (ne_eqb e.rid f.rid differ)) (0, refl)))))
 
-  by_log : (o : Object) (i k : ℕ) (e f : LogEntry) → i < k → nth (log_of R o) i ≡ Some e → nth (log_of R o) k ≡ Some f → (a b : ℕ) → nth N a ≡ Some (node_of e) → nth N b ≡ Some (node_of f) → a < b
+  by_log : (o : Object) (i k : ℕ) (e f : LogEntry) → i < k → nth (log_of R o) i ≡ Some e → nth (log_of R o) k ≡ Some f
+      → (a b : ℕ) → nth N a ≡ Some (node_of e) → nth N b ≡ Some (node_of f) → a < b
   by_log o i k e f l at_i at_k a b na nb =
       rising N (log_node R o) (length (log_of R o))
       (λ j m. let x = nth_there (log_of R o) j m in let y = entry_there o j x.0 x.1 in (y.0, y.1 ∙ ap (λ z. Some z) (sym (ap or_close x.1))))

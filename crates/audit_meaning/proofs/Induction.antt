@@ -12,16 +12,16 @@ use Rattle.basis.proofs.Options.{some_is}
 use Rattle.basis.proofs.Places.{nth_within}
 use Rattle.script_tree.specs.Requests.{Request}
 use Rattle.script_tree.specs.declared.request.Response.{Response}
-use Rattle.script_tree.specs.declared.trace.TraceEvent.{TraceEvent}
-use Rattle.report.specs.declared.LogEntry.{LogEntry}
-use Rattle.report.specs.declared.Report.{Report}
+use Rattle.period.specs.declared.trace.TraceEvent.{TraceEvent}
+use Rattle.period.specs.declared.report.LogEntry.{LogEntry}
+use Rattle.period.specs.declared.report.Report.{Report}
 use Rattle.script_tree.specs.declared.operation.Choice.{Choice}
-use Rattle.script_tree.specs.declared.schedule.Moment.{Moment}
-use Rattle.script_tree.specs.declared.schedule.Moment.TheVariants.{Arrive, Act as Acts, Depart}
+use Rattle.period.specs.declared.schedule.Moment.{Moment}
+use Rattle.period.specs.declared.schedule.Moment.TheVariants.{Arrive, Act as Acts, Depart}
 use Rattle.script_tree.specs.Objects.{Cell, Objects, acted, plausible, is_same, holding}
 use Rattle.audit_meaning.specs.Spots.{Spot, spot_of, count_of}
-use Rattle.report.specs.LeftBy.{left_by}
-use Rattle.script_tree.specs.Traces.{request_of, response_of, Precedes}
+use Rattle.period.specs.LeftBy.{left_by}
+use Rattle.period.specs.Traces.{request_of, response_of, Precedes}
 use Rattle.script_meaning.specs.Replay.{Scene, opening, ending_of, ending_with, next_of, IsAllowed, IsAsTraced, after, after_act, and_answer, with_request, Plays}
 use Rattle.script_meaning.specs.Explains.{rid_of, IsWhole, Explains}
 use Rattle.audit_meaning.specs.Members.{answer_at, told}
@@ -49,7 +49,8 @@ pub record IsSoundMember (P : Program) (O : Objects) (T : List TraceEvent) (R : 
 
 -- what the checks leave
 pub record Facts (P : Program) (O : Objects) (T : List TraceEvent) (R : Report) : Type 0 where
-  pub in_range : (o : Object) (i : ℕ) (e : LogEntry) → nth (log_of R o) i ≡ Some e → (q : Request) × (request_of T e.rid ≡ Some q) × (1 ≤ e.number) × (e.number ≤ count_of R e.rid)
+  pub in_range : (o : Object) (i : ℕ) (e : LogEntry) → nth (log_of R o) i ≡ Some e
+      → (q : Request) × (request_of T e.rid ≡ Some q) × (1 ≤ e.number) × (e.number ≤ count_of R e.rid)
   pub one_log : (o p : Object) (i k : ℕ) (e f : LogEntry) → nth (log_of R o) i ≡ Some e → nth (log_of R p) k ≡ Some f → node_of e ≡ node_of f → o ≡ p
   pub names : (r k : ℕ) (s : Spot) → spot_of R r k ≡ Some s → node_of s.entry ≡ step r k
   pub stands : (r k : ℕ) (s : Spot) → spot_of R r k ≡ Some s → nth (log_of R s.object) (length s.past) ≡ Some s.entry
@@ -66,8 +67,10 @@ pub record IsOrder (T : List TraceEvent) (R : Report) (N : List Node) : Type 0 w
   pub listed : (x : Node) → IsNode T R x → (i : ℕ) × (nth N i ≡ Some x)
   pub only : (i : ℕ) (x : Node) → nth N i ≡ Some x → IsNode T R x
   pub once : Once N
-  pub by_request : (r : ℕ) (q : Request) → request_of T r ≡ Some q → (i k a b : ℕ) → i < k → k < count_of R r + 2 → nth N a ≡ Some (node_at (count_of R r) r i) → nth N b ≡ Some (node_at (count_of R r) r k) → a < b
-  pub by_log : (o : Object) (i k : ℕ) (e f : LogEntry) → i < k → nth (log_of R o) i ≡ Some e → nth (log_of R o) k ≡ Some f → (a b : ℕ) → nth N a ≡ Some (node_of e) → nth N b ≡ Some (node_of f) → a < b
+  pub by_request : (r : ℕ) (q : Request) → request_of T r ≡ Some q → (i k a b : ℕ) → i < k → k < count_of R r + 2
+      → nth N a ≡ Some (node_at (count_of R r) r i) → nth N b ≡ Some (node_at (count_of R r) r k) → a < b
+  pub by_log : (o : Object) (i k : ℕ) (e f : LogEntry) → i < k → nth (log_of R o) i ≡ Some e
+      → nth (log_of R o) k ≡ Some f → (a b : ℕ) → nth N a ≡ Some (node_of e) → nth N b ≡ Some (node_of f) → a < b
   pub by_time : (a b i j : ℕ) → Precedes T a b → nth N i ≡ Some (close a) → nth N j ≡ Some (step b 0) → i < j
 
 abbrev pub or_close : Option LogEntry → Node
@@ -148,7 +151,8 @@ module _ (P : Program) (O : Objects) (T : List TraceEvent) (R : Report) (N : Lis
   }
 
   -- a node of another request leaves a request as it was
-  other_request : (t r x : ℕ) (node : Node) (a : Option (List Datum)) → nth N t ≡ Some node → (owner node ≡ x → ⊥) → Called O R N t x a → Called O R N (suc t) x a
+  other_request : (t r x : ℕ) (node : Node) (a : Option (List Datum)) → nth N t ≡ Some node → (owner node ≡ x → ⊥)
+      → Called O R N t x a → Called O R N (suc t) x a
   other_request t r x node a at_t n c = record {
     stage = c.stage;
     cut = cut_same c.cut (λ i l e. n (ap owner (some_is (sym at_t ∙ e)) ∙ node_at-owner (count_of R x) x i));
@@ -156,7 +160,9 @@ module _ (P : Program) (O : Objects) (T : List TraceEvent) (R : Report) (N : Lis
   }
 
   -- and so does a node that is no entry of an object's log
-  other_object : (t : ℕ) (o : Object) (node : Node) (cell : Cell) → nth N t ≡ Some node → ((i : ℕ) (e : LogEntry) → nth (log_of R o) i ≡ Some e → node_of e ≡ node → ⊥) → Held O R N t o cell → Held O R N (suc t) o cell
+  other_object : (t : ℕ) (o : Object) (node : Node) (cell : Cell) → nth N t ≡ Some node
+      → ((i : ℕ) (e : LogEntry) → nth (log_of R o) i ≡ Some e → node_of e ≡ node → ⊥) → Held O R N t o cell
+      → Held O R N (suc t) o cell
   other_object t o node cell at_t n h = record {
     taken = h.taken;
     cut = cut_same h.cut (λ i l e.
@@ -167,7 +173,8 @@ module _ (P : Program) (O : Objects) (T : List TraceEvent) (R : Report) (N : Lis
 
   -- ---- an arrival
 
-  arrival : (t : ℕ) (s : Scene) (r : ℕ) → Kept O T R N t s → nth N t ≡ Some (step r 0) → IsAllowed P T s (Arrive r) × Kept O T R N (suc t) (after P T s (Arrive r))
+  arrival : (t : ℕ) (s : Scene) (r : ℕ) → Kept O T R N t s → nth N t ≡ Some (step r 0)
+      → IsAllowed P T s (Arrive r) × Kept O T R N (suc t) (after P T s (Arrive r))
   arrival t s r kept at_t =
       let node = order.only t (step r 0) at_t in
       let called = kept.requests r node.0 node.1 in
@@ -181,10 +188,13 @@ module _ (P : Program) (O : Objects) (T : List TraceEvent) (R : Report) (N : Lis
                 let answers : ℕ → Option (List Datum) = with_request r (Some []) s.answers in
                 subst (λ y. Called O R N (suc t) y (answers y)) p (record {
                   stage = 1;
-                  cut = subst (λ c. Cut N (node_at (count_of R r) r) (count_of R r + 2) (suc c) (suc t)) (sym here) (cut_more order.once (call_chain r node.0 node.1) called.cut (omega arith) (at_0 ∙ ap (λ c. Some (node_at (count_of R r) r c)) here));
+                  cut = subst (λ c. Cut N (node_at (count_of R r) r) (count_of R r + 2) (suc c) (suc t)) (sym here)
+                      (cut_more order.once (call_chain r node.0 node.1) called.cut (omega arith)
+                      (at_0 ∙ ap (λ c. Some (node_at (count_of R r) r c)) here));
                   is = with_request-here r (Some []) s.answers ∙ sym (opened-open R O r 0 (omega arith));
                 })
-            | inr n ↦ subst (λ a. Called O R N (suc t) x a) (sym (with_request-there r x (Some []) s.answers n)) (other_request t r x (step r 0) (s.answers x) at_t n (kept.requests x q asked))
+            | inr n ↦ subst (λ a. Called O R N (suc t) x a) (sym (with_request-there r x (Some []) s.answers n))
+                (other_request t r x (step r 0) (s.answers x) at_t n (kept.requests x q asked))
           ];
         },
       )
@@ -192,7 +202,8 @@ module _ (P : Program) (O : Objects) (T : List TraceEvent) (R : Report) (N : Lis
   -- ---- an operation
 
   acted_upon : (t : ℕ) (s : Scene) (r k : ℕ) → Kept O T R N t s → nth N t ≡ Some (step r (suc k)) → (q : Request) → suc k ≤ count_of R r
-      → (good : IsGood P O R r q k) → s.answers r ≡ Some (told R O r k) → next_of P T s r ≡ Some (Wants good.op) → Cut N (node_at (count_of R r) r) (count_of R r + 2) (suc (suc k)) (suc t)
+      → (good : IsGood P O R r q k) → s.answers r ≡ Some (told R O r k) → next_of P T s r ≡ Some (Wants good.op)
+      → Cut N (node_at (count_of R r) r) (count_of R r + 2) (suc (suc k)) (suc t)
       → IsAllowed P T s (moment R (step r (suc k))) × Kept O T R N (suc t) (after P T s (moment R (step r (suc k))))
   acted_upon t s r k kept at_t q l good answers wants cut =
       subst (λ x. IsAllowed P T s (Acts r (choice_at x)) × Kept O T R N (suc t) (after P T s (Acts r (choice_at x)))) (sym good.found) (
@@ -203,9 +214,13 @@ module _ (P : Program) (O : Objects) (T : List TraceEvent) (R : Report) (N : Lis
             | inl eq ↦ subst (λ y. Called O R N (suc t) y (with_request r (and_answer (s.answers r) answer) s.answers y)) eq (record {
               stage = suc (suc k);
               cut = cut;
-              is = with_request-here r (and_answer (s.answers r) answer) s.answers ∙ ap (λ a. and_answer a answer) answers ∙ ap (λ d. Some (told R O r k ++ d ∷ [])) answer_is ∙ sym (opened-open R O r (suc k) l);
+              is = with_request-here r (and_answer (s.answers r) answer) s.answers
+                  ∙ ap (λ a. and_answer a answer) answers ∙ ap (λ d. Some (told R O r k ++ d ∷ [])) answer_is
+                  ∙ sym (opened-open R O r (suc k) l);
             })
-            | inr n ↦ subst (λ a. Called O R N (suc t) x a) (sym (with_request-there r x (and_answer (s.answers r) answer) s.answers n)) (other_request t r x (step r (suc k)) (s.answers x) at_t n (kept.requests x q' asked'))
+            | inr n ↦ subst (λ a. Called O R N (suc t) x a)
+                (sym (with_request-there r x (and_answer (s.answers r) answer) s.answers n))
+                (other_request t r x (step r (suc k)) (s.answers x) at_t n (kept.requests x q' asked'))
           ];
         }),
       )
@@ -269,7 +284,9 @@ module _ (P : Program) (O : Objects) (T : List TraceEvent) (R : Report) (N : Lis
       objects : (x : Object) (b : Bool) → is_same o x ≡ b → Held O R N (suc t) x (holding o new s.objects x)
       objects x true eq = subst (λ y. Held O R N (suc t) y (holding o new s.objects y)) (same_object o x eq) (record {
         taken = suc p;
-        cut = subst (λ y. Cut N (log_node R o) (length (log_of R o)) (suc y) (suc t)) (sym here) (cut_more order.once (log_chain o) held.cut (subst (λ y. y < length (log_of R o)) here within) (at_p ∙ ap (λ y. Some (log_node R o y)) here));
+        cut = subst (λ y. Cut N (log_node R o) (length (log_of R o)) (suc y) (suc t)) (sym here)
+            (cut_more order.once (log_chain o) held.cut (subst (λ y. y < length (log_of R o)) here within)
+            (at_p ∙ ap (λ y. Some (log_node R o y)) here));
         is = holding-here o new s.objects ∙ new_is;
       })
       objects x false ne = subst (λ y. Held O R N (suc t) x y) (sym (holding-there o x new s.objects ne))
@@ -277,7 +294,8 @@ module _ (P : Program) (O : Objects) (T : List TraceEvent) (R : Report) (N : Lis
           (λ i f h same_node. true≢false (sym (subst (λ y. is_same o y ≡ true) (facts.one_log o x p i e f stands h (named ∙ sym same_node)) (same_itself o)) ∙ ne))
           (kept.objects x))
 
-  acting : (t : ℕ) (s : Scene) (r k : ℕ) → Kept O T R N t s → nth N t ≡ Some (step r (suc k)) → IsAllowed P T s (moment R (step r (suc k))) × Kept O T R N (suc t) (after P T s (moment R (step r (suc k))))
+  acting : (t : ℕ) (s : Scene) (r k : ℕ) → Kept O T R N t s → nth N t ≡ Some (step r (suc k))
+      → IsAllowed P T s (moment R (step r (suc k))) × Kept O T R N (suc t) (after P T s (moment R (step r (suc k))))
   acting t s r k kept at_t =
       let node = order.only t (step r (suc k)) at_t in
       let called = kept.requests r node.0 node.1 in
@@ -287,11 +305,15 @@ module _ (P : Program) (O : Objects) (T : List TraceEvent) (R : Report) (N : Lis
       let answers : s.answers r ≡ Some (told R O r k) = called.is ∙ ap (opened R O r) (sym here) ∙ opened-open R O r k (omega (arith, node.2)) in
       let wants : next_of P T s r ≡ Some (Wants good.op) =
       ap (λ q. ending_with P q (s.answers r)) node.1 ∙ ap (ending_with P (Some node.0)) answers ∙ ap (λ x. Some x) good.wants in
-      acted_upon t s r k kept at_t node.0 node.2 good answers wants (subst (λ c. Cut N (node_at (count_of R r) r) (count_of R r + 2) (suc c) (suc t)) (sym here) (cut_more order.once (call_chain r node.0 node.1) called.cut (omega (arith, node.2)) (at_k ∙ ap (λ c. Some (node_at (count_of R r) r c)) here)))
+      acted_upon t s r k kept at_t node.0 node.2 good answers wants
+      (subst (λ c. Cut N (node_at (count_of R r) r) (count_of R r + 2) (suc c) (suc t)) (sym here)
+      (cut_more order.once (call_chain r node.0 node.1) called.cut (omega (arith, node.2))
+      (at_k ∙ ap (λ c. Some (node_at (count_of R r) r c)) here)))
 
   -- ---- a departure
 
-  departure : (t : ℕ) (s : Scene) (r : ℕ) → Kept O T R N t s → nth N t ≡ Some (close r) → IsAllowed P T s (Depart r) × IsAsTraced P T s (Depart r) × Kept O T R N (suc t) (after P T s (Depart r))
+  departure : (t : ℕ) (s : Scene) (r : ℕ) → Kept O T R N t s → nth N t ≡ Some (close r)
+      → IsAllowed P T s (Depart r) × IsAsTraced P T s (Depart r) × Kept O T R N (suc t) (after P T s (Depart r))
   departure t s r kept at_t =
       let node = order.only t (close r) at_t in
       let m = count_of R r in
@@ -311,10 +333,13 @@ module _ (P : Program) (O : Objects) (T : List TraceEvent) (R : Report) (N : Lis
                 let answers : ℕ → Option (List Datum) = with_request r None s.answers in
                 subst (λ y. Called O R N (suc t) y (answers y)) p (record {
                   stage = suc (suc (count_of R r));
-                  cut = subst (λ c. Cut N (node_at (count_of R r) r) (count_of R r + 2) (suc c) (suc t)) (sym here) (cut_more order.once (call_chain r node.0 node.1) called.cut (omega arith) (at_m ∙ ap (λ c. Some (node_at (count_of R r) r c)) here));
+                  cut = subst (λ c. Cut N (node_at (count_of R r) r) (count_of R r + 2) (suc c) (suc t)) (sym here)
+                      (cut_more order.once (call_chain r node.0 node.1) called.cut (omega arith)
+                      (at_m ∙ ap (λ c. Some (node_at (count_of R r) r c)) here));
                   is = with_request-here r None s.answers ∙ sym (opened-closed R O r (suc (count_of R r)) (omega arith));
                 })
-            | inr n ↦ subst (λ a. Called O R N (suc t) x a) (sym (with_request-there r x None s.answers n)) (other_request t r x (close r) (s.answers x) at_t n (kept.requests x q asked))
+            | inr n ↦ subst (λ a. Called O R N (suc t) x a) (sym (with_request-there r x None s.answers n))
+                (other_request t r x (close r) (s.answers x) at_t n (kept.requests x q asked))
           ];
         },
       )
@@ -408,15 +433,21 @@ module _ (T : List TraceEvent) (R : Report) (N : List Node) (order : IsOrder T R
             let k = acts_node R node.0 r c node.2 in
             let at_i : nth N i ≡ Some (step r (suc k.0)) = node.1 ∙ ap (λ x. Some x) k.1 in
             let range = order.only i (step r (suc k.0)) at_i in
-            let at_k : nth N i ≡ Some (node_at (count_of R r) r (suc k.0)) = at_i ∙ ap (λ x. Some x) (sym (node_at-step (count_of R r) r (suc k.0) range.2)) in
-            (order.by_request r q asked 0 (suc k.0) a.0 i (omega arith) (omega (arith, range.2)) at_a at_k, order.by_request r q asked (suc k.0) (suc (count_of R r)) i d.0 (omega (arith, range.2)) (omega arith) at_k at_d);
+            let at_k : nth N i ≡ Some (node_at (count_of R r) r (suc k.0)) = at_i ∙ ap (λ x. Some x) (sym (node_at-step (count_of R r) r (suc k.0) range.2)) in (
+              order.by_request r q asked 0 (suc k.0) a.0 i (omega arith) (omega (arith, range.2)) at_a at_k,
+              order.by_request r q asked (suc k.0) (suc (count_of R r)) i d.0 (omega (arith, range.2))
+                  (omega arith) at_k at_d,
+            );
       }
 
 -- a schedule by such an order explains the trace
-pub explains : (P : Program) (O : Objects) (T : List TraceEvent) (R : Report) (N : List Node) → Facts P O T R → IsOrder T R N → Explains P O T (map (moment R) N)
+pub explains : (P : Program) (O : Objects) (T : List TraceEvent) (R : Report) (N : List Node) → Facts P O T R
+    → IsOrder T R N → Explains P O T (map (moment R) N)
 explains P O T R N facts order = record {
   whole = moments_whole T R N order;
   of_trace = moments_of_trace T R N order;
-  in_time = λ a b i j before e f. order.by_time a b i j before (at_node T R N order i (close a) (Depart a) e (λ y h. depart_node R y a h)) (at_node T R N order j (step b 0) (Arrive b) f (λ y h. arrive_node R y b h));
+  in_time = λ a b i j before e f. order.by_time a b i j before
+      (at_node T R N order i (close a) (Depart a) e (λ y h. depart_node R y a h))
+      (at_node T R N order j (step b 0) (Arrive b) f (λ y h. arrive_node R y b h));
   plays = plays P O T R N facts order;
 }

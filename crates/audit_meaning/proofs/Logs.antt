@@ -7,10 +7,10 @@ use Rattle.basis.specs.Lists.{nth, first_answer}
 use Rattle.basis.proofs.Options.{some_is, none_is_not}
 use Rattle.basis.proofs.Places.{nth_within, In, first_some, any_false, nth_take}
 use Rattle.audit_meaning.specs.Lists.{befores}
-use Rattle.script_tree.specs.declared.trace.TraceEvent.{TraceEvent}
-use Rattle.report.specs.declared.LogEntry.{LogEntry}
-use Rattle.report.specs.declared.Log.{Log}
-use Rattle.report.specs.declared.Report.{Report}
+use Rattle.period.specs.declared.trace.TraceEvent.{TraceEvent}
+use Rattle.period.specs.declared.report.LogEntry.{LogEntry}
+use Rattle.period.specs.declared.report.Log.{Log}
+use Rattle.period.specs.declared.report.Report.{Report}
 use Rattle.script_tree.specs.Objects.{Objects, is_same}
 use Rattle.audit_meaning.specs.Spots.{Spot, spots, spots_in, spot_of, if_named}
 use Rattle.audit_meaning.specs.Nodes.{step, node_of, log_of, if_of}
@@ -52,7 +52,8 @@ log_there R o i e h = go (first_answer (if_of o) R.logs) refl h
         (found.0, found.1, is.0, is.1)
 
 -- an entry of an object's log stands among the spots
-pub spot_here : (R : Report) (o : Object) (i : ℕ) (e : LogEntry) → nth (log_of R o) i ≡ Some e → In (spots R.logs) (record { object = o; past = take i (log_of R o); entry = e })
+pub spot_here : (R : Report) (o : Object) (i : ℕ) (e : LogEntry) → nth (log_of R o) i ≡ Some e
+    → In (spots R.logs) (record { object = o; past = take i (log_of R o); entry = e })
 spot_here R o i e h =
     let there = log_there R o i e h in
     let l = there.0 in
@@ -88,7 +89,8 @@ module _ (P : Program) (O : Objects) (T : List TraceEvent) (R : Report) (checked
           sym is.1 ∙ ap (λ m. m.entries) (one_log_each found.1.0 i found.0 l found.1.1 at_i (sym is.0))
 
   -- a spot is an entry of its object's log, and what stands before it there
-  pub spot_stands : (j : ℕ) (s : Spot) → nth (spots R.logs) j ≡ Some s → (nth (log_of R s.object) (length s.past) ≡ Some s.entry) × (take (length s.past) (log_of R s.object) ≡ s.past)
+  pub spot_stands : (j : ℕ) (s : Spot) → nth (spots R.logs) j ≡ Some s
+      → (nth (log_of R s.object) (length s.past) ≡ Some s.entry) × (take (length s.past) (log_of R s.object) ≡ s.past)
   spot_stands j s at_j =
       let from = in_flat_back spots_in R.logs s j at_j in
       let l = from.0 in
@@ -112,8 +114,10 @@ module _ (P : Program) (O : Objects) (T : List TraceEvent) (R : Report) (checked
       clash : (i j : ℕ) (s t : Spot) → nth (spots R.logs) i ≡ Some s → nth (spots R.logs) j ≡ Some t → node_of s.entry ≡ node_of t.entry → i < j → ⊥
       clash i j s t at_i at_j e less =
           true≢false (
-          sym (and_from (nat_eq t.entry.rid s.entry.rid) (nat_eq t.entry.number s.entry.number) (eq-eqb _ _ (sym (step_request e))) (eq-eqb _ _ (sym (step_number e))))
-          ∙ any_false (λ x. nat_eq t.entry.rid x.entry.rid && nat_eq t.entry.number x.entry.number) (take j (spots R.logs)) i s (checked.passes j t at_j).alone (nth_take (spots R.logs) j i s less at_i))
+          sym (and_from (nat_eq t.entry.rid s.entry.rid) (nat_eq t.entry.number s.entry.number)
+          (eq-eqb _ _ (sym (step_request e))) (eq-eqb _ _ (sym (step_number e))))
+          ∙ any_false (λ x. nat_eq t.entry.rid x.entry.rid && nat_eq t.entry.number x.entry.number)
+          (take j (spots R.logs)) i s (checked.passes j t at_j).alone (nth_take (spots R.logs) j i s less at_i))
 
   pub found : (r k : ℕ) (s : Spot) → spot_of R r k ≡ Some s → (In (spots R.logs) s) × (node_of s.entry ≡ step r k)
   unfolding spot_of

@@ -11,10 +11,10 @@ use Rattle.basis.proofs.Places.{In}
 use Rattle.audit_meaning.specs.Lists.{numbers}
 use Rattle.script_tree.specs.Requests.{Request}
 use Rattle.script_tree.specs.declared.request.Response.{Response}
-use Rattle.script_tree.specs.declared.trace.TraceEvent.{TraceEvent}
-use Rattle.report.specs.declared.Report.{Report}
+use Rattle.period.specs.declared.trace.TraceEvent.{TraceEvent}
+use Rattle.period.specs.declared.report.Report.{Report}
 use Rattle.script_tree.specs.Objects.{Objects, is_same}
-use Rattle.script_tree.specs.Traces.{request_of, response_of}
+use Rattle.period.specs.Traces.{request_of, response_of}
 use Rattle.script_meaning.specs.Replay.{ending_of}
 use Rattle.audit_meaning.specs.Spots.{Spot, spot_of, count_of}
 use Rattle.audit_meaning.specs.Members.{told, is_entry_of, wants_as, is_good, good_from, performed, MemberMark, last_sign, sign_of, trail_of, page_number, signs, marks_of, is_bad}
@@ -31,7 +31,8 @@ good_at_least : (good : ℕ → Bool) (k n : ℕ) → (k ≤ good_from good k n)
 good_at_least good k zero = (omega arith, omega arith)
 good_at_least good k (suc n) = go (good k) (good_at_least good (suc k) n)
   where
-    go : (b : Bool) → (suc k ≤ good_from good (suc k) n) × (good_from good (suc k) n ≤ suc k + n) → (k ≤ cond b (good_from good (suc k) n) k) × (cond b (good_from good (suc k) n) k ≤ k + suc n)
+    go : (b : Bool) → (suc k ≤ good_from good (suc k) n) × (good_from good (suc k) n ≤ suc k + n)
+        → (k ≤ cond b (good_from good (suc k) n) k) × (cond b (good_from good (suc k) n) k ≤ k + suc n)
     go true h = (omega (arith, h.0), omega (arith, h.1))
     go false h = (omega arith, omega arith)
 
@@ -63,7 +64,8 @@ module _ (P : Program) (O : Objects) (T : List TraceEvent) (R : Report) where
 
   longest_is : (xs : List ℕ) (r i : ℕ) → nth xs i ≡ Some r → length (marks P O T R r) ≤ longest (map (marks P O T R) xs)
   longest_is [] r i e = absurd (none_is_not e)
-  longest_is (x ∷ xs) r zero e = subst (λ y. length (marks P O T R y) ≤ max (length (marks P O T R x)) (longest (map (marks P O T R) xs))) (some_is e) (omega arith)
+  longest_is (x ∷ xs) r zero e = subst (λ y. length (marks P O T R y) ≤ max (length (marks P O T R x))
+      (longest (map (marks P O T R) xs))) (some_is e) (omega arith)
   longest_is (x ∷ xs) r (suc i) e = let h = longest_is xs r i e in omega (arith, h)
 
   -- no mark of a member is bad
@@ -88,17 +90,24 @@ module _ (P : Program) (O : Objects) (T : List TraceEvent) (R : Report) where
   last_mark r q asked =
       let sign = last_sign (ending_of P q (told R O r (performed P O R r q))) in
       let here : In (signs P O R r q) (last_sign (ending_of P q (told R O r (performed P O R r q)))) =
-      in_right (map sign_of (trail_of P q (told R O r (performed P O R r q)))) (last_sign (ending_of P q (told R O r (performed P O R r q))) ∷ []) _ (0, refl) in
-      subst (λ x. In {A = MemberMark} (marks_by P O T R r x) (record { page = page_number P q; sign = last_sign (ending_of P q (told R O r (performed P O R r q))) })) (sym asked)
-      (in_map {B = MemberMark} (λ z. record { page = page_number P q; sign = z }) (signs P O R r q) (last_sign (ending_of P q (told R O r (performed P O R r q)))) here)
+      in_right (map sign_of (trail_of P q (told R O r (performed P O R r q))))
+      (last_sign (ending_of P q (told R O r (performed P O R r q))) ∷ []) _ (0, refl) in
+      subst (λ x. In {A = MemberMark} (marks_by P O T R r x)
+      (record { page = page_number P q; sign = last_sign (ending_of P q (told R O r (performed P O R r q))) }))
+      (sym asked)
+      (in_map {B = MemberMark} (λ z. record { page = page_number P q; sign = z }) (signs P O R r q)
+      (last_sign (ending_of P q (told R O r (performed P O R r q)))) here)
 
-  ends_well : (r : ℕ) (e : Ending) (y : Option Response) (page : Option ℕ) → is_bad (Some (record { page = page; sign = last_sign e })) ≡ false → gives e y ≡ true → (x : Response) × (path : Path) × (e ≡ Ends x path) × (y ≡ Some x)
+  ends_well : (r : ℕ) (e : Ending) (y : Option Response) (page : Option ℕ)
+      → is_bad (Some (record { page = page; sign = last_sign e })) ≡ false → gives e y ≡ true
+      → (x : Response) × (path : Path) × (e ≡ Ends x path) × (y ≡ Some x)
   ends_well r (Wants op) y page b t = absurd (true≢false b)
   ends_well r Undefined y page b t = absurd (true≢false b)
   ends_well r (Ends x path) None page b t = absurd (true≢false (sym t))
   ends_well r (Ends x path) (Some y) page b t = (x, path, refl, ap (λ z. Some z) (sym (response_is x y t)))
 
-  pub sound_member : (n : ℕ) (g : List ℕ) (r i : ℕ) (q : Request) → group_fault P O T R n g ≡ None → nth g i ≡ Some r → request_of T r ≡ Some q → IsSoundMember P O T R r q
+  pub sound_member : (n : ℕ) (g : List ℕ) (r i : ℕ) (q : Request) → group_fault P O T R n g ≡ None → nth g i ≡ Some r
+      → request_of T r ≡ Some q → IsSoundMember P O T R r q
   unfolding group_fault
   sound_member n g r i q h at_i asked =
       let later = or_none (first_answer (mark_fault P O T R n g) (numbers 0 (longest (map (marks P O T R) g)))) _ h in
@@ -107,7 +116,8 @@ module _ (P : Program) (O : Objects) (T : List TraceEvent) (R : Report) where
       let most : performed P O R r q ≤ 0 + count_of R r = (good_at_least (is_good P O R r q) 0 (count_of R r)).1 in
       let all : performed P O R r q ≡ count_of R r = omega arith in
       let responds : gives (ending_of P q (told R O r (performed P O R r q))) (response_of T r) ≡ true =
-      subst (λ x. gives (end_by P O T R r x) (response_of T r) ≡ true) asked (not-false _ (answer_none _ _ (first_none (if_unlike P O T R) g i r parts.1 at_i))) in
+      subst (λ x. gives (end_by P O T R r x) (response_of T r) ≡ true) asked
+      (not-false _ (answer_none _ _ (first_none (if_unlike P O T R) g i r parts.1 at_i))) in
       let m = last_mark r q asked in
       let fine : is_bad (Some (record { page = page_number P q; sign = last_sign (ending_of P q (told R O r (performed P O R r q))) })) ≡ false =
       ap is_bad (sym m.1) ∙ no_bad n g r i m.0 h at_i in

@@ -43,7 +43,9 @@ module _ (x : Node) where
   without_rest [] y i e = absurd (none_is_not e)
   without_rest (z ∷ xs) y i e = go (same_node x z) refl i e (λ j. without_rest xs y j)
     where
-      go : (b : Bool) → same_node x z ≡ b → (j : ℕ) → nth (z ∷ xs) j ≡ Some y → ((k : ℕ) → nth xs k ≡ Some y → (x ≡ y) ⊎ In (without x xs) y) → (x ≡ y) ⊎ In (cond b xs (z ∷ without x xs)) y
+      go : (b : Bool) → same_node x z ≡ b → (j : ℕ) → nth (z ∷ xs) j ≡ Some y
+          → ((k : ℕ) → nth xs k ≡ Some y → (x ≡ y) ⊎ In (without x xs) y)
+          → (x ≡ y) ⊎ In (cond b xs (z ∷ without x xs)) y
       go true p zero h rest = inl (same_node_is x z p ∙ some_is h)
       go true p (suc j) h rest = inr (j, h)
       go false p zero h rest = inr (0, h)
@@ -53,7 +55,9 @@ module _ (x : Node) where
   without_length [] i e = absurd (none_is_not e)
   without_length (z ∷ xs) i e = go (same_node x z) refl i e (λ j. without_length xs j)
     where
-      go : (b : Bool) → same_node x z ≡ b → (j : ℕ) → nth (z ∷ xs) j ≡ Some x → ((k : ℕ) → nth xs k ≡ Some x → suc (length (without x xs)) ≡ length xs) → suc (length (cond b xs (z ∷ without x xs))) ≡ suc (length xs)
+      go : (b : Bool) → same_node x z ≡ b → (j : ℕ) → nth (z ∷ xs) j ≡ Some x
+          → ((k : ℕ) → nth xs k ≡ Some x → suc (length (without x xs)) ≡ length xs)
+          → suc (length (cond b xs (z ∷ without x xs))) ≡ suc (length xs)
       go true p j h rest = refl
       go false p zero h rest = absurd (true≢false (sym (same_node_itself x) ∙ ap (same_node x) (sym (some_is h)) ∙ p))
       go false p (suc j) h rest = ap suc (rest j h)
@@ -84,7 +88,13 @@ pub record OrderOf (E : List Edge) (left N : List Node) : Type 0 where
   pub apart : Apart left → Apart N
 
 order_none : (E : List Edge) (left : List Node) → length left ≡ 0 → OrderOf E left []
-order_none E [] l = record { all = λ x i e. absurd (none_is_not e); only = λ x i e. absurd (none_is_not e); after = λ x y i j m a b. absurd (none_is_not a); apart = λ h. h }
+order_none E [] l = record {
+  all = λ x i e. absurd (none_is_not e);
+  only = λ x i e. absurd
+      (none_is_not e);
+  after = λ x y i j m a b. absurd (none_is_not a);
+  apart = λ h. h;
+}
 order_none E (z ∷ left) l = absurd (omega arith)
 
 order_more : (E : List Edge) (left N : List Node) (x : Node) → is_free E left x ≡ true → In left x → OrderOf E (without x left) N → OrderOf E left (x ∷ N)
@@ -115,11 +125,13 @@ pub ordered_is : (E : List Edge) (n : ℕ) (left N : List Node) → length left 
 ordered_is E zero left N l e = subst (OrderOf E left) (some_is e) (order_none E left l)
 ordered_is E (suc n) left N l e = picked (first_answer (λ x. answer_if (is_free E left x) x) left) refl e (λ rest M. ordered_is E n rest M)
   where
-    joined : (x : Node) → is_free E left x ≡ true → In left x → (o : Option (List Node)) → ((M : List Node) → o ≡ Some M → OrderOf E (without x left) M) → with_first x o ≡ Some N → OrderOf E left N
+    joined : (x : Node) → is_free E left x ≡ true → In left x → (o : Option (List Node))
+        → ((M : List Node) → o ≡ Some M → OrderOf E (without x left) M) → with_first x o ≡ Some N → OrderOf E left N
     joined x free here None rest h = absurd (none_is_not h)
     joined x free here (Some M) rest h = subst (OrderOf E left) (some_is h) (order_more E left M x free here (rest M refl))
 
-    picked : (o : Option Node) → first_answer (λ x. answer_if (is_free E left x) x) left ≡ o → elim o [ None ↦ None | Some x ↦ with_first x (ordered E n (without x left)) ] ≡ Some N
+    picked : (o : Option Node) → first_answer (λ x. answer_if (is_free E left x) x) left ≡ o
+        → elim o [ None ↦ None | Some x ↦ with_first x (ordered E n (without x left)) ] ≡ Some N
         → ((rest M : List Node) → length rest ≡ n → ordered E n rest ≡ Some M → OrderOf E rest M) → OrderOf E left N
     picked None p h rest = absurd (none_is_not h)
     picked (Some x) p h rest =

@@ -96,7 +96,8 @@ befores_from_at past (y ∷ ys) (suc k) x h = befores_from_at (past ++ y ∷ [])
 pub befores_at : {A : Type 0} (xs : List A) (i : ℕ) (x : A) → nth xs i ≡ Some x → nth (befores xs) i ≡ Some (take i xs, x)
 befores_at xs i x e = befores_from_at [] xs i x e
 
-pub befores_from_back : {A : Type 0} (past ys : List A) (k : ℕ) (b : List A × A) → nth (befores_from past ys) k ≡ Some b → (nth ys k ≡ Some b.1) × (past ++ take k ys ≡ b.0)
+pub befores_from_back : {A : Type 0} (past ys : List A) (k : ℕ) (b : List A × A)
+    → nth (befores_from past ys) k ≡ Some b → (nth ys k ≡ Some b.1) × (past ++ take k ys ≡ b.0)
 befores_from_back past [] k b h = absurd (none_is_not h)
 befores_from_back past (y ∷ ys) zero b h = (ap (λ w. Some w.1) (some_is h), append-nil past ∙ ap (λ w. w.0) (some_is h))
 befores_from_back past (y ∷ ys) (suc k) b h =

@@ -45,7 +45,9 @@ left_more [] x y = by (same_node y x)
     by false = refl
 left_more (z ∷ xs) x y = by (same_node y z) (left_more xs x y)
   where
-    by : (b : Bool) → is_left (xs ++ x ∷ []) y ≡ (is_left xs y && not (same_node y x)) → not (b || list_any (same_node y) (xs ++ x ∷ [])) ≡ (not (b || list_any (same_node y) xs) && not (same_node y x))
+    by : (b : Bool) → is_left (xs ++ x ∷ []) y ≡ (is_left xs y && not (same_node y x))
+        → not (b || list_any (same_node y) (xs ++ x ∷ []))
+        ≡ (not (b || list_any (same_node y) xs) && not (same_node y x))
     by true h = refl
     by false h = h
 
@@ -64,14 +66,19 @@ same_filter xs (z ∷ ns) x n = go (is_left (xs ++ x ∷ []) z) (is_left xs z) s
     same : is_left (xs ++ x ∷ []) z ≡ is_left xs z
     same = left_more xs x z ∙ ap (λ b. is_left xs z && not b) other ∙ and_true (is_left xs z)
 
-    go : (a b : Bool) → a ≡ b → filter (is_left (xs ++ x ∷ [])) ns ≡ filter (is_left xs) ns → cond a (z ∷ filter (is_left (xs ++ x ∷ [])) ns) (filter (is_left (xs ++ x ∷ [])) ns) ≡ cond b (z ∷ filter (is_left xs) ns) (filter (is_left xs) ns)
+    go : (a b : Bool) → a ≡ b → filter (is_left (xs ++ x ∷ [])) ns ≡ filter (is_left xs) ns
+        → cond a (z ∷ filter (is_left (xs ++ x ∷ [])) ns) (filter (is_left (xs ++ x ∷ [])) ns)
+        ≡ cond b (z ∷ filter (is_left xs) ns) (filter (is_left xs) ns)
     go a b e h i = cond (e i) (z ∷ h i) (h i)
 
-without_left : (xs ns : List Node) (x : Node) → Apart ns → is_left xs x ≡ true → In ns x → without x (filter (is_left xs) ns) ≡ filter (is_left (xs ++ x ∷ [])) ns
+without_left : (xs ns : List Node) (x : Node) → Apart ns → is_left xs x ≡ true → In ns x
+    → without x (filter (is_left xs) ns) ≡ filter (is_left (xs ++ x ∷ [])) ns
 without_left xs [] x apart left m = absurd (none_is_not m.1)
 without_left xs (z ∷ ns) x apart left m = go (is_left xs z) refl (same_node x z) refl (λ h. without_left xs ns x (apart_rest z ns apart) left h)
   where
-    more : (b : Bool) → is_left (xs ++ x ∷ []) z ≡ b → filter (is_left (xs ++ x ∷ [])) (z ∷ ns) ≡ cond b (z ∷ filter (is_left (xs ++ x ∷ [])) ns) (filter (is_left (xs ++ x ∷ [])) ns)
+    more : (b : Bool) → is_left (xs ++ x ∷ []) z ≡ b
+        → filter (is_left (xs ++ x ∷ [])) (z ∷ ns)
+        ≡ cond b (z ∷ filter (is_left (xs ++ x ∷ [])) ns) (filter (is_left (xs ++ x ∷ [])) ns)
     more b e = ap (λ c. cond c (z ∷ filter (is_left (xs ++ x ∷ [])) ns) (filter (is_left (xs ++ x ∷ [])) ns)) e
 
     later : (same_node x z ≡ false) → In ns x
@@ -88,7 +95,10 @@ without_left xs (z ∷ ns) x apart left m = go (is_left xs z) refl (same_node x 
       | inr h ↦ h
     ]
 
-    go : (a : Bool) → is_left xs z ≡ a → (b : Bool) → same_node x z ≡ b → (In ns x → without x (filter (is_left xs) ns) ≡ filter (is_left (xs ++ x ∷ [])) ns) → without x (cond a (z ∷ filter (is_left xs) ns) (filter (is_left xs) ns)) ≡ filter (is_left (xs ++ x ∷ [])) (z ∷ ns)
+    go : (a : Bool) → is_left xs z ≡ a → (b : Bool) → same_node x z ≡ b
+        → (In ns x → without x (filter (is_left xs) ns) ≡ filter (is_left (xs ++ x ∷ [])) ns)
+        → without x (cond a (z ∷ filter (is_left xs) ns) (filter (is_left xs) ns))
+        ≡ filter (is_left (xs ++ x ∷ [])) (z ∷ ns)
     go true e true f rest =
         ap (λ c. cond c (filter (is_left xs) ns) (z ∷ without x (filter (is_left xs) ns))) f
         ∙ sym (same_filter xs ns x (λ h. apart_head z ns apart (h.0, h.1 ∙ ap (λ y. Some y) (same_node_is x z f))))
@@ -114,8 +124,10 @@ first_left : {A B : Type 0} (f : A → Option B) (p : A → Bool) (ns : List A) 
 unfolding first_answer or_else
 first_left f p [] i x y at_x left gives none = absurd (none_is_not at_x)
 first_left {A} {B} f p (z ∷ ns) zero x y at_x left gives none =
-    ap (λ b. first_answer f (cond b (z ∷ filter p ns) (filter p ns))) (ap p (some_is at_x) ∙ left) ∙ ap (λ o. or_else o (first_answer f (filter p ns))) (ap f (some_is at_x) ∙ gives)
-first_left {A} {B} f p (z ∷ ns) (suc i) x y at_x left gives none = go (p z) refl (first_left f p ns i x y at_x left gives (λ j w l h k. none (suc j) w (omega arith) h k))
+    ap (λ b. first_answer f (cond b (z ∷ filter p ns) (filter p ns))) (ap p (some_is at_x) ∙ left)
+    ∙ ap (λ o. or_else o (first_answer f (filter p ns))) (ap f (some_is at_x) ∙ gives)
+first_left {A} {B} f p (z ∷ ns) (suc i) x y at_x left gives none =
+    go (p z) refl (first_left f p ns i x y at_x left gives (λ j w l h k. none (suc j) w (omega arith) h k))
   where
     go : (b : Bool) → p z ≡ b → first_answer f (filter p ns) ≡ Some y → first_answer f (cond b (z ∷ filter p ns) (filter p ns)) ≡ Some y
     go true e h = ap (λ o. or_else o (first_answer f (filter p ns))) (none 0 z (omega arith) refl e) ∙ h
@@ -131,7 +143,8 @@ module _ (all : List Edge) (ns : List Node) (apart : Apart ns) where
   left xs = filter (is_left xs) ns
 
   free_if : (xs : List Node) (x : Node) → MayComeNext all ns xs x → is_free all (left xs) x ≡ true
-  free_if xs x may = ap not (false_any (λ e. same_node x e.1 && list_any (same_node e.0) (left xs)) all (λ i e at_e. by e (same_node x e.1) refl (list_any (same_node e.0) (left xs)) refl (i, at_e)))
+  free_if xs x may = ap not (false_any (λ e. same_node x e.1 && list_any (same_node e.0) (left xs)) all
+      (λ i e at_e. by e (same_node x e.1) refl (list_any (same_node e.0) (left xs)) refl (i, at_e)))
     where
       by : (e : Edge) (a : Bool) → same_node x e.1 ≡ a → (b : Bool) → list_any (same_node e.0) (left xs) ≡ b → In all e → (a && b) ≡ false
       by e false p b q m = refl
@@ -156,7 +169,8 @@ module _ (all : List Edge) (ns : List Node) (apart : Apart ns) where
 
   least_is : (xs : List Node) (x : Node) → ComesNext all ns xs x → least_free all (left xs) ≡ Some x
   unfolding answer_if
-  least_is xs x next = first_left (λ y. answer_if (is_free all (left xs) y) y) (is_left xs) ns next.may.there.0 x x next.may.there.1 (left_or_in xs x next.may.left)
+  least_is xs x next = first_left (λ y. answer_if (is_free all (left xs) y) y)
+      (is_left xs) ns next.may.there.0 x x next.may.there.1 (left_or_in xs x next.may.left)
       (ap (λ b. cond b (Some x) None) (free_if xs x next.may))
       (λ j z low at_z out. elim (cases_Bool (is_free all (left xs) z)) [
         | inl e ↦ let h = next.least z next.may.there.0 j (may_if xs z (j, at_z) out e) next.may.there.1 at_z in absurd (omega (arith, low))
@@ -192,26 +206,32 @@ module _ (all : List Edge) (ns : List Node) (apart : Apart ns) where
       ∙ ap (λ l. with_first x (ordered all (length rest) l)) (step_left xs x next)
       ∙ ap (with_first x) (all_placed rest (xs ++ x ∷ []) (rest_goes xs x rest goes))
 
-  none_placed : (rest xs : List Node) (n : ℕ) → Goes xs rest → ((x : Node) → MayComeNext all ns (xs ++ rest) x → ⊥) → ordered all (beyond rest n) (left xs) ≡ None
+  none_placed : (rest xs : List Node) (n : ℕ) → Goes xs rest → ((x : Node) → MayComeNext all ns (xs ++ rest) x → ⊥)
+      → ordered all (beyond rest n) (left xs) ≡ None
   unfolding beyond
   none_placed [] xs n goes none = ap (next_of n (left xs)) (none_is xs (subst (λ ys. (x : Node) → MayComeNext all ns ys x → ⊥) (append-nil xs) none))
   none_placed (x ∷ rest) xs n goes none =
       let next = first_goes xs x rest goes in
       ap (next_of (beyond rest n) (left xs)) (least_is xs x next)
       ∙ ap (λ l. with_first x (ordered all (beyond rest n) l)) (step_left xs x next)
-      ∙ ap (with_first x) (none_placed rest (xs ++ x ∷ []) n (rest_goes xs x rest goes) (subst (λ ys. (x : Node) → MayComeNext all ns ys x → ⊥) (sym (append_assoc xs (x ∷ []) rest)) none))
+      ∙ ap (with_first x) (none_placed rest (xs ++ x ∷ []) n (rest_goes xs x rest goes)
+      (subst (λ ys. (x : Node) → MayComeNext all ns ys x → ⊥) (sym (append_assoc xs (x ∷ []) rest)) none))
 
   abbrev over_of : ℕ → List Node → Option Node → List Node
   over_of n l o = elim o [ None ↦ l | Some x ↦ left_over all n (without x l) ]
 
-  others_left : (rest xs : List Node) (n : ℕ) → Goes xs rest → ((x : Node) → MayComeNext all ns (xs ++ rest) x → ⊥) → left_over all (beyond rest n) (left xs) ≡ left (xs ++ rest)
+  others_left : (rest xs : List Node) (n : ℕ) → Goes xs rest → ((x : Node) → MayComeNext all ns (xs ++ rest) x → ⊥)
+      → left_over all (beyond rest n) (left xs) ≡ left (xs ++ rest)
   unfolding beyond
-  others_left [] xs n goes none = ap (over_of n (left xs)) (none_is xs (subst (λ ys. (x : Node) → MayComeNext all ns ys x → ⊥) (append-nil xs) none)) ∙ ap left (sym (append-nil xs))
+  others_left [] xs n goes none = ap (over_of n (left xs))
+      (none_is xs (subst (λ ys. (x : Node) → MayComeNext all ns ys x → ⊥) (append-nil xs) none))
+      ∙ ap left (sym (append-nil xs))
   others_left (x ∷ rest) xs n goes none =
       let next = first_goes xs x rest goes in
       ap (over_of (beyond rest n) (left xs)) (least_is xs x next)
       ∙ ap (left_over all (beyond rest n)) (step_left xs x next)
-      ∙ others_left rest (xs ++ x ∷ []) n (rest_goes xs x rest goes) (subst (λ ys. (x : Node) → MayComeNext all ns ys x → ⊥) (sym (append_assoc xs (x ∷ []) rest)) none)
+      ∙ others_left rest (xs ++ x ∷ []) n (rest_goes xs x rest goes)
+      (subst (λ ys. (x : Node) → MayComeNext all ns ys x → ⊥) (sym (append_assoc xs (x ∷ []) rest)) none)
       ∙ ap left (append_assoc xs (x ∷ []) rest)
 
 all_left : (ns : List Node) → filter (is_left []) ns ≡ ns

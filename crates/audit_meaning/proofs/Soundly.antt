@@ -6,12 +6,12 @@ use Rattle.basis.proofs.Places.{any_true}
 use Rattle.script_tree.specs.Programs.{Program}
 use Rattle.audit_meaning.specs.Lists.{befores}
 use Rattle.script_tree.specs.Requests.{Request}
-use Rattle.script_tree.specs.declared.trace.TraceEvent.{TraceEvent}
-use Rattle.script_tree.specs.declared.trace.TraceEvent.TheVariants.{Asked}
-use Rattle.report.specs.declared.Report.{Report}
-use Rattle.script_tree.specs.declared.schedule.Moment.{Moment}
+use Rattle.period.specs.declared.trace.TraceEvent.{TraceEvent}
+use Rattle.period.specs.declared.trace.TraceEvent.TheVariants.{Asked}
+use Rattle.period.specs.declared.report.Report.{Report}
+use Rattle.period.specs.declared.schedule.Moment.{Moment}
 use Rattle.script_tree.specs.Objects.{Objects}
-use Rattle.script_tree.specs.Traces.{request_of}
+use Rattle.period.specs.Traces.{request_of}
 use Rattle.script_meaning.specs.Explains.{Explains}
 use Rattle.audit_meaning.specs.Nodes.{Node, moment}
 use Rattle.audit_meaning.specs.Groups.{group_fault, unsound_group}
@@ -34,7 +34,9 @@ abbrev schedule_of : Verdict → List Moment
 schedule_of (Accepted S v n) = S
 schedule_of (Rejected r) = []
 
-accepted_parts : (a : Option Reason) (C : List Node) (n : Option (List Node)) (l : Option Reason) (R : Report) (evaluated steps : ℕ) (S : List Moment) (v k : ℕ) → judged a C n l R evaluated steps ≡ Accepted S v k → (N : List Node) × (a ≡ None) × (n ≡ Some N) × (l ≡ None) × (map (moment R) N ≡ S)
+accepted_parts : (a : Option Reason) (C : List Node) (n : Option (List Node)) (l : Option Reason) (R : Report)
+    (evaluated steps : ℕ) (S : List Moment) (v k : ℕ) → judged a C n l R evaluated steps ≡ Accepted S v k
+    → (N : List Node) × (a ≡ None) × (n ≡ Some N) × (l ≡ None) × (map (moment R) N ≡ S)
 accepted_parts (Some r) C n l R evaluated steps S v k e = absurd (subst IsAccepted (sym e) tt)
 accepted_parts None C None l R evaluated steps S v k e = absurd (subst IsAccepted (sym e) tt)
 accepted_parts None C (Some N) (Some r) R evaluated steps S v k e = absurd (subst IsAccepted (sym e) tt)
@@ -52,7 +54,8 @@ module _ (P : Program) (O : Objects) (T : List TraceEvent) (R : Report) where
       let from = in_flat_back (λ (g : List ℕ). g) R.groups m.0 m.1.0 m.1.1 in
       let g = from.0 in
       let none : group_fault P O T R (length (take from.1.0 R.groups)) g ≡ None =
-      first_none (λ b. group_fault P O T R (length b.0) b.1) (befores R.groups) from.1.0 (take from.1.0 R.groups, g) k (befores_at R.groups from.1.0 g from.1.1) in
+      first_none (λ b. group_fault P O T R (length b.0) b.1) (befores R.groups) from.1.0 (take from.1.0 R.groups, g) k
+      (befores_at R.groups from.1.0 g from.1.1) in
       sound_member P O T R (length (take from.1.0 R.groups)) g r from.2.0 q none (from.2.1 ∙ ap (λ x. Some x) (sym (eqb-true r m.0 m.2))) asked_q
 
   all_facts : Checked P O T R → ((r : ℕ) (q : Request) → request_of T r ≡ Some q → IsSoundMember P O T R r q) → Facts P O T R

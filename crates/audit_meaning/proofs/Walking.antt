@@ -19,7 +19,8 @@ use Rattle.audit_meaning.proofs.GraphOrder.{apart_nodes}
 
 -- ---- first answers, and tests that pass
 
-first_at : {A B : Type 0} (f : A → Option B) (xs : List A) (i : ℕ) (x : A) (y : B) → nth xs i ≡ Some x → f x ≡ Some y → ((j : ℕ) (z : A) → j < i → nth xs j ≡ Some z → f z ≡ None) → first_answer f xs ≡ Some y
+first_at : {A B : Type 0} (f : A → Option B) (xs : List A) (i : ℕ) (x : A) (y : B) → nth xs i ≡ Some x → f x ≡ Some y
+    → ((j : ℕ) (z : A) → j < i → nth xs j ≡ Some z → f z ≡ None) → first_answer f xs ≡ Some y
 unfolding first_answer or_else
 first_at f [] i x y at_x gives none = absurd (none_is_not at_x)
 first_at f (z ∷ xs) zero x y at_x gives none = ap (λ o. or_else o (first_answer f xs)) (ap f (some_is at_x) ∙ gives)
@@ -115,7 +116,8 @@ record Split (y : Node) (r cycle : List Node) (m : Node) : Type 0 where
   ring : y ∷ r ≡ a ++ m ∷ d
   is : cycle ≡ m ∷ d ++ a
 
-split : (y : Node) (r cycle : List Node) (m : Node) (front back : List Node) → r ++ y ∷ [] ≡ back ++ front → cycle ≡ front ++ back → nth cycle 0 ≡ Some m → Split y r cycle m
+split : (y : Node) (r cycle : List Node) (m : Node) (front back : List Node) → r ++ y ∷ [] ≡ back ++ front
+    → cycle ≡ front ++ back → nth cycle 0 ≡ Some m → Split y r cycle m
 split y r cycle m [] back whole is begins = whole_back r (whole ∙ append-nil back)
   where
     whole_back : (s : List Node) → s ++ y ∷ [] ≡ back → Split y s cycle m
@@ -143,7 +145,8 @@ split y r cycle m (x ∷ f) back whole is begins = elim (last_of f) [
         a = y ∷ back;
         d = g;
         ring = ap (λ l. y ∷ l) s.0 ∙ ap (λ w. y ∷ back ++ w ∷ g) head;
-        is = is ∙ ap (λ k. x ∷ k ++ back) (h.2 ∙ ap (λ w. g ++ w ∷ []) (sym s.1)) ∙ ap (λ w. w ∷ (g ++ y ∷ []) ++ back) head ∙ ap (λ l. m ∷ l) (append_assoc g (y ∷ []) back);
+        is = is ∙ ap (λ k. x ∷ k ++ back) (h.2 ∙ ap (λ w. g ++ w ∷ []) (sym s.1))
+            ∙ ap (λ w. w ∷ (g ++ y ∷ []) ++ back) head ∙ ap (λ l. m ∷ l) (append_assoc g (y ∷ []) back);
       }
 ]
   where
@@ -175,9 +178,12 @@ module _ (direct : List Edge) (left : List Node) where
   unfolding answer_if
   before_is x y h = first_at (λ z. answer_if (list_any (λ e. same_node e.0 z && same_node e.1 x) direct) z) left h.place y y h.there
       (ap (λ b. cond b (Some y) None) (passes (λ e. same_node e.0 y && same_node e.1 x) direct (y, x) h.edge (and_from (same_node y y) (same_node x x) (same_node_itself y) (same_node_itself x))))
-      (λ j z low at_z. ap (λ b. cond b (Some z) None) (false_any (λ e. same_node e.0 z && same_node e.1 x) direct (λ i e at_e. no j z low at_z i e at_e (same_node e.0 z) refl (same_node e.1 x) refl)))
+      (λ j z low at_z. ap (λ b. cond b (Some z) None)
+      (false_any (λ e. same_node e.0 z && same_node e.1 x) direct
+      (λ i e at_e. no j z low at_z i e at_e (same_node e.0 z) refl (same_node e.1 x) refl)))
     where
-      no : (j : ℕ) (z : Node) → j < h.place → nth left j ≡ Some z → (i : ℕ) (e : Edge) → nth direct i ≡ Some e → (a : Bool) → same_node e.0 z ≡ a → (b : Bool) → same_node e.1 x ≡ b → (a && b) ≡ false
+      no : (j : ℕ) (z : Node) → j < h.place → nth left j ≡ Some z → (i : ℕ) (e : Edge) → nth direct i ≡ Some e
+          → (a : Bool) → same_node e.0 z ≡ a → (b : Bool) → same_node e.1 x ≡ b → (a && b) ≡ false
       no j z low at_z i e at_e false p b q = refl
       no j z low at_z i e at_e true p false q = refl
       no j z low at_z i e at_e true p true q =
@@ -204,12 +210,15 @@ module _ (direct : List Edge) (left : List Node) where
       by z m zero e = apart_head x rest a (m.0, m.1 ∙ ap (λ w. Some w) (sym (some_is e)))
       by z m (suc i) e = n z (suc m.0, m.1) (i, e)
 
-  linked : (x : Node) (rest : List Node) (end y : Node) → ((k : ℕ) (a b : Node) → nth (x ∷ rest) k ≡ Some a → nth (x ∷ rest) (suc k) ≡ Some b → HoldsBack direct left a b)
+  linked : (x : Node) (rest : List Node) (end y : Node)
+      → ((k : ℕ) (a b : Node) → nth (x ∷ rest) k ≡ Some a → nth (x ∷ rest) (suc k) ≡ Some b
+      → HoldsBack direct left a b)
       → last (x ∷ rest) ≡ Some end → HoldsBack direct left end y → Linked x rest y
   linked x [] end y steps ends closes = ap before (some_is ends) ∙ before_is end y closes
   linked x (z ∷ rest) end y steps ends closes = (before_is x z (steps 0 x z refl refl), linked z rest end y (λ k a b p q. steps (suc k) a b p q) ends closes)
 
-  walked_on : (x : Node) (rest trail : List Node) (n : ℕ) (y : Node) → Fresh trail (x ∷ rest) → Linked x rest y → suc (length rest) < n → In (onto (x ∷ rest) trail) y
+  walked_on : (x : Node) (rest trail : List Node) (n : ℕ) (y : Node) → Fresh trail (x ∷ rest) → Linked x rest y
+      → suc (length rest) < n → In (onto (x ∷ rest) trail) y
       → walked direct left n trail (Some x) ≡ y ∷ until y (onto (x ∷ rest) trail)
   walked_on x rest trail zero y new links l m = absurd (omega (arith, l))
   walked_on x [] trail (suc zero) y new links l m = absurd (omega (arith, l))
@@ -231,12 +240,14 @@ module _ (direct : List Edge) (left : List Node) where
     all_left zero x e = (0, sym c.walk.starts ∙ e)
     all_left (suc i) x e = by i (c.before ++ c.again ∷ c.after) (λ a b p q. c.walk.steps i a b p q) e
       where
-        by : (i : ℕ) (xs : List Node) → ((a b : Node) → nth xs i ≡ Some a → nth xs (suc i) ≡ Some b → HoldsBack direct left a b) → nth xs (suc i) ≡ Some x → In left x
+        by : (i : ℕ) (xs : List Node) → ((a b : Node) → nth xs i ≡ Some a → nth xs (suc i) ≡ Some b
+            → HoldsBack direct left a b) → nth xs (suc i) ≡ Some x → In left x
         by i [] steps e = absurd (none_is_not e)
         by zero (z ∷ xs) steps e = let h = steps z x refl e in (h.place, h.there)
         by (suc i) (z ∷ xs) steps e = by i xs steps e
 
-    walk_from : (xs : List Node) → xs ≡ c.before ++ c.again ∷ c.after → walked direct left (length left + 1) [] (nth xs 0) ≡ c.again ∷ until c.again (onto xs [])
+    walk_from : (xs : List Node) → xs ≡ c.before ++ c.again ∷ c.after
+        → walked direct left (length left + 1) [] (nth xs 0) ≡ c.again ∷ until c.again (onto xs [])
     walk_from [] e = absurd (no c.before e)
       where
         no : (a : List Node) → [] ≡ a ++ c.again ∷ c.after → ⊥
@@ -277,14 +288,17 @@ module _ (direct : List Edge) (left : List Node) where
         ∙ sym (onto_is c.after [] ∙ append-nil (reverse c.after))
 
     walked_is : walked direct left (length left + 1) [] (nth left 0) ≡ ring
-    walked_is = ap (walked direct left (length left + 1) []) (sym c.walk.starts) ∙ walk_from (c.before ++ c.again ∷ c.after) refl ∙ ap (λ l. c.again ∷ l) until_again
+    walked_is = ap (walked direct left (length left + 1) []) (sym c.walk.starts)
+        ∙ walk_from (c.before ++ c.again ∷ c.after) refl ∙ ap (λ l. c.again ∷ l) until_again
 
     ring_apart : Apart ring
-    ring_apart = apart_more c.again (onto c.after []) (λ m. again_after (in_after c.again m)) (onto_apart c.after [] after_apart (λ x i j a b. absurd (none_is_not a)) (λ z m k. none_is_not k.1))
+    ring_apart = apart_more c.again (onto c.after []) (λ m. again_after (in_after c.again m))
+        (onto_apart c.after [] after_apart (λ x i j a b. absurd (none_is_not a)) (λ z m k. none_is_not k.1))
 
     parts : Split c.again (onto c.after []) cycle c.first
     parts = split c.again (onto c.after []) cycle c.first c.turned.0 c.turned.1
-        (ap (λ l. l ++ c.again ∷ []) (onto_is c.after [] ∙ append-nil (reverse c.after)) ∙ sym (reverse-append (c.again ∷ []) c.after) ∙ c.turned.2) c.turned.3 c.begins
+        (ap (λ l. l ++ c.again ∷ []) (onto_is c.after [] ∙ append-nil (reverse c.after))
+        ∙ sym (reverse-append (c.again ∷ []) c.after) ∙ c.turned.2) c.turned.3 c.begins
 
     -- the least node stands once
     first_once : In parts.a c.first → ⊥
@@ -294,7 +308,9 @@ module _ (direct : List Edge) (left : List Node) where
       where
         by : (a : List Node) → In a c.first → Apart (a ++ c.first ∷ parts.d) → ⊥
         by [] m h = none_is_not m.1
-        by (z ∷ a) (zero, e) h = apart_head z (a ++ c.first ∷ parts.d) h (subst (λ w. In (a ++ c.first ∷ parts.d) w) (sym (some_is e)) (in_right a (c.first ∷ parts.d) c.first (0, refl)))
+        by (z ∷ a) (zero, e) h = apart_head z (a ++ c.first ∷ parts.d) h
+            (subst (λ w. In (a ++ c.first ∷ parts.d) w) (sym (some_is e))
+            (in_right a (c.first ∷ parts.d) c.first (0, refl)))
         by (z ∷ a) (suc i, e) h = by a (i, e) (apart_rest z (a ++ c.first ∷ parts.d) h)
 
     ring_in_cycle : (z : Node) → In ring z → In cycle z
@@ -339,7 +355,8 @@ over_apart : (all : List Edge) (n : ℕ) (left : List Node) → Apart left → A
 over_apart all zero left a = λ x i j p q. absurd (none_is_not p)
 over_apart all (suc n) left a = by (least_free all left) (λ x. over_apart all n (without x left) (without_apart x left a))
   where
-    by : (o : Option Node) → ((x : Node) → Apart (left_over all n (without x left))) → Apart (elim o [ None ↦ left | Some x ↦ left_over all n (without x left) ])
+    by : (o : Option Node) → ((x : Node) → Apart (left_over all n (without x left)))
+        → Apart (elim o [ None ↦ left | Some x ↦ left_over all n (without x left) ])
     by None rest = a
     by (Some x) rest = rest x
 

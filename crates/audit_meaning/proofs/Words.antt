@@ -7,9 +7,9 @@ use Rattle.script_tree.specs.declared.operation.Object.TheVariants.{Register, St
 use Rattle.script_tree.specs.Datum.{Datum}
 use Rattle.basis.specs.Lists.{nth}
 use Rattle.basis.proofs.Options.{some_is, none_is_not}
-use Rattle.report.specs.declared.LogEntry.{LogEntry}
+use Rattle.period.specs.declared.report.LogEntry.{LogEntry}
 use Rattle.script_tree.specs.Objects.{Cell, Objects, acted, is_same, holding}
-use Rattle.report.specs.LeftBy.{left_by}
+use Rattle.period.specs.LeftBy.{left_by}
 use Rattle.script_meaning.specs.Replay.{with_request}
 use Rattle.audit_meaning.specs.Nodes.{Node, step, close, node_at}
 
@@ -47,7 +47,8 @@ map_nth f (y ∷ xs) (suc i) x e = map_nth f xs i x e
 
 -- ---- folds
 
-pub folded_more : (es : List LogEntry) (i : ℕ) (e : LogEntry) (cell : Cell) → nth es i ≡ Some e → left_by (take (suc i) es) cell ≡ (acted e.act e.choice (left_by (take i es) cell)).0
+pub folded_more : (es : List LogEntry) (i : ℕ) (e : LogEntry) (cell : Cell) → nth es i ≡ Some e
+    → left_by (take (suc i) es) cell ≡ (acted e.act e.choice (left_by (take i es) cell)).0
 folded_more [] i e cell h = absurd (none_is_not h)
 folded_more (x ∷ es) zero e cell h = ap (λ y. (acted y.act y.choice cell).0) (some_is h)
 folded_more (x ∷ es) (suc i) e cell h = folded_more es i e (acted x.act x.choice cell).0 h

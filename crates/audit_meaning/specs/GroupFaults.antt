@@ -2,10 +2,10 @@
 use Rattle.std.specs.Prelude.{ℕ, not, List, flat_map, Option, None, is_none, nat_eq}
 use Rattle.std.specs.List.{list_any}
 use Rattle.basis.specs.Lists.{or_else, first_answer}
-use Rattle.script_tree.specs.Traces.{request_of}
-use Rattle.script_tree.specs.declared.trace.TraceEvent.{TraceEvent}
-use Rattle.script_tree.specs.declared.trace.TraceEvent.TheVariants.{Asked, Answered}
-use Rattle.report.specs.declared.Report.{Report}
+use Rattle.period.specs.Traces.{request_of}
+use Rattle.period.specs.declared.trace.TraceEvent.{TraceEvent}
+use Rattle.period.specs.declared.trace.TraceEvent.TheVariants.{Asked, Answered}
+use Rattle.period.specs.declared.report.Report.{Report}
 use Rattle.audit_meaning.specs.Lists.{answer_if, befores}
 use Rattle.audit_meaning.specs.declared.reason.Reason.{Reason}
 use Rattle.audit_meaning.specs.declared.reason.Reason.TheVariants.{MemberOfNoRequest, SecondMember, RequestWithoutGroup}

@@ -5,10 +5,10 @@ use Rattle.basis.specs.Lists.{nth, or_else, first_answer}
 use Rattle.script_tree.specs.Objects.{Objects}
 use Rattle.script_tree.specs.Programs.{Program}
 use Rattle.script_tree.specs.Requests.{Request}
-use Rattle.script_tree.specs.Traces.{request_of, response_of}
+use Rattle.period.specs.Traces.{request_of, response_of}
 use Rattle.script_tree.specs.declared.request.Response.{Response}
-use Rattle.script_tree.specs.declared.trace.TraceEvent.{TraceEvent}
-use Rattle.report.specs.declared.Report.{Report}
+use Rattle.period.specs.declared.trace.TraceEvent.{TraceEvent}
+use Rattle.period.specs.declared.report.Report.{Report}
 use Rattle.script_meaning.specs.Conduct.{Ending, Wants, Ends, Undefined}
 use Rattle.script_meaning.specs.Costs.{costs_of}
 use Rattle.script_meaning.specs.GroupCost.{group_cost}
@@ -47,6 +47,7 @@ steps_to Undefined = 0
 module _ (program : Program) (start : Objects) (trace : List TraceEvent) (report : Report) where
   -- ---- a member, by its id
 
+  -- the marks of an id with this request; none without one
   abbrev pub marks_by : ℕ → Option Request → List MemberMark
   marks_by r None = []
   marks_by r (Some request) = marks_of program start report r request
@@ -55,6 +56,7 @@ module _ (program : Program) (start : Objects) (trace : List TraceEvent) (report
   unfoldable pub marks : ℕ → List MemberMark
   marks r = marks_by r (request_of trace r)
 
+  -- how many operations of an id with this request are good
   abbrev pub done_by : ℕ → Option Request → ℕ
   done_by r None = 0
   done_by r (Some request) = performed program start report r request
@@ -63,6 +65,7 @@ module _ (program : Program) (start : Objects) (trace : List TraceEvent) (report
   abbrev pub done : ℕ → ℕ
   done r = done_by r (request_of trace r)
 
+  -- how the run of an id with this request ends after these
   abbrev pub end_by : ℕ → Option Request → Ending
   end_by r None = Undefined
   end_by r (Some request) = ending_of program request (told report start r (performed program start report r request))
@@ -108,6 +111,7 @@ module _ (program : Program) (start : Objects) (trace : List TraceEvent) (report
 
   -- ---- what groups cost
 
+  -- what the steps of an id with this request are spent on, the last first
   abbrev pub costs_by : ℕ → Option Request → List Cost
   costs_by r None = []
   costs_by r (Some request) = costs_of program request (told report start r (performed program start report r request))
@@ -120,6 +124,7 @@ module _ (program : Program) (start : Objects) (trace : List TraceEvent) (report
   abbrev pub cost_of_group : List ℕ → ℕ
   cost_of_group group = group_cost (map costs group)
 
+  -- how many nodes these groups are to evaluate, where they are sound
   abbrev pub cost_of_all : List (List ℕ) → ℕ
   cost_of_all [] = 0
   cost_of_all (g ∷ gs) = cost_of_group g + cost_of_all gs

@@ -4,16 +4,16 @@ use Rattle.std.specs.List.{list_any}
 use Rattle.basis.specs.Lists.{or_else, first_answer}
 use Rattle.script_tree.specs.Objects.{Objects, is_same, plausible}
 use Rattle.script_tree.specs.Programs.{Program}
-use Rattle.script_tree.specs.Traces.{request_of}
+use Rattle.period.specs.Traces.{request_of}
 use Rattle.script_tree.specs.declared.operation.Object.{Object}
-use Rattle.script_tree.specs.declared.trace.TraceEvent.{TraceEvent}
-use Rattle.script_tree.specs.declared.trace.TraceEvent.TheVariants.{Asked, Answered}
+use Rattle.period.specs.declared.trace.TraceEvent.{TraceEvent}
+use Rattle.period.specs.declared.trace.TraceEvent.TheVariants.{Asked, Answered}
 use Rattle.script_fit.specs.OfProgram.{is_of_program, choice_is_of}
-use Rattle.report.specs.declared.LogEntry.{LogEntry}
-use Rattle.report.specs.declared.Report.{Report}
+use Rattle.period.specs.declared.report.LogEntry.{LogEntry}
+use Rattle.period.specs.declared.report.Report.{Report}
 use Rattle.audit_meaning.specs.Lists.{answer_if, numbers, befores, last}
 use Rattle.audit_meaning.specs.Spots.{Spot, spots, spot_of, operations_in, count_of}
-use Rattle.report.specs.LeftBy.{left_by}
+use Rattle.period.specs.LeftBy.{left_by}
 use Rattle.audit_meaning.specs.declared.reason.Reason.{Reason}
 use Rattle.audit_meaning.specs.declared.reason.Reason.TheVariants.{SecondLog, SecondCount, CountOfNoRequest, RequestWithoutCount, ForeignEntry, EntryOfNoRequest, UncountedEntry, SecondEntry, OperationWithoutEntry, EntryOutOfOrder, ImplausibleEntry}
 
@@ -91,7 +91,9 @@ faulty_entry program start trace report = first_answer (entry_fault program star
 
 -- of a request, its first operation that has no entry
 abbrev pub if_without_entry : Report → TraceEvent → Option Reason
-if_without_entry report (Asked r request) = first_answer (λ k. answer_if (is_none (spot_of report r k)) (OperationWithoutEntry r k)) (numbers 1 (count_of report r))
+if_without_entry report (Asked r request) =
+    first_answer (λ k. answer_if (is_none (spot_of report r k)) (OperationWithoutEntry r k))
+    (numbers 1 (count_of report r))
 if_without_entry report (Answered r response) = None
 
 -- an operation that is counted has no entry

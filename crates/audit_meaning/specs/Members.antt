@@ -9,7 +9,7 @@ use Rattle.script_tree.specs.Requests.{Request}
 use Rattle.script_tree.specs.declared.operation.Op.{Op}
 use Rattle.script_tree.specs.declared.path.End.{End}
 use Rattle.script_tree.specs.declared.path.End.TheVariants.{Normal, Fault, AnswerFault}
-use Rattle.report.specs.declared.Report.{Report}
+use Rattle.period.specs.declared.report.Report.{Report}
 use Rattle.script_meaning.specs.Conduct.{conduct, Ending, Wants, Ends, Undefined}
 use Rattle.script_meaning.specs.Replay.{ending_of}
 use Rattle.script_meaning.specs.declared.run.Mark.{Mark}
@@ -17,7 +17,7 @@ use Rattle.script_meaning.specs.declared.run.Mark.TheVariants.{Decided, Issued}
 use Rattle.script_tree.specs.Paths.{same_page, same_decision}
 use Rattle.script_tree.specs.Alike.{same_act}
 use Rattle.audit_meaning.specs.Spots.{Spot, spot_of, count_of}
-use Rattle.report.specs.LeftBy.{left_by}
+use Rattle.period.specs.LeftBy.{left_by}
 
 -- ---- answers
 

@@ -3,9 +3,9 @@ use Rattle.std.specs.Prelude.{ℕ, List, map, Option, Some, None}
 use Rattle.basis.specs.Lists.{or_else}
 use Rattle.script_tree.specs.Objects.{Objects}
 use Rattle.script_tree.specs.Programs.{Program}
-use Rattle.script_tree.specs.declared.schedule.Moment.{Moment}
-use Rattle.script_tree.specs.declared.trace.TraceEvent.{TraceEvent}
-use Rattle.report.specs.declared.Report.{Report}
+use Rattle.period.specs.declared.schedule.Moment.{Moment}
+use Rattle.period.specs.declared.trace.TraceEvent.{TraceEvent}
+use Rattle.period.specs.declared.report.Report.{Report}
 use Rattle.audit_meaning.specs.Cycles.{cycle_of}
 use Rattle.audit_meaning.specs.GroupFaults.{members, grouping_fault}
 use Rattle.audit_meaning.specs.Groups.{unsound_group, steps_of_all, cost_of_all}
@@ -40,4 +40,5 @@ judged None cycle (Some xs) None report evaluated steps = Accepted (schedule_by 
 unfoldable pub verdict : Program → Objects → List TraceEvent → Report → Verdict
 verdict program start trace report =
     judged (log_fault program start trace report) (cycle_of trace report) (order_of trace report)
-    (or_else (grouping_fault trace report) (unsound_group program start trace report)) report (evaluated_nodes program start trace report) (plain_steps program start trace report)
+    (or_else (grouping_fault trace report) (unsound_group program start trace report)) report
+    (evaluated_nodes program start trace report) (plain_steps program start trace report)

@@ -1,5 +1,5 @@
 use crate::reason::Reason;
-use script_tree::schedule::Schedule;
+use period::schedule::Schedule;
 
 /// What an audit answers.
 #[derive(Drop)]

@@ -4,11 +4,11 @@ use Rattle.std.specs.List.{slice_get}
 use Rattle.std.proofs.lemmas.Bool.{cases_lt, eq-eqb, false_from_ne_true, eqb-true}
 use Rattle.basis.specs.Lists.{nth}
 use Rattle.script_tree.specs.Requests.{Request}
-use Rattle.script_tree.specs.Traces.{IsBalanced}
+use Rattle.period.specs.Traces.{IsBalanced}
 use Rattle.script_tree.specs.declared.request.Response.{Response}
-use Rattle.script_tree.specs.declared.trace.TraceEvent.{TraceEvent}
-use Rattle.script_tree.specs.declared.trace.TraceEvent.TheVariants.{Asked, Answered}
-use Rattle.report.specs.declared.Report.{Report}
+use Rattle.period.specs.declared.trace.TraceEvent.{TraceEvent}
+use Rattle.period.specs.declared.trace.TraceEvent.TheVariants.{Asked, Answered}
+use Rattle.period.specs.declared.report.Report.{Report}
 use Rattle.event_order.specs.Order.{NodeIs}
 use Rattle.event_order.specs.declared.graph.Graph.{Graph}
 use Rattle.event_order.specs.declared.graph.Node.{Node as GraphNode}
@@ -25,7 +25,7 @@ use Rattle.precedence_graph.specs.Since.{IsSince}
 use Rattle.audit_order.specs.Shows.{offset, IsLinked, Shows}
 use Rattle.audit_order.proofs.Offsets.{numbered, once_each, of_number}
 use Rattle.std.proofs.Common.{cond}
-use Rattle.script_tree.specs.Traces.{request_of, request_in}
+use Rattle.period.specs.Traces.{request_of, request_in}
 use Rattle.trace_index.specs.Places.{request_place}
 use Rattle.trace_index.proofs.PlaceFacts.{request_absent}
 use Rattle.audit_order.proofs.Numbered.{place_asked}
@@ -34,13 +34,17 @@ use Rattle.audit_order.specs.Built.{IsNodeOf, AreNodesOf, AreEventsOf}
 got : {A : Type 0} (xs : List A) (i : ℕ) (x : A) → nth xs i ≡ Some x → slice_get xs i ≡ Some x
 got xs i x e = sym (nth_got xs i) ∙ e
 
-start_names : (trace : List TraceEvent) (report : Report) (i r : ℕ) (q : Request) → nth trace i ≡ Some (Asked r q) → nth (nodes trace report) (offset trace report i) ≡ Some (step r 0)
+start_names : (trace : List TraceEvent) (report : Report) (i r : ℕ) (q : Request) → nth trace i ≡ Some (Asked r q)
+    → nth (nodes trace report) (offset trace report i) ≡ Some (step r 0)
 start_names trace report i r q e = ap (nth (nodes trace report)) (let z : offset trace report i ≡ offset trace report i + 0 = omega arith in z) ∙ numbered report trace i r 0 q e (omega arith) ∙ ap (λ n. Some n) (node_at-step (count_of report r) r 0 (omega arith))
 
-pub end_names : (trace : List TraceEvent) (report : Report) (i r : ℕ) (q : Request) → nth trace i ≡ Some (Asked r q) → nth (nodes trace report) (offset trace report i + (count_of report r + 1)) ≡ Some (close r)
-end_names trace report i r q e = numbered report trace i r (count_of report r + 1) q e (omega arith) ∙ ap (λ n. Some n) (node_at-close (count_of report r) r (count_of report r + 1) (omega arith))
+pub end_names : (trace : List TraceEvent) (report : Report) (i r : ℕ) (q : Request) → nth trace i ≡ Some (Asked r q)
+    → nth (nodes trace report) (offset trace report i + (count_of report r + 1)) ≡ Some (close r)
+end_names trace report i r q e = numbered report trace i r (count_of report r + 1) q e (omega arith)
+    ∙ ap (λ n. Some n) (node_at-close (count_of report r) r (count_of report r + 1) (omega arith))
 
-pub shows : (trace : List TraceEvent) (report : Report) (g : Graph) → AreNodesOf trace report g.nodes.items → AreEventsOf trace report g.trace.items → Shows trace report g
+pub shows : (trace : List TraceEvent) (report : Report) (g : Graph) → AreNodesOf trace report g.nodes.items
+    → AreEventsOf trace report g.trace.items → Shows trace report g
 shows trace report g ns es = record {
   count = ns.count;
   events = es.count;
@@ -69,12 +73,15 @@ shows trace report g ns es = record {
 
 -- ---- a departure's number
 
-pub end_number : (trace : List TraceEvent) (report : Report) (r m x : ℕ) → IsBalanced trace → m ≡ count_of report r → nth (nodes trace report) x ≡ Some (step r m) → nth (nodes trace report) (x + 1) ≡ Some (close r)
+pub end_number : (trace : List TraceEvent) (report : Report) (r m x : ℕ) → IsBalanced trace → m ≡ count_of report r
+    → nth (nodes trace report) x ≡ Some (step r m) → nth (nodes trace report) (x + 1) ≡ Some (close r)
 end_number trace report r m x b is e =
     let o = of_number report trace b x (step r m) e in
     go o.place o.rid o.number o.request o.asked o.within o.is o.names
   where
-    go : (p a k : ℕ) (q : Request) → nth trace p ≡ Some (Asked a q) → k < count_of report a + 2 → x ≡ offset trace report p + k → node_at (count_of report a) a k ≡ step r m → nth (nodes trace report) (x + 1) ≡ Some (close r)
+    go : (p a k : ℕ) (q : Request) → nth trace p ≡ Some (Asked a q) → k < count_of report a + 2
+        → x ≡ offset trace report p + k → node_at (count_of report a) a k ≡ step r m
+        → nth (nodes trace report) (x + 1) ≡ Some (close r)
     go p a k q asked lt at names = elim (cases_lt (count_of report a) k) [
       | inl more ↦ absurd (step_is_not (sym names ∙ node_at-close (count_of report a) a k more))
       | inr less ↦
@@ -86,8 +93,11 @@ end_number trace report r m x b is e =
           ∙ end_names trace report p a q asked ∙ ap (λ n. Some (close n)) rid
     ]
 
-pub end_is : (trace : List TraceEvent) (report : Report) (r c x : ℕ) (q : Request) → IsBalanced trace → nth trace c ≡ Some (Asked r q) → nth (nodes trace report) x ≡ Some (close r) → x ≡ offset trace report c + (count_of report r + 1)
-end_is trace report r c x q b asked e = once_each report trace b (close r) x (offset trace report c + (count_of report r + 1)) e (end_names trace report c r q asked)
+pub end_is : (trace : List TraceEvent) (report : Report) (r c x : ℕ) (q : Request) → IsBalanced trace
+    → nth trace c ≡ Some (Asked r q) → nth (nodes trace report) x ≡ Some (close r)
+    → x ≡ offset trace report c + (count_of report r + 1)
+end_is trace report r c x q b asked e = once_each report trace b (close r) x
+    (offset trace report c + (count_of report r + 1)) e (end_names trace report c r q asked)
 
 pub apart_asked : (o : Option TraceEvent) (r a : ℕ) (q : Request) (x : Response) → o ≡ Some (Asked r q) → o ≡ Some (Answered a x) → ⊥
 apart_asked o r a q x e f = cc
@@ -95,7 +105,8 @@ apart_asked o r a q x e f = cc
 pub one_rid : (o : Option TraceEvent) (r a : ℕ) (x y : Response) → o ≡ Some (Answered r x) → o ≡ Some (Answered a y) → r ≡ a
 one_rid o r a x y e f = cc
 
-pub end_linked : (trace : List TraceEvent) (report : Report) (r : ℕ) (v : GraphNode) → v.is_arrival ≡ false → v.log_before ≡ None → v.log_after ≡ None → IsNodeOf trace report (close r) v
+pub end_linked : (trace : List TraceEvent) (report : Report) (r : ℕ) (v : GraphNode) → v.is_arrival ≡ false
+    → v.log_before ≡ None → v.log_after ≡ None → IsNodeOf trace report (close r) v
 end_linked trace report r v no_arrival no_before no_after = record {
   linked = record {
     before = λ y e. absurd (none_is_not (sym no_before ∙ e));
@@ -111,7 +122,8 @@ end_linked trace report r v no_arrival no_before no_after = record {
 zero_eq : (n : ℕ) → n ≡ 0 → nat_eq n 0 ≡ true
 zero_eq n e = eq-eqb n 0 e
 
-pub step_node : (trace : List TraceEvent) (report : Report) (r k at since : ℕ) (v : GraphNode) → IsBalanced trace → IsLinked report (nodes trace report) (step r k) v → v.is_arrival ≡ nat_eq k 0 → v.at ≡ at → v.since ≡ since
+pub step_node : (trace : List TraceEvent) (report : Report) (r k at since : ℕ) (v : GraphNode) → IsBalanced trace
+    → IsLinked report (nodes trace report) (step r k) v → v.is_arrival ≡ nat_eq k 0 → v.at ≡ at → v.since ≡ since
     → ((q : Request) (i : ℕ) → nth trace i ≡ Some (Asked r q) → (at ≡ i) × IsSince trace i since) → IsNodeOf trace report (step r k) v
 step_node trace report r k at since v b linked arrival eat esince places = record {
   linked = linked;
@@ -123,7 +135,8 @@ step_node trace report r k at since v b linked arrival eat esince places = recor
   ends = λ a e. absurd (step_is_not e);
 }
 
-pub operation_node : (trace : List TraceEvent) (report : Report) (r k : ℕ) (v : GraphNode) → IsLinked report (nodes trace report) (step r k) v → v.is_arrival ≡ false → 0 < k
+pub operation_node : (trace : List TraceEvent) (report : Report) (r k : ℕ) (v : GraphNode)
+    → IsLinked report (nodes trace report) (step r k) v → v.is_arrival ≡ false → 0 < k
     → IsNodeOf trace report (step r k) v
 operation_node trace report r k v linked later positive = record {
   linked = linked;
@@ -138,4 +151,6 @@ place_is trace r p i q b at asked = let a = place_asked trace r p at in b.asked_
 
 pub no_request : (trace : List TraceEvent) (r i : ℕ) (q : Request) → request_place trace r ≡ None → nth trace i ≡ Some (Asked r q) → ⊥
 unfolding request_of
-no_request trace r i q none asked = none_is_not (sym (first_none (request_in r) trace i (Asked r q) (request_absent r trace none) asked) ∙ ap (λ t. cond t (Some q) None) (eq-eqb r r refl))
+no_request trace r i q none asked = none_is_not
+    (sym (first_none (request_in r) trace i (Asked r q) (request_absent r trace none) asked)
+    ∙ ap (λ t. cond t (Some q) None) (eq-eqb r r refl))

@@ -71,7 +71,8 @@ last_nth (y ∷ z ∷ zs) x lt e = last_nth (z ∷ zs) x (omega arith) (ap (nth 
 
 -- ---- what is left
 
-module _ (all direct : List Edge) (ns : List Node) (g : Graph) (xs : List ℕ) (apart : Apart ns) (m : Mirrors all direct ns g) (below : AreBelow (length ns) xs) where
+module _ (all direct : List Edge) (ns : List Node) (g : Graph) (xs : List ℕ) (apart : Apart ns)
+    (m : Mirrors all direct ns g) (below : AreBelow (length ns) xs) where
   abbrev pub left : List Node
   left = filter (is_left (named ns xs)) ns
 
@@ -155,7 +156,9 @@ module _ (all direct : List Edge) (ns : List Node) (g : Graph) (xs : List ℕ) (
           let x = named_in ns walk k a below_walk ea in
           let y = named_in ns walk (suc k) b below_walk eb in
           holds x.0 y.0 a b x.2 y.2
-          (subst (λ n. IsLeast (HoldsBack g xs n) (Some y.0)) (index_nth walk k x.0 x.1) (subst (λ n. IsLeast (HoldsBack g xs (slice_index walk k)) (Some n)) (index_nth walk (suc k) y.0 y.1) (step_at k (nth_within walk (suc k) y.0 y.1))));
+          (subst (λ n. IsLeast (HoldsBack g xs n) (Some y.0)) (index_nth walk k x.0 x.1)
+          (subst (λ n. IsLeast (HoldsBack g xs (slice_index walk k)) (Some n)) (index_nth walk (suc k) y.0 y.1)
+          (step_at k (nth_within walk (suc k) y.0 y.1))));
       once = λ a i j ei ej.
           let x = named_in ns walk i a below_walk ei in
           let y = named_in ns walk j a below_walk ej in
@@ -190,12 +193,15 @@ module _ (all direct : List Edge) (ns : List Node) (g : Graph) (xs : List ℕ) (
         end = at ns e;
         walk = subst (walked.IsWalk direct left) (sym whole) (walk_named walk c.is_walk some);
         ends = ap last whole ∙ last_nth (named ns walk) (at ns e) (omega (arith, length_named ns walk))
-            (ap (λ n. nth (named ns walk) (n - 1)) (length_named ns walk) ∙ in_named ns walk (length walk - 1) e (at ns e) (nth_index walk (length walk - 1) at_end) (names walk c.is_walk (length walk - 1) at_end));
+            (ap (λ n. nth (named ns walk) (n - 1)) (length_named ns walk)
+            ∙ in_named ns walk (length walk - 1) e (at ns e) (nth_index walk (length walk - 1) at_end)
+            (names walk c.is_walk (length walk - 1) at_end));
         closes = holds e s (at ns e) (at ns s) (names walk c.is_walk (length walk - 1) at_end) (names walk c.is_walk c.start c.inside) c.closes;
         turned = (
           named ns (drop c.turn R),
           named ns (take c.turn R),
-          ap (λ l. reverse (named ns l)) (sym back.1) ∙ reverse_named ns (drop c.start walk) ∙ ap (named ns) (sym (parts R c.turn)) ∙ named_both ns (take c.turn R) (drop c.turn R),
+          ap (λ l. reverse (named ns l)) (sym back.1) ∙ reverse_named ns (drop c.start walk)
+              ∙ ap (named ns) (sym (parts R c.turn)) ∙ named_both ns (take c.turn R) (drop c.turn R),
           ap (named ns) c.is ∙ named_both ns (drop c.turn R) (take c.turn R),
         );
         first = at ns f;

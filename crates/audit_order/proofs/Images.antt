@@ -56,7 +56,8 @@ number_is ns x y a apart e f = apart a x y e f
 pub in_named : (ns : List Node) (xs : List ℕ) (i x : ℕ) (a : Node) → nth xs i ≡ Some x → nth ns x ≡ Some a → nth (named ns xs) i ≡ Some a
 in_named ns xs i x a e f = map_nth (at ns) xs i x e ∙ ap (λ n. Some n) (there_at ns x a f)
 
-pub named_in : (ns : List Node) (xs : List ℕ) (i : ℕ) (a : Node) → AreBelow (length ns) xs → nth (named ns xs) i ≡ Some a → (x : ℕ) × (nth xs i ≡ Some x) × (nth ns x ≡ Some a)
+pub named_in : (ns : List Node) (xs : List ℕ) (i : ℕ) (a : Node) → AreBelow (length ns) xs
+    → nth (named ns xs) i ≡ Some a → (x : ℕ) × (nth xs i ≡ Some x) × (nth ns x ≡ Some a)
 named_in ns xs i a below e =
     let f = nth_map (at ns) xs i a e in
     (f.0, f.1, at_there ns f.0 (below i f.0 f.1) ∙ ap (λ n. Some n) f.2)
@@ -83,12 +84,15 @@ length_named ns (x ∷ xs) = ap suc (length_named ns xs)
 
 -- ---- places in a filtered list
 
-pub take_filter : {A : Type 0} (p : A → Bool) (xs : List A) (x : ℕ) (a : A) → nth xs x ≡ Some a → p a ≡ true → nth (filter p xs) (length (filter p (take x xs))) ≡ Some a
+pub take_filter : {A : Type 0} (p : A → Bool) (xs : List A) (x : ℕ) (a : A) → nth xs x ≡ Some a → p a ≡ true
+    → nth (filter p xs) (length (filter p (take x xs))) ≡ Some a
 take_filter p [] x a e t = absurd (none_is_not e)
 take_filter p (z ∷ xs) zero a e t = rw (ap p (some_is e) ∙ t) e
 take_filter {A} p (z ∷ xs) (suc x) a e t = go (p z) (take_filter p xs x a e t)
   where
-    go : (b : Bool) → nth (filter p xs) (length (filter p (take x xs))) ≡ Some a → nth (cond b (z ∷ filter p xs) (filter p xs)) (length (cond b (z ∷ filter p (take x xs)) (filter p (take x xs)))) ≡ Some a
+    go : (b : Bool) → nth (filter p xs) (length (filter p (take x xs))) ≡ Some a
+        → nth (cond b (z ∷ filter p xs) (filter p xs))
+        (length (cond b (z ∷ filter p (take x xs)) (filter p (take x xs)))) ≡ Some a
     go true h = h
     go false h = h
 
@@ -101,12 +105,15 @@ fewer p (z ∷ xs) zero y le = omega arith
 fewer p (z ∷ xs) (suc x) zero le = absurd (omega arith)
 fewer {A} p (z ∷ xs) (suc x) (suc y) le = go (p z) (fewer p xs x y (omega arith))
   where
-    go : (b : Bool) → length (filter p (take x xs)) ≤ length (filter p (take y xs)) → length (cond b (z ∷ filter p (take x xs)) (filter p (take x xs))) ≤ length (cond b (z ∷ filter p (take y xs)) (filter p (take y xs)))
+    go : (b : Bool) → length (filter p (take x xs)) ≤ length (filter p (take y xs))
+        → length (cond b (z ∷ filter p (take x xs)) (filter p (take x xs))) ≤ length
+        (cond b (z ∷ filter p (take y xs)) (filter p (take y xs)))
     go true h = omega arith
     go false h = h
 
 -- what stands earlier stands earlier in what is left
-pub in_turn : {A : Type 0} (p : A → Bool) (xs : List A) → Apart xs → (x y i j : ℕ) (a b : A) → nth xs x ≡ Some a → nth xs y ≡ Some b → nth (filter p xs) i ≡ Some a → nth (filter p xs) j ≡ Some b → x ≤ y → i ≤ j
+pub in_turn : {A : Type 0} (p : A → Bool) (xs : List A) → Apart xs → (x y i j : ℕ) (a b : A) → nth xs x ≡ Some a
+    → nth xs y ≡ Some b → nth (filter p xs) i ≡ Some a → nth (filter p xs) j ≡ Some b → x ≤ y → i ≤ j
 in_turn p xs apart x y i j a b ex ey ei ej le =
     let apart' = filter_apart p xs apart in
     let pi : i ≡ length (filter p (take x xs)) = apart' a i (length (filter p (take x xs))) ei (take_filter p xs x a ex (filter_in p xs a i ei).1) in

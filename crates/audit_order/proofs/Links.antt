@@ -3,12 +3,12 @@ use Rattle.std.proofs.Common.{◌≡◌, ◌∙◌, ℕ, zero, suc, ◌<◌, ◌
 use Rattle.std.proofs.lemmas.Bool.{cases_order, cases_eq, cases_lt, eq-eqb, eqb-true, and_parts, and_from}
 use Rattle.basis.specs.Lists.{nth, first_answer}
 use Rattle.script_tree.specs.Objects.{is_same}
-use Rattle.script_tree.specs.Traces.{IsBalanced, request_of}
-use Rattle.script_tree.specs.declared.trace.TraceEvent.{TraceEvent}
-use Rattle.script_tree.specs.declared.trace.TraceEvent.TheVariants.{Asked}
-use Rattle.report.specs.declared.Log.{Log}
-use Rattle.report.specs.declared.LogEntry.{LogEntry}
-use Rattle.report.specs.declared.Report.{Report}
+use Rattle.period.specs.Traces.{IsBalanced, request_of}
+use Rattle.period.specs.declared.trace.TraceEvent.{TraceEvent}
+use Rattle.period.specs.declared.trace.TraceEvent.TheVariants.{Asked}
+use Rattle.period.specs.declared.report.Log.{Log}
+use Rattle.period.specs.declared.report.LogEntry.{LogEntry}
+use Rattle.period.specs.declared.report.Report.{Report}
 use Rattle.event_order.specs.declared.graph.Node.{Node as GraphNode}
 use Rattle.audit_meaning.specs.EdgesAre.{NeighboursInLog}
 use Rattle.audit_meaning.specs.Lists.{last, befores}
@@ -36,7 +36,7 @@ use Rattle.audit_order.proofs.Numbered.{place_asked}
 use Rattle.audit_order.specs.Shows.{offset}
 use Rattle.audit_order.proofs.Offsets.{numbered}
 use Rattle.log_checker.proofs.Firsts.{some_at}
-use Rattle.script_tree.specs.Traces.{request_in}
+use Rattle.period.specs.Traces.{request_in}
 use Rattle.std.proofs.Common.{get_or}
 use Rattle.trace_index.specs.Places.{request_place}
 use Rattle.trace_index.proofs.PlaceFacts.{request_absent}
@@ -56,9 +56,19 @@ spot_placed report s i e =
     let f = in_flat_back spots_in report.logs s i e in
     let m = nth_map (λ b. spot_at f.0.object b.0 b.1) (befores f.0.entries) f.2.0 s f.2.1 in
     let c = befores_back f.0.entries f.2.0 m.0 m.1 in
-    record { number = f.1.0; log = f.0; logged = f.1.1; position = f.2.0; entry = m.0.1; holds = c.0; is = sym m.2 ∙ ap (λ past. spot_at f.0.object past m.0.1) (sym c.1) }
+    record {
+      number = f.1.0;
+      log = f.0;
+      logged = f.1.1;
+      position = f.2.0;
+      entry = m.0.1;
+      holds = c.0;
+      is = sym m.2
+          ∙ ap (λ past. spot_at f.0.object past m.0.1) (sym c.1);
+    }
 
-pub spot_there : (report : Report) (i j : ℕ) (log : Log) (e : LogEntry) → nth report.logs i ≡ Some log → nth log.entries j ≡ Some e → In (spots report.logs) (spot_at log.object (take j log.entries) e)
+pub spot_there : (report : Report) (i j : ℕ) (log : Log) (e : LogEntry) → nth report.logs i ≡ Some log
+    → nth log.entries j ≡ Some e → In (spots report.logs) (spot_at log.object (take j log.entries) e)
 spot_there report i j log e at holds = in_flat spots_in report.logs log (spot_at log.object (take j log.entries) e) i at (j, nth_spots log j e holds)
 
 length_take : {A : Type 0} (xs : List A) (n : ℕ) (x : A) → nth xs n ≡ Some x → length (take n xs) ≡ n
@@ -83,7 +93,8 @@ last_is xs (suc j) e f here l =
     let g = nth_some xs j (omega (arith, lt)) in
     (j, g.1 ∙ sym (last_take xs j g.0 g.1) ∙ l, refl)
 
-before_entry : (report : Report) (s : Spot) (at : At report s) (e : LogEntry) → last s.past ≡ Some e → (j : ℕ) × (nth at.log.entries j ≡ Some e) × (at.position ≡ suc j)
+before_entry : (report : Report) (s : Spot) (at : At report s) (e : LogEntry) → last s.past ≡ Some e
+    → (j : ℕ) × (nth at.log.entries j ≡ Some e) × (at.position ≡ suc j)
 before_entry report s at e is = last_is at.log.entries at.position e at.entry at.holds (ap (λ (t : Spot). last t.past) (sym at.is) ∙ is)
 
 named_is : (t : Bool) (x s : Spot) → cond t (Some x) None ≡ Some s → (t ≡ true) × (x ≡ s)
@@ -101,14 +112,16 @@ module _ (trace : List TraceEvent) (report : Report) (b : IsBalanced trace) (h :
       let asked = request_there trace e.rid p.in_trace.0 p.in_trace.1 in
       record { place = asked.0; request = p.in_trace.0; asked = asked.1; within = p.counted }
 
-  spots_once : (s t : Spot) (i j : ℕ) → nth (spots report.logs) i ≡ Some s → nth (spots report.logs) j ≡ Some t → s.entry.rid ≡ t.entry.rid → s.entry.number ≡ t.entry.number → s ≡ t
+  spots_once : (s t : Spot) (i j : ℕ) → nth (spots report.logs) i ≡ Some s → nth (spots report.logs) j ≡ Some t
+      → s.entry.rid ≡ t.entry.rid → s.entry.number ≡ t.entry.number → s ≡ t
   spots_once s t i j es et er en = elim (cases_order i j) [
     | inl same ↦ some_is (sym es ∙ ap (nth (spots report.logs)) same ∙ et)
     | inr (inl less) ↦ absurd (clash s t i j es et er en less)
     | inr (inr more) ↦ absurd (clash t s j i et es (sym er) (sym en) more)
   ]
     where
-      clash : (s t : Spot) (i j : ℕ) → nth (spots report.logs) i ≡ Some s → nth (spots report.logs) j ≡ Some t → s.entry.rid ≡ t.entry.rid → s.entry.number ≡ t.entry.number → i < j → ⊥
+      clash : (s t : Spot) (i j : ℕ) → nth (spots report.logs) i ≡ Some s → nth (spots report.logs) j ≡ Some t
+          → s.entry.rid ≡ t.entry.rid → s.entry.number ≡ t.entry.number → i < j → ⊥
       clash s t i j es et er en lt =
           let p = facts.passes j t et in
           let no = any_false (λ u. nat_eq t.entry.rid u.entry.rid && nat_eq t.entry.number u.entry.number) (take j (spots report.logs)) i s p.alone (nth_take (spots report.logs) j i s lt es) in
@@ -137,7 +150,8 @@ module _ (trace : List TraceEvent) (report : Report) (b : IsBalanced trace) (h :
           absurd (omega (arith, zero, positive))
 
   -- no entry is this operation's
-  pub unlinked : (r k : ℕ) (v : GraphNode) → spot_of report r k ≡ None → v.log_before ≡ None → v.log_after ≡ None → IsLinked report (nodes trace report) (step r k) v
+  pub unlinked : (r k : ℕ) (v : GraphNode) → spot_of report r k ≡ None → v.log_before ≡ None → v.log_after ≡ None
+      → IsLinked report (nodes trace report) (step r k) v
   unfolding spot_of
   unlinked r k v none no_before no_after = record {
     before = λ y e. absurd (none_is_not (sym no_before ∙ e));
@@ -151,10 +165,16 @@ module _ (trace : List TraceEvent) (report : Report) (b : IsBalanced trace) (h :
   }
     where
       never : (s : Spot) → In (spots report.logs) s → r ≡ s.entry.rid → k ≡ s.entry.number → ⊥
-      never s m er ek = none_is_not (sym (first_none (if_named r k) (spots report.logs) m.0 s none m.1) ∙ ap (λ t. cond t (Some s) None) (and_from (nat_eq r s.entry.rid) (nat_eq k s.entry.number) (eq-eqb _ _ er) (eq-eqb _ _ ek)))
+      never s m er ek = none_is_not (sym (first_none (if_named r k) (spots report.logs) m.0 s none m.1)
+          ∙ ap (λ t. cond t (Some s) None) (and_from (nat_eq r s.entry.rid) (nat_eq k s.entry.number) (eq-eqb _ _ er)
+          (eq-eqb _ _ ek)))
 
-  module _ (r k number position : ℕ) (log : Log) (e : LogEntry) (logged : nth report.logs number ≡ Some log) (holds : nth log.entries position ≡ Some e) (found : spot_of report r k ≡ Some (spot_at log.object (take position log.entries) e))
-      (bl al : Option ℕ) (no_before : position ≡ 0 → bl ≡ None) (before_link : (j : ℕ) (f : LogEntry) → position ≡ suc j → nth log.entries j ≡ Some f → IsLink (nodes trace report) r f bl)
+  module _ (r k number position : ℕ) (log : Log) (e : LogEntry) (logged : nth report.logs number ≡ Some log)
+      (holds : nth log.entries position ≡ Some e)
+      (found : spot_of report r k ≡ Some (spot_at log.object (take position log.entries) e))
+      (bl al : Option ℕ) (no_before : position ≡ 0 → bl ≡ None)
+      (before_link : (j : ℕ) (f : LogEntry) → position ≡ suc j → nth log.entries j ≡ Some f
+      → IsLink (nodes trace report) r f bl)
       (no_after : length log.entries ≤ suc position → al ≡ None) (after_link : (f : LogEntry) → nth log.entries (suc position) ≡ Some f → IsLink (nodes trace report) r f al) where
     abbrev here : Spot
     here = spot_at log.object (take position log.entries) e
@@ -220,7 +240,8 @@ module _ (trace : List TraceEvent) (report : Report) (b : IsBalanced trace) (h :
         let logs : at.log ≡ log = one_log at.number number at.log log at.logged logged (ap (λ (s : Spot). s.object) same) in
         let places : f.0 ≡ position = sym (length_take at.log.entries f.0 nb.before f.1) ∙ ap (λ (s : Spot). length s.past) same ∙ length_take log.entries position e holds in
         let next : nth log.entries (suc position) ≡ Some nb.spot.entry =
-        ap (nth log.entries) (sym (f.2 ∙ ap suc places)) ∙ ap (λ (l : Log). nth l.entries at.position) (sym logs) ∙ at.holds ∙ ap (λ n. Some n) (ap (λ (s : Spot). s.entry) (sym at.is)) in
+        ap (nth log.entries) (sym (f.2 ∙ ap suc places)) ∙ ap (λ (l : Log). nth l.entries at.position) (sym logs)
+        ∙ at.holds ∙ ap (λ n. Some n) (ap (λ (s : Spot). s.entry) (sym at.is)) in
         let differ : nb.spot.entry.rid ≡ r → ⊥ = λ q. nb.differ (sym (step_request nb.earlier) ∙ sym q) in
         let o = (after_link nb.spot.entry next).other differ in
         o.1 ∙ ap (λ n. Some n) (once_each report trace b c o.0 z (o.2 ∙ ap (λ n. Some n) (sym nb.later)) ez)
@@ -247,17 +268,23 @@ module _ (trace : List TraceEvent) (report : Report) (b : IsBalanced trace) (h :
 
 -- ---- numbers
 
-pub operation_number : (trace : List TraceEvent) (report : Report) (n : Numbering) (r k p o : ℕ) → IsNumbering trace report n → HasNode trace report r k → request_place trace r ≡ Some p → o ≡ get_or n.offsets.items p o → nth (nodes trace report) (o + k) ≡ Some (step r k)
+pub operation_number : (trace : List TraceEvent) (report : Report) (n : Numbering) (r k p o : ℕ)
+    → IsNumbering trace report n → HasNode trace report r k → request_place trace r ≡ Some p
+    → o ≡ get_or n.offsets.items p o → nth (nodes trace report) (o + k) ≡ Some (step r k)
 operation_number trace report n r k p o h op at read =
     let asked = place_asked trace r p at in
     let lt = nth_within trace p (Asked r asked.0) asked.1 in
     let is : o ≡ offset trace report p = some_is (sym (some_at n.offsets.items p o (omega (arith, lt, h.count)) read) ∙ h.offsets p lt) in
     let within = op.within in
-    ap (λ m. nth (nodes trace report) (m + k)) is ∙ numbered report trace p r k asked.0 asked.1 (omega (arith, within)) ∙ ap (λ m. Some m) (node_at-step (count_of report r) r k within)
+    ap (λ m. nth (nodes trace report) (m + k)) is
+    ∙ numbered report trace p r k asked.0 asked.1 (omega (arith, within))
+    ∙ ap (λ m. Some m) (node_at-step (count_of report r) r k within)
 
 pub no_place : (trace : List TraceEvent) (report : Report) (r k : ℕ) → HasNode trace report r k → request_place trace r ≡ None → ⊥
 unfolding request_of
-no_place trace report r k op none = none_is_not (sym (first_none (request_in r) trace op.place (Asked r op.request) (request_absent r trace none) op.asked) ∙ ap (λ t. cond t (Some op.request) None) (eq-eqb r r refl))
+no_place trace report r k op none = none_is_not
+    (sym (first_none (request_in r) trace op.place (Asked r op.request) (request_absent r trace none) op.asked)
+    ∙ ap (λ t. cond t (Some op.request) None) (eq-eqb r r refl))
 
 -- ---- what the map tells
 
@@ -277,7 +304,8 @@ pointed report map r k place h e =
 pub unpointed : (report : Report) (map : OpMap) (r k : ℕ) → IsMapOf report map → place_in map r k ≡ None → spot_of report r k ≡ None
 unpointed report map r k h e = subst (λ o. Points report.logs o (spot_of report r k)) e (h.places r k)
 
-pub same_log : (report : Report) (r k : ℕ) (place : ℕ × ℕ) (p : Pointed report r k place) (logs : List Log) (l : Log) → logs ≡ report.logs → l ≡ get_or logs place.0 l → l ≡ p.log
+pub same_log : (report : Report) (r k : ℕ) (place : ℕ × ℕ) (p : Pointed report r k place) (logs : List Log) (l : Log)
+    → logs ≡ report.logs → l ≡ get_or logs place.0 l → l ≡ p.log
 same_log report r k place p logs l same read =
     let lt = nth_within report.logs place.0 p.log p.logged in
     some_is (sym (ap (λ xs. nth xs place.0) (sym same) ∙ some_at logs place.0 l (omega (arith, lt, ap length same)) read) ∙ p.logged)

@@ -3,10 +3,10 @@ use Rattle.std.proofs.Common.{◌≡◌, ◌∙◌, ℕ, zero, suc, ◌<◌, ◌
 use Rattle.std.proofs.lemmas.List.{length-append}
 use Rattle.basis.specs.Lists.{nth}
 use Rattle.script_tree.specs.Requests.{Request}
-use Rattle.script_tree.specs.Traces.{IsBalanced}
-use Rattle.script_tree.specs.declared.trace.TraceEvent.{TraceEvent}
-use Rattle.script_tree.specs.declared.trace.TraceEvent.TheVariants.{Asked}
-use Rattle.report.specs.declared.Report.{Report}
+use Rattle.period.specs.Traces.{IsBalanced}
+use Rattle.period.specs.declared.trace.TraceEvent.{TraceEvent}
+use Rattle.period.specs.declared.trace.TraceEvent.TheVariants.{Asked}
+use Rattle.period.specs.declared.report.Report.{Report}
 use Rattle.audit_meaning.specs.Lists.{numbers}
 use Rattle.audit_meaning.specs.Nodes.{nodes, nodes_in, node_at}
 use Rattle.audit_meaning.specs.Spots.{count_of}
@@ -63,7 +63,9 @@ stands report (t ∷ trace) (suc i) r k q e lt =
     ∙ stands report trace i r k q e lt
 
 -- a node of a request stands behind its arrival by its number
-pub numbered : (report : Report) (trace : List TraceEvent) (i r k : ℕ) (q : Request) → nth trace i ≡ Some (Asked r q) → k < count_of report r + 2 → nth (nodes trace report) (offset trace report i + k) ≡ Some (node_at (count_of report r) r k)
+pub numbered : (report : Report) (trace : List TraceEvent) (i r k : ℕ) (q : Request) → nth trace i ≡ Some (Asked r q)
+    → k < count_of report r + 2 → nth (nodes trace report) (offset trace report i + k)
+    ≡ Some (node_at (count_of report r) r k)
 unfolding nodes
 numbered report trace i r k q e lt = stands report trace i r k q e lt
 
@@ -78,7 +80,8 @@ pub record Of (trace : List TraceEvent) (report : Report) (x : ℕ) (n : Node) :
   pub is : x ≡ offset trace report place + number
   pub names : node_at (count_of report rid) rid number ≡ n
 
-pub once_each : (report : Report) (trace : List TraceEvent) → IsBalanced trace → (n : Node) (x y : ℕ) → nth (nodes trace report) x ≡ Some n → nth (nodes trace report) y ≡ Some n → x ≡ y
+pub once_each : (report : Report) (trace : List TraceEvent) → IsBalanced trace → (n : Node) (x y : ℕ)
+    → nth (nodes trace report) x ≡ Some n → nth (nodes trace report) y ≡ Some n → x ≡ y
 unfolding nodes
 once_each report trace b n x y ex ey = apart_nodes report trace b.asked_once n x y ex ey
 
@@ -95,12 +98,15 @@ of_number report trace b x n e =
       asked = asked;
       number = m.3;
       within = m.4;
-      is = apart_nodes report trace b.asked_once n x (offset trace report f.1.0 + m.3) e (stands report trace f.1.0 m.0 m.3 m.1 asked m.4 ∙ ap (λ t. Some t) m.5);
+      is = apart_nodes report trace b.asked_once n x (offset trace report f.1.0 + m.3) e
+          (stands report trace f.1.0 m.0 m.3 m.1 asked m.4 ∙ ap (λ t. Some t) m.5);
       names = m.5;
     }
 
 -- a request that comes later has its nodes behind
-pub later_behind : (report : Report) (trace : List TraceEvent) (i j r : ℕ) (q : Request) (e : TraceEvent) → nth trace i ≡ Some (Asked r q) → nth trace j ≡ Some e → i < j → offset trace report i + (count_of report r + 2) ≤ offset trace report j
+pub later_behind : (report : Report) (trace : List TraceEvent) (i j r : ℕ) (q : Request) (e : TraceEvent)
+    → nth trace i ≡ Some (Asked r q) → nth trace j ≡ Some e → i < j
+    → offset trace report i + (count_of report r + 2) ≤ offset trace report j
 later_behind report [] i j r q e ei ej lt = absurd (none_is_not ei)
 later_behind report (t ∷ trace) i zero r q e ei ej lt = absurd (omega arith)
 later_behind report (t ∷ trace) zero (suc j) r q e ei ej lt =

@@ -20,7 +20,9 @@ below_take : (n : ℕ) (xs : List ℕ) (k : ℕ) → AreBelow n xs → AreBelow 
 below_take n xs k h i x e = h i x (take_nth xs k i x e).1
 
 -- a free number names a node that may come next
-pub may_come : (all direct : List Edge) (ns : List Node) (g : Graph) (xs : List ℕ) (x : ℕ) (b : Node) → Apart ns → Mirrors all direct ns g → AreBelow (length ns) xs → nth ns x ≡ Some b → IsFree g xs x → MayComeNext all ns (named ns xs) b
+pub may_come : (all direct : List Edge) (ns : List Node) (g : Graph) (xs : List ℕ) (x : ℕ) (b : Node) → Apart ns
+    → Mirrors all direct ns g → AreBelow (length ns) xs → nth ns x ≡ Some b → IsFree g xs x
+    → MayComeNext all ns (named ns xs) b
 may_come all direct ns g xs x b apart m below e free = record {
   there = (x, e);
   left = λ (i, f).
@@ -33,7 +35,9 @@ may_come all direct ns g xs x b apart m below e free = record {
 }
 
 -- and the other way round
-pub is_free : (all direct : List Edge) (ns : List Node) (g : Graph) (xs : List ℕ) (x : ℕ) (b : Node) → Apart ns → Mirrors all direct ns g → AreBelow (length ns) xs → nth ns x ≡ Some b → MayComeNext all ns (named ns xs) b → IsFree g xs x
+pub is_free : (all direct : List Edge) (ns : List Node) (g : Graph) (xs : List ℕ) (x : ℕ) (b : Node) → Apart ns
+    → Mirrors all direct ns g → AreBelow (length ns) xs → nth ns x ≡ Some b → MayComeNext all ns (named ns xs) b
+    → IsFree g xs x
 is_free all direct ns g xs x b apart m below e may = record {
   inside = omega (arith, m.count, nth_within ns x b e);
   left = not_has xs x (λ i f. may.left (i, in_named ns xs i x b f e));
@@ -45,7 +49,8 @@ is_free all direct ns g xs x b apart m below e may = record {
       in_has xs placed.0 y (q.1 ∙ ap (λ z. Some z) same);
 }
 
-pub order_named : (all direct : List Edge) (ns : List Node) (g : Graph) (xs : List ℕ) → Apart ns → Mirrors all direct ns g → IsOrder g xs → placed.IsOrder all ns (named ns xs)
+pub order_named : (all direct : List Edge) (ns : List Node) (g : Graph) (xs : List ℕ) → Apart ns
+    → Mirrors all direct ns g → IsOrder g xs → placed.IsOrder all ns (named ns xs)
 order_named all direct ns g xs apart m order = record {
   placed = λ k b e.
       let q = named_in ns xs k b inside e in

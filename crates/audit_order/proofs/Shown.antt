@@ -6,11 +6,11 @@ use Rattle.basis.specs.Lists.{nth}
 use Rattle.script_tree.specs.Objects.{Objects}
 use Rattle.script_tree.specs.Programs.{Program}
 use Rattle.script_tree.specs.Requests.{Request}
-use Rattle.script_tree.specs.Traces.{IsBalanced}
+use Rattle.period.specs.Traces.{IsBalanced}
 use Rattle.script_tree.specs.declared.request.Response.{Response}
-use Rattle.script_tree.specs.declared.trace.TraceEvent.{TraceEvent}
-use Rattle.script_tree.specs.declared.trace.TraceEvent.TheVariants.{Asked, Answered}
-use Rattle.report.specs.declared.Report.{Report}
+use Rattle.period.specs.declared.trace.TraceEvent.{TraceEvent}
+use Rattle.period.specs.declared.trace.TraceEvent.TheVariants.{Asked, Answered}
+use Rattle.period.specs.declared.report.Report.{Report}
 use Rattle.event_order.specs.Cycle as cycles
 use Rattle.event_order.specs.Order.{NodeIs, EventIs, Precedes, in_request, in_log, in_time, IsEventGraph}
 use Rattle.event_order.specs.Thin.{IsThin}
@@ -53,7 +53,8 @@ close_rid e = cc
 apart_events : (o : Option Event) (x y : ℕ) → o ≡ Some (Arrival x) → o ≡ Some (Departure y) → ⊥
 apart_events o x y p q = cc
 
-module _ (program : Program) (start : Objects) (trace : List TraceEvent) (report : Report) (g : Graph) (b : IsBalanced trace) (none : log_fault program start trace report ≡ None) (s : Shows trace report g) where
+module _ (program : Program) (start : Objects) (trace : List TraceEvent) (report : Report) (g : Graph)
+    (b : IsBalanced trace) (none : log_fault program start trace report ≡ None) (s : Shows trace report g) where
   abbrev N : List Node
   N = nodes trace report
 
@@ -98,7 +99,8 @@ module _ (program : Program) (start : Objects) (trace : List TraceEvent) (report
       let o = of_number report trace b x n.0 n.1 in
       go o.place o.rid o.number o.request o.asked o.within o.is
     where
-      go : (i r k : ℕ) (q : Request) → nth trace i ≡ Some (Asked r q) → k < count_of report r + 2 → x ≡ off i + k → ((v.is_arrival ≡ true) × IsFirst x v) ⊎ ((v.is_arrival ≡ false) × IsLater x)
+      go : (i r k : ℕ) (q : Request) → nth trace i ≡ Some (Asked r q) → k < count_of report r + 2 → x ≡ off i + k
+          → ((v.is_arrival ≡ true) × IsFirst x v) ⊎ ((v.is_arrival ≡ false) × IsLater x)
       go i r zero q e lt at =
           let here : x ≡ off i = omega (arith, at) in
           let w = s.asked i r q e in
@@ -124,7 +126,8 @@ module _ (program : Program) (start : Objects) (trace : List TraceEvent) (report
       let o = of_number report trace b x n e in
       go o.place o.rid o.number o.request o.asked o.within o.is (o.names ∙ nb.later) p.positive
     where
-      go : (i r k : ℕ) (q : Request) → nth trace i ≡ Some (Asked r q) → k < count_of report r + 2 → x ≡ off i + k → node_at (count_of report r) r k ≡ node_of nb.spot.entry → 1 ≤ nb.spot.entry.number → IsLater x
+      go : (i r k : ℕ) (q : Request) → nth trace i ≡ Some (Asked r q) → k < count_of report r + 2 → x ≡ off i + k
+          → node_at (count_of report r) r k ≡ node_of nb.spot.entry → 1 ≤ nb.spot.entry.number → IsLater x
       go i r zero q e lt at same pos =
           let z : 0 ≡ nb.spot.entry.number = step_number (sym (node_at-step (count_of report r) r 0 (omega arith)) ∙ same) in
           absurd (omega arith)
@@ -153,7 +156,8 @@ module _ (program : Program) (start : Objects) (trace : List TraceEvent) (report
     names : nth N x ≡ Some (step rid 0)
 
   end_names : (i r : ℕ) (q : Request) → nth trace i ≡ Some (Asked r q) → nth N (off i + (count_of report r + 1)) ≡ Some (close r)
-  end_names i r q e = numbered report trace i r (count_of report r + 1) q e (omega arith) ∙ ap (λ n. Some n) (node_at-close (count_of report r) r (count_of report r + 1) (omega arith))
+  end_names i r q e = numbered report trace i r (count_of report r + 1) q e (omega arith)
+      ∙ ap (λ n. Some n) (node_at-close (count_of report r) r (count_of report r + 1) (omega arith))
 
   start_names : (i r : ℕ) (q : Request) → nth trace i ≡ Some (Asked r q) → nth N (off i) ≡ Some (step r 0)
   start_names i r q e = ap (nth N) (let z : off i ≡ off i + 0 = omega arith in z) ∙ numbered report trace i r 0 q e (omega arith) ∙ ap (λ n. Some n) (node_at-step (count_of report r) r 0 (omega arith))
@@ -221,7 +225,9 @@ module _ (program : Program) (start : Objects) (trace : List TraceEvent) (report
           let w = s.asked i r q e in
           let at : l.node + ((off i - l.node - 1) + 1) ≡ off i = omega arith in
           let v = l.request.nodes (off i - l.node - 1) (omega arith) in
-          true≢false (sym w.2.is_arrival ∙ ap (λ (u : GraphNode). u.is_arrival) (same_some (slice_get g.nodes.items (off i)) w.0 v.0 w.1 (ap (slice_get g.nodes.items) (sym at) ∙ v.1)) ∙ v.2)
+          true≢false (sym w.2.is_arrival ∙ ap (λ (u : GraphNode). u.is_arrival)
+          (same_some (slice_get g.nodes.items (off i)) w.0 v.0 w.1 (ap (slice_get g.nodes.items) (sym at) ∙ v.1))
+          ∙ v.2)
 
   between_back : (i j : ℕ) → LiesBetween trace i j → thin.LiesBetween g i j
   between_back i j l = record {
@@ -266,7 +272,8 @@ module _ (program : Program) (start : Objects) (trace : List TraceEvent) (report
       let pn : m.0 ≡ n = same_some (nth N x) m.0 n m.1 ex in
       subst (λ z. NeighboursInLog report z n) pa (subst (NeighboursInLog report c.0) pn c.2)
 
-  to_time : (i j y x : ℕ) (a n : Node) → nth N y ≡ Some a → nth N x ≡ Some n → i < j → EventIs g i (Departure y) → EventIs g j (Arrival x) → (t : InTime trace a n) × (t.left ≡ i) × (t.right ≡ j)
+  to_time : (i j y x : ℕ) (a n : Node) → nth N y ≡ Some a → nth N x ≡ Some n → i < j → EventIs g i (Departure y)
+      → EventIs g j (Arrival x) → (t : InTime trace a n) × (t.left ≡ i) × (t.right ≡ j)
   to_time i j y x a n ey ex lt out in' =
       let d = goes i y out in
       let c = comes j x in' in (
@@ -297,19 +304,24 @@ module _ (program : Program) (start : Objects) (trace : List TraceEvent) (report
       let px : x ≡ off nb.asked.0 + suc nb.number = once_each report trace b n x (off nb.asked.0 + suc nb.number) ex (numbered report trace nb.asked.0 nb.rid (suc nb.number) nb.request nb.asked.1 high ∙ ap (λ z. Some z) (sym nb.later)) in
       (omega (arith, py, px), record { place = nb.asked.0; rid = nb.rid; request = nb.request; asked = nb.asked.1; number = nb.number; below = nb.within; is = px })
 
-  of_log_link : (y x : ℕ) (a n : Node) → nth N y ≡ Some a → nth N x ≡ Some n → NeighboursInLog report a n → (v : GraphNode) × NodeIs g x v × (v.log_before ≡ Some y) × (v.is_arrival ≡ false)
+  of_log_link : (y x : ℕ) (a n : Node) → nth N y ≡ Some a → nth N x ≡ Some n → NeighboursInLog report a n
+      → (v : GraphNode) × NodeIs g x v × (v.log_before ≡ Some y) × (v.is_arrival ≡ false)
   of_log_link y x a n ey ex nb =
       let l = later_is x (entry_later a n x nb ex) in
       let m = s.node x n ex in
       let same : m.0 ≡ l.0 = same_some (slice_get g.nodes.items x) m.0 l.0 m.1 l.1 in
       (l.0, l.1, ap (λ (u : GraphNode). u.log_before) (sym same) ∙ m.2.before_back y a ey nb, l.2)
 
-  of_in_time : (y x : ℕ) (a n : Node) → nth N y ≡ Some a → nth N x ≡ Some n → (t : InTime trace a n) → EventIs g t.left (Departure y) × EventIs g t.right (Arrival x)
+  of_in_time : (y x : ℕ) (a n : Node) → nth N y ≡ Some a → nth N x ≡ Some n → (t : InTime trace a n)
+      → EventIs g t.left (Departure y) × EventIs g t.right (Arrival x)
   of_in_time y x a n ey ex t =
       let c = b.was_asked t.gone t.left t.response t.answered in
       let py : y ≡ off c.0 + (count_of report t.gone + 1) = once_each report trace b a y (off c.0 + (count_of report t.gone + 1)) ey (end_names c.0 t.gone c.1 c.2 ∙ ap (λ z. Some z) (sym t.earlier)) in
-      let px : x ≡ off t.right = once_each report trace b n x (off t.right) ex (start_names t.right t.come t.request t.asked ∙ ap (λ z. Some z) (sym t.later)) in
-      (subst (λ k. EventIs g t.left (Departure k)) (sym py) (s.departure t.left c.0 t.gone t.response c.1 t.answered c.2), subst (λ k. EventIs g t.right (Arrival k)) (sym px) (s.arrival t.right t.come t.request t.asked))
+      let px : x ≡ off t.right = once_each report trace b n x (off t.right) ex (start_names t.right t.come t.request t.asked ∙ ap (λ z. Some z) (sym t.later)) in (
+        subst (λ k. EventIs g t.left (Departure k)) (sym py)
+            (s.departure t.left c.0 t.gone t.response c.1 t.answered c.2),
+        subst (λ k. EventIs g t.right (Arrival k)) (sym px) (s.arrival t.right t.come t.request t.asked),
+      )
 
   below_of : (y x : ℕ) → Precedes g y x → y < length N
   below_of y x (in_request v is later next) = let m = name_of x v is in let lt = within x m.0 m.1 in omega (arith, lt, next)
@@ -355,7 +367,8 @@ module _ (program : Program) (start : Objects) (trace : List TraceEvent) (report
 
   -- ---- what the code is told
 
-  no_link : (i r x : ℕ) (q : Request) (v : GraphNode) (n : Node) → nth trace i ≡ Some (Asked r q) → x ≡ off i → nth N x ≡ Some n → IsLinked report N n v → (o : Option ℕ) → v.log_before ≡ o → v.log_before ≡ None
+  no_link : (i r x : ℕ) (q : Request) (v : GraphNode) (n : Node) → nth trace i ≡ Some (Asked r q) → x ≡ off i
+      → nth N x ≡ Some n → IsLinked report N n v → (o : Option ℕ) → v.log_before ≡ o → v.log_before ≡ None
   no_link i r x q v n e at ex l None is = is
   no_link i r x q v n e at ex l (Some y) is =
       let c = l.before y is in
@@ -369,7 +382,8 @@ module _ (program : Program) (start : Objects) (trace : List TraceEvent) (report
     first = λ v is. elim (kind 0 v is) [ inl h ↦ h.0 | inr h ↦ absurd (let p = h.1.is in omega (arith, p)) ];
     arrives = λ x v is t.
         let f = first_node x v is t in
-        subst (λ k. EventIs g k (Arrival x)) (sym f.arrives.at) (subst (λ k. EventIs g f.place (Arrival k)) (sym f.is) (s.arrival f.place f.rid f.request f.asked));
+        subst (λ k. EventIs g k (Arrival x)) (sym f.arrives.at)
+        (subst (λ k. EventIs g f.place (Arrival k)) (sym f.is) (s.arrival f.place f.rid f.request f.asked));
     since = λ x v is t.
         let f = first_node x v is t in
         let at = f.arrives.at in

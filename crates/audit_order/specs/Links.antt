@@ -4,11 +4,11 @@ use Rattle.basis.specs.Lists.{nth}
 use Rattle.script_tree.specs.Objects.{Objects}
 use Rattle.script_tree.specs.Programs.{Program}
 use Rattle.script_tree.specs.Requests.{Request}
-use Rattle.script_tree.specs.Traces.{IsBalanced}
-use Rattle.script_tree.specs.declared.trace.TraceEvent.{TraceEvent}
-use Rattle.script_tree.specs.declared.trace.TraceEvent.TheVariants.{Asked}
-use Rattle.report.specs.declared.LogEntry.{LogEntry}
-use Rattle.report.specs.declared.Report.{Report}
+use Rattle.period.specs.Traces.{IsBalanced}
+use Rattle.period.specs.declared.trace.TraceEvent.{TraceEvent}
+use Rattle.period.specs.declared.trace.TraceEvent.TheVariants.{Asked}
+use Rattle.period.specs.declared.report.LogEntry.{LogEntry}
+use Rattle.period.specs.declared.report.Report.{Report}
 use Rattle.log_checker.specs.OpMaps.{IsMapOf}
 use Rattle.audit_meaning.specs.LogFaults.{log_fault}
 use Rattle.audit_meaning.specs.Nodes.{node_of}
@@ -51,6 +51,7 @@ pub record LinksBefore (ns : List Node) (r : ℕ) (entries : List LogEntry) (pos
   pub none : position ≡ 0 → link ≡ None
   pub some : (j : ℕ) (e : LogEntry) → position ≡ suc j → nth entries j ≡ Some e → IsLink ns r e link
 
+-- the link of the entry behind a position
 pub record LinksAfter (ns : List Node) (r : ℕ) (entries : List LogEntry) (position : ℕ) (link : Option ℕ) : Type 0 where
   pub none : length entries ≤ suc position → link ≡ None
   pub some : (e : LogEntry) → nth entries (suc position) ≡ Some e → IsLink ns r e link

@@ -1,8 +1,8 @@
 -- Nodes by their numbers.
 use Rattle.std.specs.Prelude.{◌≡◌, ℕ, ◌+◌, ◌<◌, List, map, length, Some}
 use Rattle.basis.specs.Lists.{nth}
-use Rattle.script_tree.specs.declared.trace.TraceEvent.{TraceEvent}
-use Rattle.report.specs.declared.Report.{Report}
+use Rattle.period.specs.declared.trace.TraceEvent.{TraceEvent}
+use Rattle.period.specs.declared.report.Report.{Report}
 use Rattle.audit_meaning.specs.Lists.{numbers}
 use Rattle.audit_meaning.specs.Nodes.{node_at, nodes}
 use Rattle.audit_meaning.specs.declared.node.Node.{Node}

@@ -2,11 +2,11 @@
 use Rattle.std.specs.Prelude.{◌≡◌, ℕ, suc, ◌+◌, ◌<◌, true, false, List, length, take, flat_map, Some, None}
 use Rattle.basis.specs.Lists.{nth}
 use Rattle.script_tree.specs.Requests.{Request}
-use Rattle.script_tree.specs.Traces.{IsBalanced}
+use Rattle.period.specs.Traces.{IsBalanced}
 use Rattle.script_tree.specs.declared.request.Response.{Response}
-use Rattle.script_tree.specs.declared.trace.TraceEvent.{TraceEvent}
-use Rattle.script_tree.specs.declared.trace.TraceEvent.TheVariants.{Asked, Answered}
-use Rattle.report.specs.declared.Report.{Report}
+use Rattle.period.specs.declared.trace.TraceEvent.{TraceEvent}
+use Rattle.period.specs.declared.trace.TraceEvent.TheVariants.{Asked, Answered}
+use Rattle.period.specs.declared.report.Report.{Report}
 use Rattle.event_order.specs.Order.{NodeIs, EventIs, IsEventGraph}
 use Rattle.event_order.specs.Thin.{IsThin}
 use Rattle.event_order.specs.declared.graph.Event.TheVariants.{Arrival, Departure}
@@ -45,9 +45,11 @@ pub record Shows (trace : List TraceEvent) (report : Report) (g : Graph) : Type 
   pub events : length g.trace.items ≡ length trace
   pub node : (x : ℕ) (n : Node) → nth (nodes trace report) x ≡ Some n → (v : GraphNode) × NodeIs g x v × IsLinked report (nodes trace report) n v
   pub asked : (i r : ℕ) (q : Request) → nth trace i ≡ Some (Asked r q) → (v : GraphNode) × NodeIs g (offset trace report i) v × IsArrivalAt trace i v
-  pub later : (i r k : ℕ) (q : Request) → nth trace i ≡ Some (Asked r q) → k < count_of report r + 1 → (v : GraphNode) × NodeIs g (offset trace report i + suc k) v × (v.is_arrival ≡ false)
+  pub later : (i r k : ℕ) (q : Request) → nth trace i ≡ Some (Asked r q) → k < count_of report r + 1
+      → (v : GraphNode) × NodeIs g (offset trace report i + suc k) v × (v.is_arrival ≡ false)
   pub arrival : (i r : ℕ) (q : Request) → nth trace i ≡ Some (Asked r q) → EventIs g i (Arrival (offset trace report i))
-  pub departure : (j i r : ℕ) (x : Response) (q : Request) → nth trace j ≡ Some (Answered r x) → nth trace i ≡ Some (Asked r q) → EventIs g j (Departure (offset trace report i + (count_of report r + 1)))
+  pub departure : (j i r : ℕ) (x : Response) (q : Request) → nth trace j ≡ Some (Answered r x)
+      → nth trace i ≡ Some (Asked r q) → EventIs g j (Departure (offset trace report i + (count_of report r + 1)))
 
 -- What the order of a graph asks for.
 pub record IsOrderable (trace : List TraceEvent) (report : Report) (g : Graph) : Type 0 where

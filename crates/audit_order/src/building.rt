@@ -1,6 +1,6 @@
 ghost use Rattle.std.specs.Prelude.{◌≡◌, ◌<◌, ℕ, Some, length, IfOk};
 ghost use Rattle.basis.specs.Lists.{nth};
-ghost use Rattle.script_tree.specs.Traces.{IsBalanced};
+ghost use Rattle.period.specs.Traces.{IsBalanced};
 ghost use Rattle.log_checker.specs.OpMaps.{IsMapOf};
 ghost use Rattle.precedence_graph.specs.Since.{AreSince};
 ghost use Rattle.audit_meaning.specs.Nodes.{nodes};
@@ -16,8 +16,8 @@ use crate::ordering::{Ordered, order_graph};
 use audit_meaning::node::Node;
 use event_order::graph::{Event, Graph, Node as GraphNode};
 use log_checker::OpMap;
+use period::report::Report;
 use precedence_graph::since::since_places;
-use report::Report;
 use std::alloc::{AllocError, Global};
 use trace_format::trace_file::EventHead;
 use trace_index::{IndexedTrace, narrow};

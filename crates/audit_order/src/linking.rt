@@ -9,7 +9,7 @@ ghost use Rattle.audit_order.specs.Links.{LinksBefore, LinksAfter};
 
 use crate::numbering::Numbering;
 use log_checker::OpMap;
-use report::{LogEntry, Report};
+use period::report::{LogEntry, Report};
 use trace_index::IndexedTrace;
 
 /// A report without faults in its logs, with what is known of it.

@@ -4,7 +4,7 @@ ghost use Rattle.audit_order.specs.Numbers.{own_nodes, IsNumbering};
 
 use audit_meaning::node::Node;
 use log_checker::OpMap;
-use report::Report;
+use period::report::Report;
 use std::alloc::{AllocError, Global};
 use trace_format::trace_file::EventHead;
 use trace_index::{IndexedTrace, narrow};

@@ -1,7 +1,7 @@
 ghost use Rattle.std.specs.Prelude.{◌≡◌, List, IfOk};
-ghost use Rattle.script_tree.specs.Traces.{IsBalanced};
-ghost use Rattle.script_tree.specs.declared.trace.TraceEvent.{TraceEvent as AnyEvent};
-ghost use Rattle.report.specs.declared.Report.{Report as AnyReport};
+ghost use Rattle.period.specs.Traces.{IsBalanced};
+ghost use Rattle.period.specs.declared.trace.TraceEvent.{TraceEvent as AnyEvent};
+ghost use Rattle.period.specs.declared.report.Report.{Report as AnyReport};
 ghost use Rattle.event_order.specs.Order.{IsEventGraph};
 ghost use Rattle.event_order.specs.Thin.{IsThin};
 ghost use Rattle.audit_meaning.specs.Nodes.{nodes};
@@ -10,7 +10,7 @@ ghost use Rattle.audit_order.specs.Mirrors.{at, named, MirrorsReport, IsOrdered}
 use audit_meaning::node::{Node, Nodes};
 use basis::Items;
 use event_order::graph::Graph;
-use event_order::ordering::{Outcome, order};
+use event_order::ordering::{OrderOrCycle, order};
 use std::alloc::{AllocError, Global};
 
 /// The events of a report in order, or a cycle of them.
@@ -57,7 +57,7 @@ pub(crate) fn order_graph(
     // The names take as much memory as the graph, which isn't needed any more.
     drop(graph);
     match outcome {
-        Outcome::Order(numbers) => Ok(Ordered::Order(named(alloc, names, &numbers)?)),
-        Outcome::Cycle(numbers) => Ok(Ordered::Cycle(named(alloc, names, &numbers)?)),
+        OrderOrCycle::Order(numbers) => Ok(Ordered::Order(named(alloc, names, &numbers)?)),
+        OrderOrCycle::Cycle(numbers) => Ok(Ordered::Cycle(named(alloc, names, &numbers)?)),
     }
 }

@@ -6,9 +6,9 @@ ghost use Rattle.log_checker.specs.OpMaps.{IsMapOf};
 use audit_meaning::node::Node;
 use basis::Items;
 use log_checker::OpMap;
-use report::Report;
+use period::report::Report;
+use period::schedule::{Moment, Schedule};
 use script_tree::operation::Choice;
-use script_tree::schedule::{Moment, Schedule};
 use std::alloc::{AllocError, Global};
 
 /// The choice of an operation's entry.

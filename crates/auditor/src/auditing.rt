@@ -1,5 +1,5 @@
 ghost use Rattle.std.specs.Prelude.{◌≡◌, IfOk};
-ghost use Rattle.script_tree.specs.Traces.{IsBalanced};
+ghost use Rattle.period.specs.Traces.{IsBalanced};
 ghost use Rattle.report_format.specs.Limits.{HasValuesWithinLimits};
 ghost use Rattle.object_set.specs.ObjectSets.{IsSetOf, objects_of};
 ghost use Rattle.audit_meaning.specs.Verdicts.{verdict as verdict_on};
@@ -13,7 +13,7 @@ use audit_meaning::verdict::Verdict;
 use basis::OrMemory;
 use object_set::ObjectSet;
 use outside::gate::Gate;
-use report::Report;
+use period::report::Report;
 use script_check::program::Program;
 use std::alloc::{AllocError, Global};
 use trace_format::trace_file::TraceFile;

@@ -1,12 +1,12 @@
 ghost use Rattle.std.specs.Prelude.{◌≡◌};
 ghost use Rattle.basis.specs.UnlessMemory.{UnlessMemory};
-ghost use Rattle.script_tree.specs.Traces.{IsBalanced};
+ghost use Rattle.period.specs.Traces.{IsBalanced};
 ghost use Rattle.report_format.specs.Limits.{HasValuesWithinLimits};
 ghost use Rattle.object_set.specs.ObjectSets.{IsSetOf, objects_of};
 ghost use Rattle.versioned_store.specs.Logged.{FitLogs};
 ghost use Rattle.audit_meaning.specs.Groups.{unsound_group};
 ghost use Rattle.audit_meaning.specs.Verdicts.{verdict as verdict_on};
-ghost use Rattle.log_checker.specs.Faults.{Gives};
+ghost use Rattle.log_checker.specs.Faults.{IsFaultOr};
 ghost use Rattle.log_checker.specs.OpMaps.{IsMapOf};
 ghost use Rattle.auditor.specs.Audited.{IsSpent};
 
@@ -19,7 +19,7 @@ use group_runner::Evidence;
 use log_checker::{OpMap, check_groups, check_logs};
 use object_set::ObjectSet;
 use outside::gate::Gate;
-use report::Report;
+use period::report::Report;
 use script_check::program::Program;
 use script_code::translate::translate;
 use script_fit::law::fitting_is_tested;
@@ -71,7 +71,7 @@ fn run_members<G: Gate + Sync>(
     requires mapped { IsMapOf report.now map.now }
     requires fit { FitLogs start.now report.now.logs }
     ensures { let objects = objects_of start.now in
-        Gives (unsound_group program.now objects trace.now report.now)
+        IsFaultOr (unsound_group program.now objects trace.now report.now)
         (IsSpent program.now objects trace.now report.now) result }
 {
     let code = translate(alloc, program)?;

@@ -79,11 +79,14 @@ unfolding first_answer or_else
 first_some f [] y e = absurd (none_is_not e)
 first_some {A} {B} f (x ∷ xs) y e = go (f x) refl e (λ h. first_some f xs y h)
   where
-    go : (o : Option B) → f x ≡ o → or_else o (first_answer f xs) ≡ Some y → (first_answer f xs ≡ Some y → (z : A) × (In xs z) × (f z ≡ Some y)) → (z : A) × (In (x ∷ xs) z) × (f z ≡ Some y)
+    go : (o : Option B) → f x ≡ o → or_else o (first_answer f xs) ≡ Some y
+        → (first_answer f xs ≡ Some y → (z : A) × (In xs z) × (f z ≡ Some y))
+        → (z : A) × (In (x ∷ xs) z) × (f z ≡ Some y)
     go None p h rest = let more = rest h in (more.0, (suc more.1.0, more.1.1), more.2)
     go (Some w) p h rest = (x, (0, refl), p ∙ h)
 
-pub some_first : {A B : Type 0} (f : A → Option B) (xs : List A) (i : ℕ) (x : A) (y : B) → nth xs i ≡ Some x → f x ≡ Some y → (z : B) × (first_answer f xs ≡ Some z)
+pub some_first : {A B : Type 0} (f : A → Option B) (xs : List A) (i : ℕ) (x : A) (y : B) → nth xs i ≡ Some x
+    → f x ≡ Some y → (z : B) × (first_answer f xs ≡ Some z)
 unfolding first_answer or_else
 some_first f [] i x y h e = absurd (none_is_not h)
 some_first f (w ∷ xs) zero x y h e = (y, ap (λ o. or_else o (first_answer f xs)) (ap f (some_is h) ∙ e))

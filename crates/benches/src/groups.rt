@@ -13,7 +13,7 @@ use group_runner::Evidence;
 use log_checker::check_logs;
 use object_set::ObjectSet;
 use outside_os::FileShelf;
-use report::Report;
+use period::report::Report;
 use script_check::program::Program;
 use script_code::translate::translate;
 use std::io::{self, ErrorKind};

@@ -2,7 +2,7 @@
 //! those that come to something else than the row says. With a shape, a number of requests and how
 //! many times, it makes a large report for `bench/order`, orders its events so many times, and tells
 //! on standard error how long that took.
-ghost use Rattle.script_tree.specs.Traces.{IsBalanced};
+ghost use Rattle.period.specs.Traces.{IsBalanced};
 
 mod answer;
 mod events;
@@ -16,7 +16,7 @@ use crate::order::told::told;
 use crate::order::words::{report_of, trace_of};
 use crate::tally::{Tally, row_of};
 use crate::words::{number, wrong_words};
-use report::Report;
+use period::report::Report;
 use std::alloc::Global;
 use std::fs;
 use std::io::{self, ErrorKind};

@@ -89,9 +89,11 @@ at_tokens ts f g real p q = by (compared p.fault_at.0 q.fault_at.0 p.first q.fir
     by : Compared p.fault_at.0 q.fault_at.0 p.first q.first → f ≡ g
     by (same e) = p.fault_is ∙ ap (λ (t : Token). ungrammatical t.at) e ∙ sym q.fault_is
     by (sooner mid e) =
-        absurd (not_past ts p.fault_at.0 mid q.rest p.first q.first real (q.fault_at.1 ∙ ap (λ l. l ++ q.first ∷ q.rest) e) p.fault_at.3 (subst Begins e q.fault_at.2))
+        absurd (not_past ts p.fault_at.0 mid q.rest p.first q.first real
+        (q.fault_at.1 ∙ ap (λ l. l ++ q.first ∷ q.rest) e) p.fault_at.3 (subst Begins e q.fault_at.2))
     by (later mid e) =
-        absurd (not_past ts q.fault_at.0 mid p.rest q.first p.first real (p.fault_at.1 ∙ ap (λ l. l ++ p.first ∷ p.rest) e) q.fault_at.3 (subst Begins e p.fault_at.2))
+        absurd (not_past ts q.fault_at.0 mid p.rest q.first p.first real
+        (p.fault_at.1 ∙ ap (λ l. l ++ p.first ∷ p.rest) e) q.fault_at.3 (subst Begins e p.fault_at.2))
 
 begin_all : (end : End) (ts : List Token) (f : SyntaxFault) → IsAtEnd end ts f → Begins ts
 begin_all (File len) ts f h = h.0.0
@@ -146,16 +148,16 @@ neither_above f g (inr p) (inr q) =
     let kinds : number_of f.kind ≡ number_of g.kind = omega (arith, p.1, q.1) in
     ap₂ (λ at kind. record { at = at; kind = kind }) p.0 (same_kind f.kind g.kind kinds)
 
-one_least : (tree : List Declaration) (f g : CheckFault) → IsLeastFault tree f → IsLeastFault tree g → f ≡ g
+one_least : (tree : Program) (f g : CheckFault) → IsLeastFault tree f → IsLeastFault tree g → f ≡ g
 one_least tree f g p q = neither_above f g (p.least g q.there) (q.least f p.there)
 
 -- ---- programs
 
-same_tree : (bytes : List ℕ) (x y : List Declaration) → Spells bytes x → Spells bytes y → x ≡ y
+same_tree : (bytes : List ℕ) (x y : Program) → Spells bytes x → Spells bytes y → x ≡ y
 same_tree bytes x y p q = one_tree (scan_of bytes).tokens x y p.tree_is q.tree_is
 
 pub one_program : (bytes : List ℕ) (x y : Program) → SpellsProgram bytes x → SpellsProgram bytes y → x ≡ y
-one_program bytes x y p q = ap program_of (same_tree bytes x.declarations y.declarations p.tree q.tree)
+one_program bytes x y p q = same_tree bytes x y p.tree q.tree
 
 pub one_fault : (bytes : List ℕ) (f g : InputFault) → IsProgramFault bytes f → IsProgramFault bytes g → f ≡ g
 one_fault bytes f g (inl p) (inl q) =
@@ -168,8 +170,8 @@ one_fault bytes f g (inr p) (inr q) =
     p.fault_is ∙ ap Check (one_least p.tree p.least q.least p.is_least least) ∙ sym q.fault_is
 
 pub program_or_fault : (bytes : List ℕ) (x : Program) (f : InputFault) → SpellsProgram bytes x → IsProgramFault bytes f → ⊥
-program_or_fault bytes x f p (inl q) = q.none.none x.declarations p.tree
+program_or_fault bytes x f p (inl q) = q.none.none x p.tree
 program_or_fault bytes x f p (inr q) =
-    let tree : q.tree ≡ x.declarations = same_tree bytes q.tree x.declarations q.spells p.tree in
-    let least : IsLeastFault x.declarations q.least = subst (λ t. IsLeastFault t q.least) tree q.is_least in
+    let tree : q.tree ≡ x = same_tree bytes q.tree x q.spells p.tree in
+    let least : IsLeastFault x q.least = subst (λ t. IsLeastFault t q.least) tree q.is_least in
     absurd (omega (arith, least.there.1, ap length p.valid))

@@ -1,8 +1,8 @@
 -- Records are those of one report.
 use Rattle.std.proofs.Common.{◌≡◌, ◌∙◌, ℕ, List, [], ◌∷◌, ◌++◌, map, refl, ap, sym}
-use Rattle.report.specs.declared.Count.{Count}
-use Rattle.report.specs.declared.Log.{Log}
-use Rattle.report.specs.declared.Report.{Report}
+use Rattle.period.specs.declared.report.Count.{Count}
+use Rattle.period.specs.declared.report.Log.{Log}
+use Rattle.period.specs.declared.report.Report.{Report}
 use Rattle.report_format.specs.Reports.{records_of}
 use Rattle.report_format.specs.RecordKinds.{counts_in, logs_in, groups_in}
 use Rattle.report_format.specs.declared.format.ReportRecord.{ReportRecord}

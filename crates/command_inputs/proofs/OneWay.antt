@@ -2,11 +2,11 @@
 use Rattle.std.proofs.Common.{◌≡◌, ◌∙◌, ℕ, List, Some, None, Result, Ok, Err, inl, inr, refl, ap, sym, subst, arith}
 use Rattle.script_tree.specs.Objects.{Objects}
 use Rattle.script_tree.specs.Programs.{Program}
-use Rattle.script_tree.specs.Traces.{IsBalanced}
+use Rattle.period.specs.Traces.{IsBalanced}
 use Rattle.script_tree.specs.declared.operation.Object.{Object}
-use Rattle.script_tree.specs.declared.schedule.Moment.{Moment}
-use Rattle.script_tree.specs.declared.trace.TraceEvent.{TraceEvent}
-use Rattle.report.specs.declared.Report.{Report}
+use Rattle.period.specs.declared.schedule.Moment.{Moment}
+use Rattle.period.specs.declared.trace.TraceEvent.{TraceEvent}
+use Rattle.period.specs.declared.report.Report.{Report}
 use Rattle.report_format.specs.Reports.{report_format, records_of}
 use Rattle.schedule_format.specs.Moments.{schedule_format}
 use Rattle.state_file.specs.States.{IsReadOneWay as StatesAreReadOneWay}
@@ -69,7 +69,8 @@ programs most = read_one_way (program_input most) (record { things = one_program
 
 -- ---- states
 
-state_fault : (program : Program) (bytes : List ℕ) (f : InputFault) → IsStateFault program bytes f → (s : StateFault) × (f ≡ State s) × IsStateFault program bytes (State s)
+state_fault : (program : Program) (bytes : List ℕ) (f : InputFault) → IsStateFault program bytes f
+    → (s : StateFault) × (f ≡ State s) × IsStateFault program bytes (State s)
 state_fault program bytes (Absent role) h = absurd h
 state_fault program bytes (TooLong role) h = absurd h
 state_fault program bytes (Syntax fault) h = absurd h
@@ -193,4 +194,5 @@ schedule_read exact bytes (Err a) (Ok y) p q = absurd (exact.no_reading_at_fault
 schedule_read exact bytes (Err a) (Err b) p q = ap (λ at. Err at) (exact.one_fault bytes a b p q)
 
 pub schedules : IsExact schedule_format → (most : ℕ) → IsReadOneWay (schedule_input most)
-schedules exact most = read_one_way (schedule_input most) (record { things = schedule_read exact; faults = λ bytes f g h k. absurd h; apart = λ bytes x f h k. k })
+schedules exact most = read_one_way (schedule_input most)
+    (record { things = schedule_read exact; faults = λ bytes f g h k. absurd h; apart = λ bytes x f h k. k })

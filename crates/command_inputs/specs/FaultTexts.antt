@@ -12,6 +12,7 @@ use Rattle.command_inputs.specs.declared.fault.InputFault.TheVariants.{Absent, T
 use Rattle.command_inputs.specs.declared.fault.TraceFault.{TraceFault}
 use Rattle.command_inputs.specs.declared.fault.TraceFault.TheVariants.{Unreadable, Unbalanced}
 
+-- the text of a trace's fault, without the input's name
 abbrev pub trace_fault_text : TraceFault → List ℕ
 trace_fault_text (Unreadable at) = codes "unreadable at " ++ decimal at
 trace_fault_text (Unbalanced rid) = codes "not balanced at request " ++ decimal rid

@@ -1,7 +1,6 @@
 -- What a program's file is.
 use Rattle.std.specs.Prelude.{◌≡◌, ◌⊎◌, ℕ, List}
 use Rattle.script_tree.specs.Programs.{Program}
-use Rattle.script_tree.specs.declared.syntax.declaration.Declaration.{Declaration}
 use Rattle.script_tokens.specs.declared.fault.SyntaxFault.{SyntaxFault}
 use Rattle.script_grammar.specs.Files.{Spells, SpellsNone}
 use Rattle.script_check.specs.Least.{IsLeastFault}
@@ -14,8 +13,8 @@ use Rattle.command_inputs.specs.declared.role.Role.TheVariants as role
 
 -- The bytes spell a tree, and it is valid.
 pub record SpellsProgram (bytes : List ℕ) (program : Program) : Type 0 where
-  pub tree : Spells bytes program.declarations
-  pub valid : IsValid program.declarations
+  pub tree : Spells bytes program
+  pub valid : IsValid program
 
 -- They spell no tree, and this is their first fault.
 pub record HasSyntaxFault (bytes : List ℕ) (fault : InputFault) : Type 0 where
@@ -25,15 +24,17 @@ pub record HasSyntaxFault (bytes : List ℕ) (fault : InputFault) : Type 0 where
 
 -- They spell a tree, and this is its least fault.
 pub record HasCheckFault (bytes : List ℕ) (fault : InputFault) : Type 0 where
-  pub tree : List Declaration
+  pub tree : Program
   pub least : CheckFault
   pub spells : Spells bytes tree
   pub is_least : IsLeastFault tree least
   pub fault_is : fault ≡ Check least
 
+-- The bytes spell no tree, or one that isn't valid, and this is the fault that is told.
 abbrev pub IsProgramFault : List ℕ → InputFault → Type 0
 IsProgramFault bytes fault = HasSyntaxFault bytes fault ⊎ HasCheckFault bytes fault
 
+-- a program, in at most so many bytes
 abbrev pub program_input : ℕ → Input Program
 program_input most = record {
   role = role.Program;

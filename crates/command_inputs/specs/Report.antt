@@ -1,6 +1,6 @@
 -- What a report's file is.
 use Rattle.std.specs.Prelude.{ℕ, List, Result, Ok, Err}
-use Rattle.report.specs.declared.Report.{Report}
+use Rattle.period.specs.declared.report.Report.{Report}
 use Rattle.report_format.specs.Reports.{report_format, records_of}
 use Rattle.wire.specs.Files.{Spells, IsFault}
 use Rattle.command_inputs.specs.Inputs.{Input}
@@ -12,6 +12,7 @@ abbrev pub SpellsReport : List ℕ → Result Report ℕ → Type 0
 SpellsReport bytes (Ok report) = Spells report_format bytes (records_of report)
 SpellsReport bytes (Err at) = IsFault report_format bytes at
 
+-- a report, in at most so many bytes
 abbrev pub report_input : ℕ → Input (Result Report ℕ)
 report_input most = record {
   role = role.Report;

@@ -7,6 +7,7 @@ use Rattle.command_inputs.specs.declared.fault.InputFault.{InputFault}
 use Rattle.command_inputs.specs.declared.fault.InputFault.TheVariants.{Absent, TooLong, Syntax, Check, State, Requests, Turns, Trace}
 use Rattle.command_inputs.specs.declared.role.Role.TheVariants as role
 
+-- The fault is one of a file of requests, and the bytes have it.
 abbrev pub IsRequestsFault : List ℕ → InputFault → Type 0
 IsRequestsFault bytes (Absent role) = ⊥
 IsRequestsFault bytes (TooLong role) = ⊥
@@ -17,6 +18,7 @@ IsRequestsFault bytes (Requests fault) = HasRequestsFault bytes fault
 IsRequestsFault bytes (Turns fault) = ⊥
 IsRequestsFault bytes (Trace fault) = ⊥
 
+-- a file of requests, in at most so many bytes
 abbrev pub requests_input : ℕ → Input (List Request)
 requests_input most = record {
   role = role.Requests;

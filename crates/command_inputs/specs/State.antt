@@ -17,6 +17,7 @@ pub record SpellsObjects (program : Program) (bytes : List ℕ) (start : Objects
   pub spelled : SpellsState program bytes given
   pub held : (o : Object) → start o ≡ given_objects program given o
 
+-- The fault is one of a state, and the bytes have it.
 abbrev pub IsStateFault : Program → List ℕ → InputFault → Type 0
 IsStateFault program bytes (Absent role) = ⊥
 IsStateFault program bytes (TooLong role) = ⊥
@@ -27,6 +28,7 @@ IsStateFault program bytes (Requests fault) = ⊥
 IsStateFault program bytes (Turns fault) = ⊥
 IsStateFault program bytes (Trace fault) = ⊥
 
+-- a state of the program, in at most so many bytes
 abbrev pub state_input : Program → ℕ → Input Objects
 state_input program most = record {
   role = role.State;

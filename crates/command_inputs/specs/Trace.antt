@@ -1,7 +1,7 @@
 -- What a trace's file is.
 use Rattle.std.specs.Prelude.{ℕ, List, Some}
-use Rattle.script_tree.specs.Traces.{IsBalanced}
-use Rattle.script_tree.specs.declared.trace.TraceEvent.{TraceEvent}
+use Rattle.period.specs.Traces.{IsBalanced}
+use Rattle.period.specs.declared.trace.TraceEvent.{TraceEvent}
 use Rattle.trace_format.specs.Balance.{IsFirstFault}
 use Rattle.trace_format.specs.Events.{trace_format}
 use Rattle.wire.specs.Files.{Spells, IsFault}
@@ -22,10 +22,12 @@ abbrev pub IsUnbalanced : List ℕ → ℕ → Type 0
 IsUnbalanced bytes rid =
     (trace : List TraceEvent) × Spells trace_format bytes trace × IsFirstFault trace (Some rid)
 
+-- The bytes spell no trace from this place on, or this request names the fault of the trace that they spell.
 abbrev pub HasTraceFault : List ℕ → TraceFault → Type 0
 HasTraceFault bytes (Unreadable at) = IsFault trace_format bytes at
 HasTraceFault bytes (Unbalanced rid) = IsUnbalanced bytes rid
 
+-- The fault is one of a trace, and the bytes have it.
 abbrev pub IsTraceFault : List ℕ → InputFault → Type 0
 IsTraceFault bytes (Absent role) = ⊥
 IsTraceFault bytes (TooLong role) = ⊥
@@ -36,6 +38,7 @@ IsTraceFault bytes (Requests fault) = ⊥
 IsTraceFault bytes (Turns fault) = ⊥
 IsTraceFault bytes (Trace fault) = HasTraceFault bytes fault
 
+-- a trace, in at most so many bytes
 abbrev pub trace_input : ℕ → Input (List TraceEvent)
 trace_input most = record {
   role = role.Trace;

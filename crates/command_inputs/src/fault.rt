@@ -1,4 +1,5 @@
-ghost use Rattle.std.specs.Prelude.{◌≡◌, IfOk};
+ghost use Rattle.std.specs.Prelude.{◌≡◌, IfOk, OnErr};
+ghost use Rattle.basis.specs.declared.or_memory.OrMemory.TheVariants.{Memory as NoMemory};
 ghost use Rattle.command_inputs.specs.Faults.{or_memory, refused};
 ghost use Rattle.command_inputs.specs.FaultTexts.{syntax_number};
 ghost use Rattle.command_inputs.specs.declared.fault.InputError.TheVariants.{Fault, Halt as Halts};
@@ -63,7 +64,8 @@ impl InputError {
 
 /// The thing or its fault, where memory did not run out.
 pub(crate) fn or_fault<T, E>(read: Result<T, OrMemory<E>>) -> Result<Result<T, E>, AllocError>
-    ensures { IfOk result (λ told. read ≡ or_memory told) }
+    ensures told { IfOk result (λ told. read ≡ or_memory told) }
+    ensures memory { OnErr result (read ≡ Err NoMemory) }
 {
     match read {
         Ok(thing) => Ok(Ok(thing)),

@@ -9,7 +9,7 @@ use crate::fault::{InputError, or_fault};
 use crate::file::read_whole;
 use crate::role::Role;
 use outside::Shelf;
-use report::Report;
+use period::report::Report;
 use report_format::decoding::decode;
 use report_format::law::values_are_within_limits;
 use std::alloc::Global;

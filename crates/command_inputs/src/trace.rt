@@ -1,6 +1,6 @@
 ghost use Rattle.std.specs.Prelude.{◌<◌, ◌^◌, IfOk};
 ghost use Rattle.basis.specs.UnlessMemory.{UnlessMemory};
-ghost use Rattle.script_tree.specs.Traces.{IsBalanced};
+ghost use Rattle.period.specs.Traces.{IsBalanced};
 ghost use Rattle.outside.specs.Shelves.{IsReadOnce};
 ghost use Rattle.command_inputs.specs.Faults.{UsesToRead};
 ghost use Rattle.command_inputs.specs.Inputs.{IsReadUnder};

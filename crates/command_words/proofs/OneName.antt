@@ -7,12 +7,16 @@ two_before : (a b : List ℕ) (o : Option (List (List ℕ))) → in_one (option_
 two_before a b None = refl
 two_before a b (Some ns) = refl
 
-second : (t u : Bool) (a b c : List ℕ) (l : List (List ℕ)) (o : Option (List (List ℕ))) → in_one (option_map (λ n. a ∷ n) (if t then Some (c ∷ l) else (if u then None else option_map (λ n. b ∷ n) o))) ≡ None
+second : (t u : Bool) (a b c : List ℕ) (l : List (List ℕ)) (o : Option (List (List ℕ)))
+    → in_one (option_map (λ n. a ∷ n) (if t then Some (c ∷ l) else (if u then None else option_map (λ n. b ∷ n) o)))
+    ≡ None
 second true u a b c l o = refl
 second false true a b c l o = refl
 second false false a b c l o = two_before a b o
 
-first : (t u : Bool) (a b c : List ℕ) (l : List (List ℕ)) → in_one (if t then Some (b ∷ c ∷ l) else (if u then None else option_map (λ n. a ∷ n) (names_in (b ∷ c ∷ l)))) ≡ None
+first : (t u : Bool) (a b c : List ℕ) (l : List (List ℕ))
+    → in_one (if t then Some (b ∷ c ∷ l) else (if u then None else option_map (λ n. a ∷ n) (names_in (b ∷ c ∷ l))))
+    ≡ None
 first true u a b c l = refl
 first false true a b c l = refl
 first false false a b c l = second (bytes_eq b (codes "--")) (is_option b) a b c l (names_in (c ∷ l))

@@ -97,7 +97,8 @@ long_is_refused o v h (inl e) = rw e no_kinds
 long_is_refused o (Some v) h (inr e) = rw e no_kinds
 long_is_refused o None h (inr e) = rw e (or_else_second (settle_fault all_rules false h) _ no_kinds)
 
-short_is_refused : (o : Option Rule) (rest : Text) (h : Held) (next : Held → Kinds) → (o ≡ None) ⊎ (o ≡ Some help) → short_fault all_rules false o rest h next ≡ [] → ⊥
+short_is_refused : (o : Option Rule) (rest : Text) (h : Held) (next : Held → Kinds) → (o ≡ None) ⊎ (o ≡ Some help)
+    → short_fault all_rules false o rest h next ≡ [] → ⊥
 short_is_refused o rest h next (inl e) = rw e no_kinds
 short_is_refused o rest h next (inr e) = rw e (or_else_first _ _ (or_else_second (settle_fault all_rules false h) _ no_kinds))
 
@@ -107,10 +108,13 @@ long_found name = either_rule (has_long help name) help
 short_found : (x : ℕ) → (arg_by_short all_rules x ≡ None) ⊎ (arg_by_short all_rules x ≡ Some help)
 short_found x = either_rule (has_short help x) help
 
-as_long : (x : Place) (w : Text) (p : Text × Option Text) → bytes_eq w dashes ≡ false → long_of w ≡ Some p → word_fault app.top [] false idle w (held_at x) ≡ long_fault all_rules false (arg_by_long all_rules p.0) p.1 (held_at x)
+as_long : (x : Place) (w : Text) (p : Text × Option Text) → bytes_eq w dashes ≡ false → long_of w ≡ Some p
+    → word_fault app.top [] false idle w (held_at x)
+    ≡ long_fault all_rules false (arg_by_long all_rules p.0) p.1 (held_at x)
 as_long x w p d e = rw (d, e) refl
 
-as_short : (x : Place) (w flags : Text) → bytes_eq w dashes ≡ false → long_of w ≡ None → short_of w ≡ Some flags → word_fault app.top [] false idle w (held_at x) ≡ flags_fault all_rules false (length flags) flags 0 (held_at x)
+as_short : (x : Place) (w flags : Text) → bytes_eq w dashes ≡ false → long_of w ≡ None → short_of w ≡ Some flags
+    → word_fault app.top [] false idle w (held_at x) ≡ flags_fault all_rules false (length flags) flags 0 (held_at x)
 as_short x w flags d l e = rw (d, l, e) refl
 
 -- the characters behind a dash: there is one
@@ -133,11 +137,14 @@ option_fault : (x : Place) (w : Text) → IsUtf8 w → is_option w ≡ true → 
 option_fault x [] u o d = cc
 option_fault x (b ∷ []) u o d = cc
 option_fault x (b ∷ c ∷ w) u o d = behind (is_45 b o) where
-  dashed : (w : Text) → IsUtf8 (45 ∷ c ∷ w) → bytes_eq (45 ∷ c ∷ w) dashes ≡ false → (t : Bool) → (c == 45) ≡ t → word_fault app.top [] false idle (45 ∷ c ∷ w) (held_at x) ≡ [] → ⊥
+  dashed : (w : Text) → IsUtf8 (45 ∷ c ∷ w) → bytes_eq (45 ∷ c ∷ w) dashes ≡ false → (t : Bool) → (c == 45) ≡ t
+      → word_fault app.top [] false idle (45 ∷ c ∷ w) (held_at x) ≡ [] → ⊥
   dashed [] u d true same e = let bad : true ≡ false = rw same at d in cc
   dashed (y ∷ ys) u d true same e =
       let named : long_of (45 ∷ c ∷ y ∷ ys) ≡ Some (name_and_value (y ∷ ys)) = rw same refl in
-      long_is_refused (arg_by_long all_rules (name_and_value (y ∷ ys)).0) (name_and_value (y ∷ ys)).1 (held_at x) (long_found (name_and_value (y ∷ ys)).0) (sym (as_long x (45 ∷ c ∷ y ∷ ys) (name_and_value (y ∷ ys)) d named) ∙ e)
+      long_is_refused (arg_by_long all_rules (name_and_value (y ∷ ys)).0) (name_and_value (y ∷ ys)).1 (held_at x)
+      (long_found (name_and_value (y ∷ ys)).0)
+      (sym (as_long x (45 ∷ c ∷ y ∷ ys) (name_and_value (y ∷ ys)) d named) ∙ e)
   dashed w u d false other e =
       let char = behind_dash c w u in
       let no_name : long_of (45 ∷ c ∷ w) ≡ None = rw other refl in
@@ -147,7 +154,8 @@ option_fault x (b ∷ c ∷ w) u o d = behind (is_45 b o) where
   behind : b ≡ 45 → word_fault app.top [] false idle (b ∷ c ∷ w) (held_at x) ≡ [] → ⊥
   behind is e =
       let first : b ∷ c ∷ w ≡ 45 ∷ c ∷ w = ap (λ y. y ∷ c ∷ w) is in
-      dashed w (subst IsUtf8 first u) (ap (λ v. bytes_eq v dashes) (sym first) ∙ d) (c == 45) refl (ap (λ v. word_fault app.top [] false idle v (held_at x)) (sym first) ∙ e)
+      dashed w (subst IsUtf8 first u) (ap (λ v. bytes_eq v dashes) (sym first) ∙ d) (c == 45) refl
+      (ap (λ v. word_fault app.top [] false idle v (held_at x)) (sym first) ∙ e)
 
 -- ---- the walk
 
@@ -168,12 +176,14 @@ rows_from w ws = finished all_rules (fold (walked all_rules []) w ws).held
 next_fault : (w z : Walk) (word : Text) (ws : List Text) (f : Kinds) → turn_fault app.top [] w word ≡ f → walked all_rules [] w word ≡ z
     → fault_from w (word ∷ ws) ≡ or_else (or_else f (walk_fault app.top [] z ws)) (end_fault (fold (walked all_rules []) z ws))
 unfolding walk_fault
-next_fault w z word ws f e moved = ap₂ (λ (g : Kinds) (y : Walk). or_else (or_else g (walk_fault app.top [] y ws)) (end_fault (fold (walked all_rules []) y ws))) e moved
+next_fault w z word ws f e moved = ap₂ (λ (g : Kinds) (y : Walk). or_else (or_else g (walk_fault app.top [] y ws))
+    (end_fault (fold (walked all_rules []) y ws))) e moved
 
 next_rows : (w z : Walk) (word : Text) (ws : List Text) → walked all_rules [] w word ≡ z → rows_from w (word ∷ ws) ≡ rows_from z ws
 next_rows w z word ws moved = ap (λ (y : Walk). rows_from y ws) moved
 
-turn_is : (x : Place) (w : Text) (m : Held × Step) → word_fault app.top [] false idle w (held_at x) ≡ [] → word_met all_rules [] false idle x.1.1 w (held_at x) ≡ m
+turn_is : (x : Place) (w : Text) (m : Held × Step) → word_fault app.top [] false idle w (held_at x) ≡ []
+    → word_met all_rules [] false idle x.1.1 w (held_at x) ≡ m
     → turn_fault app.top [] (walk_at x false) w ≡ step_fault app.top x.1.1 m.0 m.1
 turn_is x w m none met = ap₂ (λ (f : Kinds) (n : Held × Step). or_else f (step_fault app.top x.1.1 n.0 n.1)) none met
 
@@ -222,9 +232,12 @@ AreUtf8 (w ∷ ws) = IsUtf8 w × AreUtf8 ws
 
 abbrev More : List Text → Place → Type 0
 More ns x = (w : Text) (b : Bool) (ws : List Text) → AreUtf8 ws
-    → Agrees (expected (ns ++ w ∷ []) b ws) (or_else (or_else (name_fault x) (walk_fault app.top [] (named x b w) ws)) (end_fault (fold (walked all_rules []) (named x b w) ws))) (rows_from (named x b w) ws)
+    → Agrees (expected (ns ++ w ∷ []) b ws) (or_else (or_else (name_fault x) (walk_fault app.top [] (named x b w) ws))
+    (end_fault (fold (walked all_rules []) (named x b w) ws))) (rows_from (named x b w) ws)
 
-put_first : (ns : List Text) (w : Text) (o : Option (List Text)) → in_four (option_map (λ more. ns ++ more) (option_map (λ names. w ∷ names) o)) ≡ in_four (option_map (λ more. (ns ++ w ∷ []) ++ more) o)
+put_first : (ns : List Text) (w : Text) (o : Option (List Text))
+    → in_four (option_map (λ more. ns ++ more) (option_map (λ names. w ∷ names) o))
+    ≡ in_four (option_map (λ more. (ns ++ w ∷ []) ++ more) o)
 put_first ns w None = refl
 put_first ns w (Some more) = ap four_names (sym (append_assoc ns (w ∷ []) more))
 
@@ -236,11 +249,17 @@ over ns x ends more true [] u = carry _ _ _ _ _ _ (ap four_names (append-nil ns)
 over ns x ends more false [] u = carry _ _ _ _ _ _ (ap four_names (append-nil ns)) refl refl (ends false)
 over ns x ends more true (w ∷ ws) u = carry _ _ _ _ _ _ (ap four_names (sym (append_assoc ns (w ∷ []) ws))) refl refl (more w true ws u.1)
 over ns x ends more false (w ∷ ws) u = by_word (over ns x ends more true ws u.1) (bytes_eq w dashes) refl (is_option w) refl where
-  by_word : Agrees (expected ns true ws) (fault_from (walk_at x true) ws) (rows_from (walk_at x true) ws) → (d : Bool) → bytes_eq w dashes ≡ d → (o : Bool) → is_option w ≡ o → Agrees (expected ns false (w ∷ ws)) (fault_from (walk_at x false) (w ∷ ws)) (rows_from (walk_at x false) (w ∷ ws))
+  by_word : Agrees (expected ns true ws) (fault_from (walk_at x true) ws) (rows_from (walk_at x true) ws) → (d : Bool)
+      → bytes_eq w dashes ≡ d → (o : Bool) → is_option w ≡ o
+      → Agrees (expected ns false (w ∷ ws)) (fault_from (walk_at x false) (w ∷ ws))
+      (rows_from (walk_at x false) (w ∷ ws))
   by_word behind true d o is =
       let met = meets_dashes x w d in
       let moved = walked_is x w (held_at x, trailing x.1.1) met in
-      carry _ (expected ns true ws) _ (fault_from (walk_at x true) ws) _ (rows_from (walk_at x true) ws) (rw d refl) (next_fault (walk_at x false) (walk_at x true) w ws [] (turn_is x w (held_at x, trailing x.1.1) (no_dashes_fault x w d) met) moved) (next_rows (walk_at x false) (walk_at x true) w ws moved) behind
+      carry _ (expected ns true ws) _ (fault_from (walk_at x true) ws) _ (rows_from (walk_at x true) ws) (rw d refl)
+      (next_fault (walk_at x false) (walk_at x true) w ws []
+      (turn_is x w (held_at x, trailing x.1.1) (no_dashes_fault x w d) met) moved)
+      (next_rows (walk_at x false) (walk_at x true) w ws moved) behind
   by_word behind false d true is =
       let none : expected ns false (w ∷ ws) ≡ None = rw (d, is) refl in
       let bad : fault_from (walk_at x false) (w ∷ ws) ≡ [] → ⊥ = or_else_first _ _ (or_else_first _ _ (or_else_first _ _ (option_fault x w u.0 is d))) in
@@ -249,7 +268,10 @@ over ns x ends more false (w ∷ ws) u = by_word (over ns x ends more true ws u.
       let p = plain w is in
       let met = meets_value x w p in
       let moved = walked_is x w (held_at x, value) met in
-      carry _ (expected (ns ++ w ∷ []) false ws) _ _ _ _ (rw (d, is) (put_first ns w (names_in ws))) (next_fault (walk_at x false) (named x false w) w ws (name_fault x) (turn_is x w (held_at x, value) (no_word_fault x w p) met) moved) (next_rows (walk_at x false) (named x false w) w ws moved) (more w false ws u.1)
+      carry _ (expected (ns ++ w ∷ []) false ws) _ _ _ _ (rw (d, is) (put_first ns w (names_in ws)))
+      (next_fault (walk_at x false) (named x false w) w ws (name_fault x)
+      (turn_is x w (held_at x, value) (no_word_fault x w p) met) moved)
+      (next_rows (walk_at x false) (named x false w) w ws moved) (more w false ws u.1)
 
 -- ---- four places
 
@@ -278,30 +300,39 @@ five p s t c w false ws = none (names_in ws) where
   none None = refl
   none (Some more) = refl
 
-from_four : (p s t c : Text) (b : Bool) (ws : List Text) → AreUtf8 ws → Agrees (expected (p ∷ s ∷ t ∷ c ∷ []) b ws) (fault_from (walk_at (behind_four p s t c) b) ws) (rows_from (walk_at (behind_four p s t c) b) ws)
+from_four : (p s t c : Text) (b : Bool) (ws : List Text) → AreUtf8 ws
+    → Agrees (expected (p ∷ s ∷ t ∷ c ∷ []) b ws) (fault_from (walk_at (behind_four p s t c) b) ws)
+    (rows_from (walk_at (behind_four p s t c) b) ws)
 unfolding walk_fault walked defaults_fault
 from_four p s t c = over (p ∷ s ∷ t ∷ c ∷ []) (behind_four p s t c) ends more where
-  ends : (b : Bool) → Agrees (four_names (p ∷ s ∷ t ∷ c ∷ [])) (end_fault (walk_at (behind_four p s t c) b)) (finished all_rules (held_at (behind_four p s t c)))
+  ends : (b : Bool) → Agrees (four_names (p ∷ s ∷ t ∷ c ∷ [])) (end_fault (walk_at (behind_four p s t c) b))
+      (finished all_rules (held_at (behind_four p s t c)))
   ends b = (refl, refl)
 
   more : More (p ∷ s ∷ t ∷ c ∷ []) (behind_four p s t c)
   more w b ws u = carry _ None _ _ _ _ (five p s t c w b ws) refl refl no_kinds
 
-from_three : (p s t : Text) (b : Bool) (ws : List Text) → AreUtf8 ws → Agrees (expected (p ∷ s ∷ t ∷ []) b ws) (fault_from (walk_at (behind_three p s t) b) ws) (rows_from (walk_at (behind_three p s t) b) ws)
+from_three : (p s t : Text) (b : Bool) (ws : List Text) → AreUtf8 ws
+    → Agrees (expected (p ∷ s ∷ t ∷ []) b ws) (fault_from (walk_at (behind_three p s t) b) ws)
+    (rows_from (walk_at (behind_three p s t) b) ws)
 unfolding walk_fault walked defaults_fault
 from_three p s t = over (p ∷ s ∷ t ∷ []) (behind_three p s t) (λ b. no_kinds) more where
   more : More (p ∷ s ∷ t ∷ []) (behind_three p s t)
   more w true ws u = from_four p s t w true ws u
   more w false ws u = from_four p s t w false ws u
 
-from_two : (p s : Text) (b : Bool) (ws : List Text) → AreUtf8 ws → Agrees (expected (p ∷ s ∷ []) b ws) (fault_from (walk_at (behind_two p s) b) ws) (rows_from (walk_at (behind_two p s) b) ws)
+from_two : (p s : Text) (b : Bool) (ws : List Text) → AreUtf8 ws
+    → Agrees (expected (p ∷ s ∷ []) b ws) (fault_from (walk_at (behind_two p s) b) ws)
+    (rows_from (walk_at (behind_two p s) b) ws)
 unfolding walk_fault walked defaults_fault
 from_two p s = over (p ∷ s ∷ []) (behind_two p s) (λ b. no_kinds) more where
   more : More (p ∷ s ∷ []) (behind_two p s)
   more w true ws u = from_three p s w true ws u
   more w false ws u = from_three p s w false ws u
 
-from_one : (p : Text) (b : Bool) (ws : List Text) → AreUtf8 ws → Agrees (expected (p ∷ []) b ws) (fault_from (walk_at (behind_one p) b) ws) (rows_from (walk_at (behind_one p) b) ws)
+from_one : (p : Text) (b : Bool) (ws : List Text) → AreUtf8 ws
+    → Agrees (expected (p ∷ []) b ws) (fault_from (walk_at (behind_one p) b) ws)
+    (rows_from (walk_at (behind_one p) b) ws)
 unfolding walk_fault walked defaults_fault
 from_one p = over (p ∷ []) (behind_one p) (λ b. no_kinds) more where
   more : More (p ∷ []) (behind_one p)
@@ -333,25 +364,35 @@ refused None f rows h e = refl
 refused (Some r) f rows h e = absurd (e h.0)
 
 found : (f : Found) → found_names f ≡ names_at (rows_of f)
-found f = rw (first_value-rows f (codes "program"), first_value-rows f (codes "state"), first_value-rows f (codes "trace"), first_value-rows f (codes "schedule")) refl
+found f = rw (
+  first_value-rows f (codes "program"),
+  first_value-rows f (codes "state"),
+  first_value-rows f (codes "trace"),
+  first_value-rows f (codes "schedule"),
+) refl
 
 texts_utf8 : (words : List (String Global)) → AreUtf8 (map string_bytes words)
 texts_utf8 [] = tt
 texts_utf8 (w ∷ words) = (IsUtf8-had (string_bytes w) w.ok, texts_utf8 words)
 
 -- where the words are taken, the names are found
-pub takes_names : (a : App) (words : List (String Global)) (m : ArgMatches) → a ≡ replay_app → fault_of a (map string_bytes words) ≡ [] → HasMatchesOf a (map string_bytes words) m → found_names (found_of m) ≡ in_four (names_in (map string_bytes words))
+pub takes_names : (a : App) (words : List (String Global)) (m : ArgMatches) → a ≡ replay_app
+    → fault_of a (map string_bytes words) ≡ [] → HasMatchesOf a (map string_bytes words) m
+    → found_names (found_of m) ≡ in_four (names_in (map string_bytes words))
 takes_names a words m is e h =
     let ws = map string_bytes words in
     let simple : is_simple a ≡ true = ap is_simple is ∙ refl in
-    found (found_of m) ∙ ap names_at ((h simple).0 ∙ ap (λ (b : App). matches_of b ws) is) ∙ agreed _ _ _ (reads ws (texts_utf8 words)) (ap (λ (b : App). fault_of b ws) (sym is) ∙ e)
+    found (found_of m) ∙ ap names_at ((h simple).0 ∙ ap (λ (b : App). matches_of b ws) is)
+    ∙ agreed _ _ _ (reads ws (texts_utf8 words)) (ap (λ (b : App). fault_of b ws) (sym is) ∙ e)
 
 is_among_some : (k : ErrorKind) (ks : Kinds) → IsAmong k ks → ks ≡ [] → ⊥
 is_among_some k [] h e = h
 is_among_some k (x ∷ ks) h e = no_kinds e
 
 -- where they are refused, and memory isn't wanting, there are none
-pub refuses_others : (a : App) (words : List (String Global)) (e : Error) → a ≡ replay_app → HasKind (fault_of a (map string_bytes words)) e → (kind_of e ≡ OutOfMemory → ⊥) → None ≡ in_four (names_in (map string_bytes words))
+pub refuses_others : (a : App) (words : List (String Global)) (e : Error) → a ≡ replay_app
+    → HasKind (fault_of a (map string_bytes words)) e → (kind_of e ≡ OutOfMemory → ⊥)
+    → None ≡ in_four (names_in (map string_bytes words))
 refuses_others a words e is (inl out) here = absurd (here out)
 refuses_others a words e is (inr among) here =
     let ws = map string_bytes words in

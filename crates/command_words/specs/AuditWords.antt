@@ -16,11 +16,13 @@ pub record AuditWords : Type 0 where
   pub schedule : List ℕ
   pub workers : ℕ
 
+-- the five names and the option of `audit`
 abbrev pub audit_rules : List Rule
 audit_rules =
     name_rule (codes "program") ∷ name_rule (codes "state") ∷ name_rule (codes "trace")
     ∷ name_rule (codes "report") ∷ name_rule (codes "schedule") ∷ option_rule (codes "workers") ∷ []
 
+-- the simple command `audit`
 abbrev pub audit_app : App
 audit_app =
     fold with_rule (on_top (λ s. record s { no_binary_name = true }) (new_app (codes "audit"))) audit_rules

@@ -7,9 +7,11 @@ use Rattle.command_words.specs.declared.audit_words.AuditWords.{AuditWords}
 use Rattle.command_words.specs.declared.record_words.RecordWords.{RecordWords}
 use Rattle.command_words.specs.declared.words.ReplayNames.{ReplayNames}
 
+-- the names of replay's inputs, by their bytes
 abbrev pub names_of : ReplayNames → meant.ReplayNames
 names_of n = record { program = n.program.now; state = n.state.now; trace = n.trace.now; schedule = n.schedule.now }
 
+-- the words of a recording, by their bytes
 abbrev pub record_words_of : RecordWords → meant_record.RecordWords
 record_words_of w = record {
   program = w.program.now;
@@ -22,6 +24,7 @@ record_words_of w = record {
   seed = w.seed;
 }
 
+-- the words of an audit, by their bytes
 abbrev pub audit_words_of : AuditWords → meant_audit.AuditWords
 audit_words_of w = record {
   program = w.program.now;

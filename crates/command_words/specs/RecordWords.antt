@@ -39,12 +39,14 @@ are_workers n = nat_lt 0 n && nat_lt n (MOST_WORKERS + 1)
 
 -- ---- words
 
+-- the five names and the three options of `record`
 abbrev pub record_rules : List Rule
 record_rules =
     name_rule (codes "program") ∷ name_rule (codes "state") ∷ name_rule (codes "requests")
     ∷ name_rule (codes "trace") ∷ name_rule (codes "report")
     ∷ option_rule (codes "workers") ∷ option_rule (codes "turns") ∷ option_rule (codes "seed") ∷ []
 
+-- the simple command `record`
 abbrev pub record_app : App
 record_app =
     fold with_rule (on_top (λ s. record s { no_binary_name = true }) (new_app (codes "record"))) record_rules
@@ -53,6 +55,7 @@ record_app =
 abbrev pub is_sound : RecordWords → Bool
 is_sound w = not (bytes_eq w.trace w.report) && are_workers w.workers
 
+-- the words, where they are sound
 abbrev pub if_sound : RecordWords → Option RecordWords
 if_sound w = if is_sound w then Some w else None
 

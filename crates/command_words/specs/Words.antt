@@ -27,6 +27,7 @@ abbrev pub four_names : List (List ℕ) → Option ReplayNames
 four_names (p ∷ s ∷ t ∷ c ∷ []) = Some (record { program = p; state = s; trace = t; schedule = c })
 four_names names = None
 
+-- the names that were found, where they are four
 abbrev pub in_four : Option (List (List ℕ)) → Option ReplayNames
 in_four (Some names) = four_names names
 in_four None = None
@@ -41,6 +42,7 @@ abbrev pub one_name : List (List ℕ) → Option (List ℕ)
 one_name (name ∷ []) = Some name
 one_name names = None
 
+-- the name that was found, where it is one alone
 abbrev pub in_one : Option (List (List ℕ)) → Option (List ℕ)
 in_one (Some names) = one_name names
 in_one None = None

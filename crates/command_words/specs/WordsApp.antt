@@ -22,6 +22,7 @@ taken app say words = if is_empty (fault_of app words) then say (λ id. first_of
 
 -- ---- `replay`
 
+-- the simple command `replay`
 abbrev pub replay_app : App
 replay_app = with_rule (with_rule (with_rule (with_rule (on_top (λ s. record s { no_binary_name = true }) (new_app (codes "replay")))
     (name_rule (codes "program"))) (name_rule (codes "state"))) (name_rule (codes "trace"))) (name_rule (codes "schedule"))

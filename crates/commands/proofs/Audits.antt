@@ -8,15 +8,15 @@ use Rattle.outside.specs.Sinks.{SinkTold}
 use Rattle.script_meaning.specs.Explains.{Explains}
 use Rattle.script_tree.specs.Objects.{Objects}
 use Rattle.script_tree.specs.Programs.{Program}
-use Rattle.script_tree.specs.Traces.{IsBalanced}
+use Rattle.period.specs.Traces.{IsBalanced}
 use Rattle.script_tree.specs.declared.limits.TheConstants.{MOST_REQUESTS}
-use Rattle.script_tree.specs.declared.schedule.Moment.{Moment}
-use Rattle.script_tree.specs.declared.trace.TraceEvent.{TraceEvent}
-use Rattle.script_tree.specs.declared.trace.TraceEvent.TheVariants.{Asked, Answered}
+use Rattle.period.specs.declared.schedule.Moment.{Moment}
+use Rattle.period.specs.declared.trace.TraceEvent.{TraceEvent}
+use Rattle.period.specs.declared.trace.TraceEvent.TheVariants.{Asked, Answered}
 use Rattle.wire.specs.Files.{MayFollow, Spells, file_spelling}
 use Rattle.wire.specs.declared.limits.TheConstants.{MOST_FILE_BYTES, MOST_SCHEDULE_BYTES}
 use Rattle.trace_format.specs.Events.{is_request, request_count, trace_format}
-use Rattle.report.specs.declared.Report.{Report}
+use Rattle.period.specs.declared.report.Report.{Report}
 use Rattle.report_format.specs.Reports.{report_format, records_of}
 use Rattle.schedule_format.specs.Moments.{schedule_format}
 use Rattle.schedule_limit.specs.Fits.{ScheduleFits}
@@ -32,7 +32,7 @@ use Rattle.command_inputs.specs.Schedule.{schedule_input}
 use Rattle.command_inputs.specs.Trace.{trace_input}
 use Rattle.command_words.specs.AuditWords.{AuditWords}
 use Rattle.verdict_lines.specs.Rejections.{rejection_line}
-use Rattle.commands.specs.Audits.{IsJudged, IsVerdict, IsAudited, WithDeclarations, WithEvents, WithObjects}
+use Rattle.commands.specs.Audits.{IsJudged, IsVerdict, IsAudited, AuditWithProgram, AuditWithTrace, AuditWithState}
 use Rattle.commands.specs.Explained.{AskAudit, AreAudited, HasReason, HasSchedule}
 use Rattle.commands.specs.Lines.{line_of}
 use Rattle.commands.specs.Outcome.{IsOutcome}
@@ -55,9 +55,9 @@ record Judged (files : Files) (a : AuditWords) (outcome : Outcome) : Type 0 wher
 
 judged_of : (files : Files) (a : AuditWords) (outcome : Outcome) → (status outcome ≡ 3 → ⊥) → IsAudited files a outcome → Judged files a outcome
 judged_of files a outcome sound h =
-    let program = goes_on _ _ (WithDeclarations files a) outcome sound h in
-    let start = goes_on _ _ (WithObjects files a program.0) outcome sound program.2 in
-    let trace = goes_on _ _ (WithEvents files a program.0 start.0) outcome sound start.2 in
+    let program = goes_on _ _ (AuditWithProgram files a) outcome sound h in
+    let start = goes_on _ _ (AuditWithState files a program.0) outcome sound program.2 in
+    let trace = goes_on _ _ (AuditWithTrace files a program.0 start.0) outcome sound start.2 in
     let report = goes_on _ _ (IsVerdict a program.0 start.0 trace.0) outcome sound trace.2 in
     record {
       program = program.0;
@@ -107,7 +107,8 @@ explains sound program start trace (Err at) schedule evaluated steps balanced is
 counted : (before : List TraceEvent) (e : TraceEvent) → request_count (before ++ e ∷ []) ≡ request_count before + request_count (e ∷ [])
 counted before e = sum_by-append (λ x. cond (is_request x) 1 0) before (e ∷ [])
 
-few_from : (before events : List TraceEvent) → MayFollow trace_format before events → request_count before ≤ MOST_REQUESTS → request_count (before ++ events) ≤ MOST_REQUESTS
+few_from : (before events : List TraceEvent) → MayFollow trace_format before events
+    → request_count before ≤ MOST_REQUESTS → request_count (before ++ events) ≤ MOST_REQUESTS
 few_from before [] follow few = subst (λ es. request_count es ≤ MOST_REQUESTS) (sym (append-nil before)) few
 few_from before (Asked r q ∷ events) follow few =
     let more = counted before (Asked r q) in
@@ -116,7 +117,8 @@ few_from before (Asked r q ∷ events) follow few =
 few_from before (Answered r x ∷ events) follow few =
     let more = counted before (Answered r x) in
     let within : request_count (before ++ Answered r x ∷ []) ≤ MOST_REQUESTS = omega (arith, more, few) in
-    subst (λ es. request_count es ≤ MOST_REQUESTS) (append_assoc before (Answered r x ∷ []) events) (few_from (before ++ Answered r x ∷ []) events follow.1 within)
+    subst (λ es. request_count es ≤ MOST_REQUESTS) (append_assoc before (Answered r x ∷ []) events)
+    (few_from (before ++ Answered r x ∷ []) events follow.1 within)
 
 -- a trace that was read has no more requests than a trace may have
 few_requests : (most : ℕ) (file : Option (List ℕ)) (trace : List TraceEvent) → IsInput (trace_input most) file (Ok trace) → request_count trace ≤ MOST_REQUESTS
@@ -124,7 +126,9 @@ few_requests most None trace h = absurd h
 few_requests most (Some bytes) trace h = few_from [] trace h.1.spelled.allowed (omega arith)
 
 -- a report that was read is within its limit
-short_report : (most : ℕ) (file : Option (List ℕ)) (report : Report) → IsInput (report_input most) file (Ok (Ok report)) → length (file_spelling report_format (records_of report)) ≤ most
+short_report : (most : ℕ) (file : Option (List ℕ)) (report : Report)
+    → IsInput (report_input most) file (Ok (Ok report))
+    → length (file_spelling report_format (records_of report)) ≤ most
 short_report most None report h = absurd h
 short_report most (Some bytes) report h = subst (λ bs. length bs ≤ most) h.1.spelled h.0
 
@@ -132,7 +136,8 @@ short_report most (Some bytes) report h = subst (λ bs. length bs ≤ most) h.1.
 readable : (file : Option (List ℕ)) (bytes : List ℕ) (schedule : List Moment) → file ≡ Some bytes → Spells schedule_format bytes schedule
     → length (file_spelling schedule_format schedule) ≤ MOST_SCHEDULE_BYTES → IsInput (schedule_input MOST_SCHEDULE_BYTES) file (Ok (Ok schedule))
 readable file bytes schedule there spells within =
-    subst (λ f. IsInput (schedule_input MOST_SCHEDULE_BYTES) f (Ok (Ok schedule))) (sym there) (subst (λ bs. length bs ≤ MOST_SCHEDULE_BYTES) (sym spells.spelled) within, spells)
+    subst (λ f. IsInput (schedule_input MOST_SCHEDULE_BYTES) f (Ok (Ok schedule))) (sym there)
+    (subst (λ bs. length bs ≤ MOST_SCHEDULE_BYTES) (sym spells.spelled) within, spells)
 
 pub has_schedule : AcceptedExplains → ScheduleFits → (words : List (List ℕ)) (reading : Option ℕ) (files : Files) (outcome : Outcome) (read new : ShelfTold)
     → AskAudit words → status outcome ≡ 0 → IsOutcome words reading files outcome
@@ -145,7 +150,8 @@ has_schedule sound fits words reading files outcome read new asked zero h told p
     let e = explains sound j.program j.start j.trace j.report v.schedule v.evaluated v.steps j.balanced v.verdict_is in
     let spelled : AreAudited files a j.program j.start j.trace (Ok e.0) = subst (λ r. AreAudited files a j.program j.start j.trace r) e.1 j.spelled in
     let within = fits j.program j.start j.trace e.0 v.schedule v.evaluated v.steps j.balanced
-    (few_requests MOST_FILE_BYTES (get files a.trace) j.trace spelled.trace_file) (short_report MOST_FILE_BYTES (get files a.report) e.0 spelled.report_file) e.3 in
+    (few_requests MOST_FILE_BYTES (get files a.trace) j.trace spelled.trace_file)
+    (short_report MOST_FILE_BYTES (get files a.report) e.0 spelled.report_file) e.3 in
     let left : Files = insert files a.schedule v.bytes in
     let is : new.files ≡ Some left
     = ap (λ (t : ShelfTold). t.files) put

@@ -8,8 +8,8 @@ use Rattle.script_tree.specs.Objects.{Objects}
 use Rattle.script_tree.specs.Programs.{Program}
 use Rattle.script_tree.specs.Requests.{Request}
 use Rattle.script_tree.specs.declared.limits.TheConstants.{MOST_REQUESTS}
-use Rattle.script_tree.specs.declared.schedule.Moment.{Moment}
-use Rattle.script_tree.specs.declared.trace.TraceEvent.{TraceEvent}
+use Rattle.period.specs.declared.schedule.Moment.{Moment}
+use Rattle.period.specs.declared.trace.TraceEvent.{TraceEvent}
 use Rattle.script_check.specs.Validity.{IsValid}
 use Rattle.wire.specs.declared.limits.TheConstants.{MOST_FILE_BYTES}
 use Rattle.history.specs.Arrivals.{arrivals}
@@ -32,7 +32,7 @@ use Rattle.command_inputs.specs.State.{state_input}
 use Rattle.command_inputs.specs.Trace.{trace_input}
 use Rattle.command_words.specs.AuditWords.{AuditWords}
 use Rattle.command_words.specs.RecordWords.{RecordWords}
-use Rattle.commands.specs.Audits.{IsJudged, IsVerdict, WithDeclarations, WithEvents, WithObjects}
+use Rattle.commands.specs.Audits.{IsJudged, IsVerdict, AuditWithProgram, AuditWithTrace, AuditWithState}
 use Rattle.commands.specs.Outputs.{Outcome}
 use Rattle.commands.specs.Recorded.{AreJobsOf, AuditsAccept, Holds}
 use Rattle.commands.specs.WithInput.{WithInput}
@@ -61,7 +61,7 @@ elsewhere input file other x same read = subst (λ f. IsInput input f (Ok x)) (s
 
 -- ---- what was read, and what was recorded
 
-is_valid : (most : ℕ) (file : Option (List ℕ)) (program : Program) → IsInput (program_input most) file (Ok program) → IsValid program.declarations
+is_valid : (most : ℕ) (file : Option (List ℕ)) (program : Program) → IsInput (program_input most) file (Ok program) → IsValid program
 is_valid most None program h = absurd h
 is_valid most (Some bytes) program h = h.1.valid
 
@@ -96,9 +96,9 @@ audits_accept complete balanced one before after w {program} {start} {jobs} {his
     (trace.2.within.1, record { spelled = trace.2.read_again few; balanced = balanced program start history run.legal run.closed }) in
     let report_file = elsewhere (report_input MOST_FILE_BYTES) (Some report.0) (get later a.report) (Ok (report_of history)) (handed.report ∙ report.1)
     (report.2.within.1, report.2.read_again) in
-    let with_program = passes (program_input MOST_FILE_BYTES) _ program (WithDeclarations later a) outcome (one.programs MOST_FILE_BYTES) program_file audited in
-    let with_state = passes (state_input program MOST_FILE_BYTES) _ start (WithObjects later a program) outcome (one.states program MOST_FILE_BYTES) state_file with_program in
-    let with_trace = passes (trace_input MOST_FILE_BYTES) _ (trace_of history) (WithEvents later a program start) outcome (one.traces MOST_FILE_BYTES) trace_file with_state in
+    let with_program = passes (program_input MOST_FILE_BYTES) _ program (AuditWithProgram later a) outcome (one.programs MOST_FILE_BYTES) program_file audited in
+    let with_state = passes (state_input program MOST_FILE_BYTES) _ start (AuditWithState later a program) outcome (one.states program MOST_FILE_BYTES) state_file with_program in
+    let with_trace = passes (trace_input MOST_FILE_BYTES) _ (trace_of history) (AuditWithTrace later a program start) outcome (one.traces MOST_FILE_BYTES) trace_file with_state in
     let judged = passes (report_input MOST_FILE_BYTES) _ (Ok (report_of history)) (IsVerdict a program start (trace_of history)) outcome (one.reports MOST_FILE_BYTES) report_file with_trace in
     let valid = is_valid MOST_FILE_BYTES (get before w.program) program spelled.program_file in
     accepted a (trace_of history) (Ok (report_of history)) _ outcome (complete program start history valid run.legal run.closed) judged

@@ -3,7 +3,7 @@ use Rattle.std.proofs.Common.{◌≡◌, ◌∙◌, ℕ, List, [], Option, Some,
 use Rattle.std.specs.FinMap.{get}
 use Rattle.outside.specs.Files.{Files}
 use Rattle.wire.specs.declared.limits.TheConstants.{MOST_FILE_BYTES, MOST_SCHEDULE_BYTES}
-use Rattle.script_tree.specs.declared.trace.TraceEvent.{TraceEvent}
+use Rattle.period.specs.declared.trace.TraceEvent.{TraceEvent}
 use Rattle.trace_format.specs.Events.{request_count}
 use Rattle.audit_meaning.specs.declared.verdict.Verdict.{Verdict}
 use Rattle.audit_meaning.specs.declared.verdict.Verdict.TheVariants.{Accepted, Rejected}
@@ -21,9 +21,9 @@ use Rattle.command_inputs.specs.Turns.{turns_input}
 use Rattle.command_words.specs.AuditWords.{AuditWords, audit_words}
 use Rattle.command_words.specs.RecordWords.{RecordWords, record_words}
 use Rattle.command_words.specs.Words.{ReplayNames, check_name, replay_names}
-use Rattle.commands.specs.Audits.{accepted, group_count, IsAudited, IsJudged, IsVerdict, WithDeclarations, WithEvents, WithObjects}
+use Rattle.commands.specs.Audits.{accepted, group_count, IsAudited, IsJudged, IsVerdict, AuditWithProgram, AuditWithTrace, AuditWithState}
 use Rattle.commands.specs.Laws.{IsOneOutcome, IsSettled}
-use Rattle.commands.specs.Outcome.{IsCheckedFile, IsCounted, IsFound, IsOfJobs, IsOutcomeOf, IsRecording, IsReplayed, WithJobs, WithPages, WithProgram, WithStart, WithState, WithTrace, WithTurns}
+use Rattle.commands.specs.Outcome.{IsCheckedFile, IsCounted, IsFound, IsOfJobs, IsOutcomeOf, IsRecording, IsReplayed, RecordWithJobs, RecordWithProgram, ReplayWithProgram, RecordWithState, ReplayWithState, ReplayWithTrace, RecordWithTurns}
 use Rattle.commands.specs.Outputs.{Outcome, says}
 use Rattle.commands.specs.WithInput.{WithInput}
 use Rattle.commands.specs.declared.answer.Answer.TheVariants as answer
@@ -49,7 +49,8 @@ not_both : {A E : Type 0} (x : A) (f : E) → of_ok x ≡ of_err f → ⊥
 not_both x f e = cc
 
 -- one input, with one outcome of each thing that it can be
-past_input : {A : Type 0} (input : Input A) (file : Option (List ℕ)) (next : A → Outcome → Type 0) → IsReadOneWay input → ((x : A) → IsOne (next x)) → IsOne (WithInput input file next)
+past_input : {A : Type 0} (input : Input A) (file : Option (List ℕ)) (next : A → Outcome → Type 0)
+    → IsReadOneWay input → ((x : A) → IsOne (next x)) → IsOne (WithInput input file next)
 past_input input file next one each x y (inl h) (inl k) =
     h.2 ∙ ap (λ f. says (answer.Input f)) (err_is h.0 k.0 (one file (Err h.0) (Err k.0) h.1 k.1)) ∙ sym k.2
 past_input input file next one each x y (inl h) (inr k) = absurd (not_both k.0 h.0 (one file (Ok k.0) (Err h.0) k.1 h.1))
@@ -68,17 +69,18 @@ one_verdict a trace report (Rejected reason) x y h k = h ∙ sym k
 module _ (one : AreReadOneWay) (files : Files) where
   one_audit : (a : AuditWords) → IsOne (IsAudited files a)
   one_audit a =
-      past_input (program_input MOST_FILE_BYTES) (get files a.program) (WithDeclarations files a) (one.programs MOST_FILE_BYTES)
-      (λ program. past_input (state_input program MOST_FILE_BYTES) (get files a.state) (WithObjects files a program) (one.states program MOST_FILE_BYTES)
-      (λ start. past_input (trace_input MOST_FILE_BYTES) (get files a.trace) (WithEvents files a program start) (one.traces MOST_FILE_BYTES)
+      past_input (program_input MOST_FILE_BYTES) (get files a.program) (AuditWithProgram files a) (one.programs MOST_FILE_BYTES)
+      (λ program. past_input (state_input program MOST_FILE_BYTES) (get files a.state) (AuditWithState files a program) (one.states program MOST_FILE_BYTES)
+      (λ start. past_input (trace_input MOST_FILE_BYTES) (get files a.trace) (AuditWithTrace files a program start) (one.traces MOST_FILE_BYTES)
       (λ trace. past_input (report_input MOST_FILE_BYTES) (get files a.report) (IsVerdict a program start trace) (one.reports MOST_FILE_BYTES)
       (λ report. one_verdict a trace report (audited program start trace report)))))
 
   one_replay : (names : ReplayNames) → IsOne (IsReplayed files names)
   one_replay names =
-      past_input (program_input MOST_FILE_BYTES) (get files names.program) (WithProgram files names) (one.programs MOST_FILE_BYTES)
-      (λ program. past_input (state_input program MOST_FILE_BYTES) (get files names.state) (WithState files names program) (one.states program MOST_FILE_BYTES)
-      (λ start. past_input (trace_input MOST_FILE_BYTES) (get files names.trace) (WithTrace files names program start) (one.traces MOST_FILE_BYTES)
+      past_input (program_input MOST_FILE_BYTES) (get files names.program) (ReplayWithProgram files names) (one.programs MOST_FILE_BYTES)
+      (λ program. past_input (state_input program MOST_FILE_BYTES) (get files names.state)
+      (ReplayWithState files names program) (one.states program MOST_FILE_BYTES)
+      (λ start. past_input (trace_input MOST_FILE_BYTES) (get files names.trace) (ReplayWithTrace files names program start) (one.traces MOST_FILE_BYTES)
       (λ trace. past_input (schedule_input MOST_SCHEDULE_BYTES) (get files names.schedule) (IsFound program start trace) (one.schedules MOST_SCHEDULE_BYTES)
       (λ schedule x y h k. h ∙ sym k))))
 
@@ -86,15 +88,18 @@ module _ (one : AreReadOneWay) (files : Files) where
   one_check name =
       past_input (program_input MOST_FILE_BYTES) (get files name) IsCounted (one.programs MOST_FILE_BYTES) (λ program x y h k. h ∙ sym k)
 
-  one_with_turns : (name : Option (List ℕ)) (next : List ℕ → Outcome → Type 0) → ((turns : List ℕ) → IsOne (next turns)) → IsOne (WithTurns files name next)
+  one_with_turns : (name : Option (List ℕ)) (next : List ℕ → Outcome → Type 0)
+      → ((turns : List ℕ) → IsOne (next turns)) → IsOne (RecordWithTurns files name next)
   one_with_turns None next each = each []
   one_with_turns (Some name) next each = past_input (turns_input MOST_FILE_BYTES) (get files name) next (one.turns MOST_FILE_BYTES) each
 
   one_record : RunsAreOne → (n : ℕ) (w : RecordWords) → IsOne (IsRecording (Some n) files w)
   one_record runs n w =
-      past_input (program_input MOST_FILE_BYTES) (get files w.program) (WithPages (Some n) files w) (one.programs MOST_FILE_BYTES)
-      (λ program. past_input (state_input program MOST_FILE_BYTES) (get files w.state) (WithStart (Some n) files w program) (one.states program MOST_FILE_BYTES)
-      (λ start. past_input (requests_input MOST_FILE_BYTES) (get files w.requests) (WithJobs (Some n) files w program start) (one.requests MOST_FILE_BYTES)
+      past_input (program_input MOST_FILE_BYTES) (get files w.program) (RecordWithProgram (Some n) files w) (one.programs MOST_FILE_BYTES)
+      (λ program. past_input (state_input program MOST_FILE_BYTES) (get files w.state)
+      (RecordWithState (Some n) files w program) (one.states program MOST_FILE_BYTES)
+      (λ start. past_input (requests_input MOST_FILE_BYTES) (get files w.requests)
+      (RecordWithJobs (Some n) files w program start) (one.requests MOST_FILE_BYTES)
       (λ jobs. one_with_turns w.turns (IsOfJobs (Some n) w program start jobs) (one_recording runs n w program start jobs))))
 
   one_settled : RunsAreOne → (w : RecordWords) (reading : Option ℕ) → IsSettled (Some w) reading → IsOne (IsRecording reading files w)

@@ -20,7 +20,7 @@ use Rattle.command_inputs.specs.Requests.{requests_input}
 use Rattle.command_inputs.specs.State.{state_input}
 use Rattle.command_inputs.specs.declared.fault.InputError.{InputError}
 use Rattle.command_words.specs.RecordWords.{RecordWords}
-use Rattle.commands.specs.Outcome.{IfFound, IfTurns, IsOfJobs, IsRecording, WithJobs, WithPages, WithStart, WithTurns, written}
+use Rattle.commands.specs.Outcome.{IfFound, IfTurns, IsOfJobs, IsRecording, RecordWithJobs, RecordWithProgram, RecordWithState, RecordWithTurns, written}
 use Rattle.commands.specs.Outputs.{Outcome, says}
 use Rattle.commands.specs.declared.answer.Answer.TheVariants.{TooLong}
 use Rattle.commands.proofs.Steps.{goes_on, ends}
@@ -31,7 +31,8 @@ pub record IsBegun (files : Files) (w : RecordWords) (program : Program) (start 
   pub state_file : IsInput (state_input program MOST_FILE_BYTES) (get files w.state) (Ok start)
 
 -- program and state, which were read as those of another program that is the same
-pub begun : (files : Files) (w : RecordWords) (read program held : Program) (start : Objects) → IsInput (program_input MOST_FILE_BYTES) (get files w.program) (Ok read)
+pub begun : (files : Files) (w : RecordWords) (read program held : Program) (start : Objects)
+    → IsInput (program_input MOST_FILE_BYTES) (get files w.program) (Ok read)
     → program ≡ read → held ≡ program → IsInput (state_input held MOST_FILE_BYTES) (get files w.state) (Ok start) → IsBegun files w program start
 begun files w read program held start spelled same here state = record {
   program_file = subst (λ p. IsInput (program_input MOST_FILE_BYTES) (get files w.program) (Ok p)) (sym same) spelled;
@@ -39,28 +40,31 @@ begun files w read program held start spelled same here state = record {
 }
 
 module _ (reading : Option ℕ) (files : Files) (w : RecordWords) (program : Program) (start : Objects) (before : IsBegun files w program start) where
-  past_state : (r : Result Outcome InputError) → IfFound (λ o. o) (WithStart reading files w program start) r → IfFound (λ o. o) (IsRecording reading files w) r
+  past_state : (r : Result Outcome InputError) → IfFound (λ o. o) (RecordWithState reading files w program start) r
+      → IfFound (λ o. o) (IsRecording reading files w) r
   past_state r h =
-      goes_on (λ o. o) _ _ program (WithPages reading files w) r before.program_file
-      (goes_on (λ o. o) _ _ start (WithStart reading files w program) r before.state_file h)
+      goes_on (λ o. o) _ _ program (RecordWithProgram reading files w) r before.program_file
+      (goes_on (λ o. o) _ _ start (RecordWithState reading files w program) r before.state_file h)
 
   -- the requests weren't read
   pub jobs_fail : (e : InputError) (r : Result Outcome InputError)
       → IsRead (λ (jobs : List Request). jobs) (requests_input MOST_FILE_BYTES) (get files w.requests) (Err e) → IsErrAnd r (λ passed. passed ≡ e)
       → IfFound (λ o. o) (IsRecording reading files w) r
   jobs_fail e r read is =
-      past_state r (ends (λ o. o) (λ (jobs : List Request). jobs) _ _ (WithJobs reading files w program start) e r read is)
+      past_state r (ends (λ o. o) (λ (jobs : List Request). jobs) _ _ (RecordWithJobs reading files w program start) e r read is)
 
   module _ (jobs : List Request) (spelled : IsInput (requests_input MOST_FILE_BYTES) (get files w.requests) (Ok jobs)) where
-    past_jobs : (r : Result Outcome InputError) → IfFound (λ o. o) (WithJobs reading files w program start jobs) r → IfFound (λ o. o) (IsRecording reading files w) r
-    past_jobs r h = past_state r (goes_on (λ o. o) _ _ jobs (WithJobs reading files w program start) r spelled h)
+    past_jobs : (r : Result Outcome InputError)
+        → IfFound (λ o. o) (RecordWithJobs reading files w program start jobs) r
+        → IfFound (λ o. o) (IsRecording reading files w) r
+    past_jobs r h = past_state r (goes_on (λ o. o) _ _ jobs (RecordWithJobs reading files w program start) r spelled h)
 
     -- the turns weren't read
     pub turns_fail : (e : InputError) (r : Result Outcome InputError) → IfTurns files w.turns (Err e) → IsErrAnd r (λ passed. passed ≡ e)
         → IfFound (λ o. o) (IsRecording reading files w) r
     turns_fail e r read is = past_jobs r (by w.turns read)
       where
-        by : (name : Option (List ℕ)) → IfTurns files name (Err e) → IfFound (λ o. o) (WithTurns files name (IsOfJobs reading w program start jobs)) r
+        by : (name : Option (List ℕ)) → IfTurns files name (Err e) → IfFound (λ o. o) (RecordWithTurns files name (IsOfJobs reading w program start jobs)) r
         by None read = absurd read
         by (Some name) read = ends (λ o. o) (λ (turns : List ℕ). turns) _ _ (IsOfJobs reading w program start jobs) e r read is
 
@@ -69,18 +73,20 @@ module _ (reading : Option ℕ) (files : Files) (w : RecordWords) (program : Pro
         → IsRecording reading files w outcome
     recorded turns outcome read made = past_jobs (Ok outcome) (by w.turns read)
       where
-        by : (name : Option (List ℕ)) → IfTurns files name (Ok turns) → WithTurns files name (IsOfJobs reading w program start jobs) outcome
+        by : (name : Option (List ℕ)) → IfTurns files name (Ok turns) → RecordWithTurns files name (IsOfJobs reading w program start jobs) outcome
         by None none = subst (λ ts. IsOfJobs reading w program start jobs ts outcome) none made
         by (Some name) read = inr (turns, read, made)
 
 -- ---- what record_jobs gives
 
-pub of_files : (reading : Option ℕ) (w : RecordWords) (program : Program) (start : Objects) (jobs : List Request) (turns : List ℕ) (files : TraceAndReport) (outcome : Outcome)
+pub of_files : (reading : Option ℕ) (w : RecordWords) (program : Program) (start : Objects) (jobs : List Request)
+    (turns : List ℕ) (files : TraceAndReport) (outcome : Outcome)
     → (history : List Happening) × IsRunOf program start jobs turns w.seed reading history × AreFilesOf history files → outcome ≡ written w files
     → IsOfJobs reading w program start jobs turns outcome
 of_files reading w program start jobs turns files outcome made is = (made.0, made.1, inl (files, made.2, is))
 
-pub of_limit : (reading : Option ℕ) (w : RecordWords) (program : Program) (start : Objects) (jobs : List Request) (turns : List ℕ) (e : OrMemory Which) (which : Which) (outcome : Outcome)
+pub of_limit : (reading : Option ℕ) (w : RecordWords) (program : Program) (start : Objects) (jobs : List Request)
+    (turns : List ℕ) (e : OrMemory Which) (which : Which) (outcome : Outcome)
     → e ≡ Other which → IsRecorded (IsRunOf program start jobs turns w.seed reading) (Err e) → outcome ≡ says (TooLong which)
     → IsOfJobs reading w program start jobs turns outcome
 of_limit reading w program start jobs turns e which outcome same told is =

@@ -15,7 +15,7 @@ use Rattle.trace_and_report.specs.Recorded.{IsTraceFile, IsReportFile, AreFilesO
 use Rattle.trace_and_report.specs.declared.recorded.Recorded.{Recorded as TraceAndReport}
 use Rattle.command_words.proofs.RecordWordsRead.{other_names}
 use Rattle.command_words.specs.RecordWords.{RecordWords}
-use Rattle.commands.specs.Outcome.{IsOfJobs, IsOutcome, WithJobs, WithPages, WithStart, WithTurns, written}
+use Rattle.commands.specs.Outcome.{IsOfJobs, IsOutcome, RecordWithJobs, RecordWithProgram, RecordWithState, RecordWithTurns, written}
 use Rattle.commands.specs.Outputs.{Outcome, with_puts}
 use Rattle.commands.specs.Recorded.{AskRecord, AreJobsOf, AreTurnsOf, HasRecording, Holds}
 use Rattle.commands.proofs.HandedOn.{audits_accept}
@@ -26,7 +26,7 @@ use Rattle.commands.proofs.Verdicts.{status, goes_on}
 -- ---- the inputs
 
 turns_read : (files : Files) (name : Option (List ℕ)) (next : List ℕ → Outcome → Type 0) (outcome : Outcome)
-    → (status outcome ≡ 3 → ⊥) → WithTurns files name next outcome
+    → (status outcome ≡ 3 → ⊥) → RecordWithTurns files name next outcome
     → (turns : List ℕ) × AreTurnsOf files name turns × next turns outcome
 turns_read files None next outcome sound h = ([], refl, h)
 turns_read files (Some name) next outcome sound h = goes_on _ _ next outcome sound h
@@ -41,16 +41,17 @@ files_of_jobs reading w program start jobs turns outcome sound (history, run, in
 
 -- ---- status 0
 
-pub has_recording : RecordedIsAccepted → TracesAreBalanced → AreReadOneWay → (words : List (List ℕ)) (reading : Option ℕ) (files : Files) (outcome : Outcome) (read new : ShelfTold)
+pub has_recording : RecordedIsAccepted → TracesAreBalanced → AreReadOneWay
+    → (words : List (List ℕ)) (reading : Option ℕ) (files : Files) (outcome : Outcome) (read new : ShelfTold)
     → AskRecord words → status outcome ≡ 0 → IsOutcome words reading files outcome
     → read.files ≡ Some files → new ≡ with_puts outcome.puts read
     → (left : Files) × (new.files ≡ Some left) × HasRecording words reading files left
 has_recording complete balanced one words reading files outcome read new asked zero h told put =
     let w = asked.0 in
     let sound : status outcome ≡ 3 → ⊥ = λ e. let f = sym e ∙ zero in cc in
-    let pages = goes_on _ _ (WithPages reading files w) outcome sound (of_record words reading files outcome w asked.1 asked.2 asked.3 h) in
-    let start = goes_on _ _ (WithStart reading files w pages.0) outcome sound pages.2 in
-    let jobs = goes_on _ _ (WithJobs reading files w pages.0 start.0) outcome sound start.2 in
+    let pages = goes_on _ _ (RecordWithProgram reading files w) outcome sound (of_record words reading files outcome w asked.1 asked.2 asked.3 h) in
+    let start = goes_on _ _ (RecordWithState reading files w pages.0) outcome sound pages.2 in
+    let jobs = goes_on _ _ (RecordWithJobs reading files w pages.0 start.0) outcome sound start.2 in
     let turns = turns_read files w.turns (IsOfJobs reading w pages.0 start.0 jobs.0) outcome sound jobs.2 in
     let run = files_of_jobs reading w pages.0 start.0 jobs.0 turns.0 outcome sound turns.2 in
     let made : TraceAndReport = run.2 in

@@ -4,16 +4,16 @@ use Rattle.outside.specs.Files.{Files}
 use Rattle.script_meaning.specs.Explains.{Explains}
 use Rattle.script_tree.specs.Objects.{Objects}
 use Rattle.script_tree.specs.Programs.{Program}
-use Rattle.script_tree.specs.Traces.{IsBalanced}
-use Rattle.script_tree.specs.declared.schedule.Moment.{Moment}
-use Rattle.script_tree.specs.declared.trace.TraceEvent.{TraceEvent}
+use Rattle.period.specs.Traces.{IsBalanced}
+use Rattle.period.specs.declared.schedule.Moment.{Moment}
+use Rattle.period.specs.declared.trace.TraceEvent.{TraceEvent}
 use Rattle.replayer.specs.declared.reason.ReplayReason.{ReplayReason}
 use Rattle.replayer.specs.Differences.{verdict}
 use Rattle.replayer.specs.Laws.{AgreesExactly, ExplainsIfRead}
 use Rattle.command_inputs.specs.Inputs.{Input, IsInput}
 use Rattle.command_inputs.specs.Trace.{trace_input}
 use Rattle.commands.specs.Lines.{finding_of, status_of}
-use Rattle.commands.specs.Outcome.{IsCounted, IsFound, IsOutcome, WithProgram, WithState, WithTrace}
+use Rattle.commands.specs.Outcome.{IsCounted, IsFound, IsOutcome, ReplayWithProgram, ReplayWithState, ReplayWithTrace}
 use Rattle.commands.specs.Outputs.{Outcome}
 use Rattle.commands.specs.Explained.{AskCheck, AskReplay, AreSpelled, IsExplained, IsProgramFile, IsUnexplained}
 use Rattle.commands.specs.WithInput.{WithInput}
@@ -51,9 +51,9 @@ replayed_of : (words : List (List ℕ)) (reading : Option ℕ) (files : Files) (
     → Replayed words files outcome
 replayed_of words reading files outcome asked sound h =
     let names = asked.0 in
-    let program = goes_on _ _ (WithProgram files names) outcome sound (of_replay words reading files outcome names asked.1 h) in
-    let state = goes_on _ _ (WithState files names program.0) outcome sound program.2 in
-    let trace = goes_on _ _ (WithTrace files names program.0 state.0) outcome sound state.2 in
+    let program = goes_on _ _ (ReplayWithProgram files names) outcome sound (of_replay words reading files outcome names asked.1 h) in
+    let state = goes_on _ _ (ReplayWithState files names program.0) outcome sound program.2 in
+    let trace = goes_on _ _ (ReplayWithTrace files names program.0 state.0) outcome sound state.2 in
     let schedule = goes_on _ _ (IsFound program.0 state.0 trace.0) outcome sound trace.2 in
     record {
       program = program.0;

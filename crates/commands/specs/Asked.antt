@@ -22,6 +22,7 @@ asked_by None None (Some words) audit = a_recording
 asked_by None None None (Some words) = an_audit
 asked_by None None None None = nothing
 
+-- the command that words ask for
 abbrev pub asked_of : List (List ℕ) → Asked
 asked_of words =
     asked_by (replay_names words) (check_name words) (record_words words) (audit_words words)

@@ -6,11 +6,11 @@ use Rattle.outside.specs.Sinks.{SinkTold}
 use Rattle.script_meaning.specs.Explains.{Explains}
 use Rattle.script_tree.specs.Objects.{Objects}
 use Rattle.script_tree.specs.Programs.{Program}
-use Rattle.script_tree.specs.declared.schedule.Moment.{Moment}
-use Rattle.script_tree.specs.declared.trace.TraceEvent.{TraceEvent}
+use Rattle.period.specs.declared.schedule.Moment.{Moment}
+use Rattle.period.specs.declared.trace.TraceEvent.{TraceEvent}
 use Rattle.wire.specs.declared.limits.TheConstants.{MOST_FILE_BYTES, MOST_SCHEDULE_BYTES}
 use Rattle.replayer.specs.Laws.{ExplainsIfRead}
-use Rattle.report.specs.declared.Report.{Report}
+use Rattle.period.specs.declared.report.Report.{Report}
 use Rattle.audit_meaning.specs.declared.reason.Reason.{Reason}
 use Rattle.audit_meaning.specs.declared.verdict.Verdict.TheVariants.{Rejected}
 use Rattle.auditor.specs.Audited.{ReadReport, audited}
@@ -30,9 +30,11 @@ use Rattle.verdict_lines.specs.Rejections.{rejection_line}
 abbrev pub AskReplay : List (List ℕ) → Type 0
 AskReplay words = (names : ReplayNames) × (replay_names words ≡ Some names)
 
+-- The words ask for a check.
 abbrev pub AskCheck : List (List ℕ) → Type 0
 AskCheck words = (name : List ℕ) × (replay_names words ≡ None) × (check_name words ≡ Some name)
 
+-- The words ask for an audit.
 abbrev pub AskAudit : List (List ℕ) → Type 0
 AskAudit words =
     (w : AuditWords) × (replay_names words ≡ None) × (check_name words ≡ None)

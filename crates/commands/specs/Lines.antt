@@ -20,6 +20,7 @@ abbrev pub finding_of : ℕ → Replayed → Finding
 finding_of moments replayed.Agrees = Agrees moments
 finding_of moments (replayed.Differs reason) = Differs reason
 
+-- the status of an answer
 abbrev pub status_of : Answer → ℕ
 status_of (Checked counts) = 0
 status_of (Replay (Agrees moments)) = 0
@@ -39,6 +40,7 @@ counts_line counts =
     ++ (codes ", stores " ++ (decimal counts.stores
     ++ (codes ", tables " ++ (decimal counts.tables ++ codes "\n")))))))
 
+-- the line of a difference: its number, and where it is
 abbrev pub difference_line : ReplayReason → List ℕ
 difference_line (reason.Unreadable at) =
     codes "differs " ++ (decimal 1 ++ (codes ": unreadable at " ++ (decimal at ++ codes "\n")))
@@ -58,6 +60,7 @@ acceptance_line requests groups evaluated plain =
     ++ (codes ", evaluated " ++ (decimal evaluated
     ++ (codes ", plain " ++ (decimal plain ++ codes "\n")))))))
 
+-- the line of an answer
 abbrev pub line_of : Answer → List ℕ
 line_of (Replay (Agrees moments)) = codes "agrees: moments " ++ (decimal moments ++ codes "\n")
 line_of (Replay (Differs reason)) = difference_line reason

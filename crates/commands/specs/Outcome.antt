@@ -5,8 +5,8 @@ use Rattle.outside.specs.Files.{Files}
 use Rattle.script_tree.specs.Objects.{Objects}
 use Rattle.script_tree.specs.Programs.{Program}
 use Rattle.script_tree.specs.Requests.{Request}
-use Rattle.script_tree.specs.declared.schedule.Moment.{Moment}
-use Rattle.script_tree.specs.declared.trace.TraceEvent.{TraceEvent}
+use Rattle.period.specs.declared.schedule.Moment.{Moment}
+use Rattle.period.specs.declared.trace.TraceEvent.{TraceEvent}
 use Rattle.script_check.specs.Counts.{counts_of}
 use Rattle.script_check.specs.declared.counts.Counts.{Counts}
 use Rattle.wire.specs.declared.limits.TheConstants.{MOST_FILE_BYTES, MOST_SCHEDULE_BYTES}
@@ -37,6 +37,7 @@ use Rattle.commands.specs.declared.answer.Answer.{Answer}
 use Rattle.commands.specs.declared.answer.Finding.{Finding}
 use Rattle.commands.specs.declared.answer.Answer.TheVariants.{Usage, Input as InputAnswer, Checked, Replay, Recorded, TooLong, Accepted, Rejected}
 
+-- how many moments a schedule has, where it was read
 abbrev pub moment_count : Result (List Moment) ℕ → ℕ
 moment_count (Ok schedule) = length schedule
 moment_count (Err at) = 0
@@ -49,23 +50,27 @@ IsFound program start trace schedule outcome =
 
 -- ---- a replay, from its last input to its first
 
-abbrev pub WithTrace : Files → ReplayNames → Program → Objects → List TraceEvent → Outcome → Type 0
-WithTrace files names program start trace =
+-- The outcome of a replay whose program, state and trace were read.
+abbrev pub ReplayWithTrace : Files → ReplayNames → Program → Objects → List TraceEvent → Outcome → Type 0
+ReplayWithTrace files names program start trace =
     WithInput (schedule_input MOST_SCHEDULE_BYTES) (get files names.schedule)
     (IsFound program start trace)
 
-abbrev pub WithState : Files → ReplayNames → Program → Objects → Outcome → Type 0
-WithState files names program start =
+-- The outcome of a replay whose program and state were read.
+abbrev pub ReplayWithState : Files → ReplayNames → Program → Objects → Outcome → Type 0
+ReplayWithState files names program start =
     WithInput (trace_input MOST_FILE_BYTES) (get files names.trace)
-    (WithTrace files names program start)
+    (ReplayWithTrace files names program start)
 
-abbrev pub WithProgram : Files → ReplayNames → Program → Outcome → Type 0
-WithProgram files names program =
-    WithInput (state_input program MOST_FILE_BYTES) (get files names.state) (WithState files names program)
+-- The outcome of a replay whose program was read.
+abbrev pub ReplayWithProgram : Files → ReplayNames → Program → Outcome → Type 0
+ReplayWithProgram files names program =
+    WithInput (state_input program MOST_FILE_BYTES) (get files names.state) (ReplayWithState files names program)
 
+-- The outcome of a replay of these names.
 abbrev pub IsReplayed : Files → ReplayNames → Outcome → Type 0
 IsReplayed files names =
-    WithInput (program_input MOST_FILE_BYTES) (get files names.program) (WithProgram files names)
+    WithInput (program_input MOST_FILE_BYTES) (get files names.program) (ReplayWithProgram files names)
 
 -- ---- a check
 
@@ -73,6 +78,7 @@ IsReplayed files names =
 abbrev pub IsCounted : Program → Outcome → Type 0
 IsCounted program outcome = outcome ≡ says (Checked (counts_of program.declarations))
 
+-- The outcome of a check of the file of this name.
 abbrev pub IsCheckedFile : Files → List ℕ → Outcome → Type 0
 IsCheckedFile files name = WithInput (program_input MOST_FILE_BYTES) (get files name) IsCounted
 
@@ -103,28 +109,32 @@ IsOfJobs reading words program start jobs turns outcome =
     × (IsWritten words history outcome ⊎ IsPastLimit history outcome)
 
 -- The turns of the file, where there is one, and else none.
-abbrev pub WithTurns : Files → Option (List ℕ) → (List ℕ → Outcome → Type 0) → Outcome → Type 0
-WithTurns files None next = next []
-WithTurns files (Some name) next = WithInput (turns_input MOST_FILE_BYTES) (get files name) next
+abbrev pub RecordWithTurns : Files → Option (List ℕ) → (List ℕ → Outcome → Type 0) → Outcome → Type 0
+RecordWithTurns files None next = next []
+RecordWithTurns files (Some name) next = WithInput (turns_input MOST_FILE_BYTES) (get files name) next
 
-abbrev pub WithJobs : Option ℕ → Files → RecordWords → Program → Objects → List Request → Outcome
+-- The outcome of a recording whose program, state and requests were read.
+abbrev pub RecordWithJobs : Option ℕ → Files → RecordWords → Program → Objects → List Request → Outcome
     → Type 0
-WithJobs reading files words program start jobs =
-    WithTurns files words.turns (IsOfJobs reading words program start jobs)
+RecordWithJobs reading files words program start jobs =
+    RecordWithTurns files words.turns (IsOfJobs reading words program start jobs)
 
-abbrev pub WithStart : Option ℕ → Files → RecordWords → Program → Objects → Outcome → Type 0
-WithStart reading files words program start =
+-- The outcome of a recording whose program and state were read.
+abbrev pub RecordWithState : Option ℕ → Files → RecordWords → Program → Objects → Outcome → Type 0
+RecordWithState reading files words program start =
     WithInput (requests_input MOST_FILE_BYTES) (get files words.requests)
-    (WithJobs reading files words program start)
+    (RecordWithJobs reading files words program start)
 
-abbrev pub WithPages : Option ℕ → Files → RecordWords → Program → Outcome → Type 0
-WithPages reading files words program =
+-- The outcome of a recording whose program was read.
+abbrev pub RecordWithProgram : Option ℕ → Files → RecordWords → Program → Outcome → Type 0
+RecordWithProgram reading files words program =
     WithInput (state_input program MOST_FILE_BYTES) (get files words.state)
-    (WithStart reading files words program)
+    (RecordWithState reading files words program)
 
+-- The outcome of a recording with these words, where the clock shows this reading.
 abbrev pub IsRecording : Option ℕ → Files → RecordWords → Outcome → Type 0
 IsRecording reading files words =
-    WithInput (program_input MOST_FILE_BYTES) (get files words.program) (WithPages reading files words)
+    WithInput (program_input MOST_FILE_BYTES) (get files words.program) (RecordWithProgram reading files words)
 
 -- ---- commands
 
@@ -152,15 +162,19 @@ IfFound outcome is (Ok found) = is (outcome found)
 IfFound outcome is (Err (error.Fault fault)) = is (says (InputAnswer fault))
 IfFound outcome is (Err (error.Halt halt)) = Unit {0}
 
+-- The outcome of a replay, of which its result tells.
 abbrev pub IfReplayed : Files → ReplayNames → Result Finding InputError → Type 0
 IfReplayed files names = IfFound (λ finding. says (Replay finding)) (IsReplayed files names)
 
+-- The outcome of a check, of which its result tells.
 abbrev pub IfChecked : Files → List ℕ → Result Counts InputError → Type 0
 IfChecked files name = IfFound (λ counts. says (Checked counts)) (IsCheckedFile files name)
 
+-- The outcome of a recording, of which its result tells.
 abbrev pub IfRecorded : Option ℕ → Files → RecordWords → Result Outcome InputError → Type 0
 IfRecorded reading files words = IfFound (λ outcome. outcome) (IsRecording reading files words)
 
+-- The outcome of an audit, of which its result tells.
 abbrev pub IfAudited : Files → AuditWords → Result Outcome InputError → Type 0
 IfAudited files words = IfFound (λ outcome. outcome) (IsAudited files words)
 
@@ -181,5 +195,6 @@ IsAbsent (TooLong which) = ⊥
 IsAbsent (Accepted requests groups evaluated plain) = ⊥
 IsAbsent (Rejected reason) = ⊥
 
+-- The outcome's answer is that an input isn't there.
 abbrev pub SaysAbsent : Outcome → Type 0
 SaysAbsent outcome = IsAbsent outcome.answer

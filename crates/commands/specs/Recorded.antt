@@ -21,6 +21,7 @@ use Rattle.commands.specs.Audits.{IsAudited}
 use Rattle.commands.specs.Lines.{status_of}
 use Rattle.commands.specs.Outputs.{Outcome}
 
+-- The words ask for a recording.
 abbrev pub AskRecord : List (List ℕ) → Type 0
 AskRecord words =
     (w : RecordWords) × (replay_names words ≡ None) × (check_name words ≡ None)

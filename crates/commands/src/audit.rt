@@ -1,6 +1,6 @@
 ghost use Rattle.std.specs.Prelude.{◌≡◌, IfOk};
 ghost use Rattle.std.specs.Option.{ForSome};
-ghost use Rattle.script_tree.specs.Traces.{IsBalanced};
+ghost use Rattle.period.specs.Traces.{IsBalanced};
 ghost use Rattle.report_format.specs.Limits.{HasValuesWithinLimits};
 ghost use Rattle.object_set.specs.ObjectSets.{IsSetOf, objects_of};
 ghost use Rattle.trace_format.specs.Events.{request_count};
@@ -19,7 +19,7 @@ use command_inputs::{InputError, read_program, read_report, read_state, read_tra
 use command_words::AuditWords;
 use object_set::ObjectSet;
 use outside::{Gate, Shelf};
-use report::Report;
+use period::report::Report;
 use schedule_format::encoding::encode;
 use script_check::program::Program;
 use std::alloc::{AllocError, Global};

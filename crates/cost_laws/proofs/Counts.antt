@@ -14,7 +14,7 @@ use Rattle.script_tree.specs.declared.request.Response.{Response}
 use Rattle.script_meaning.specs.Conduct.{Ending, Wants, Ends, Undefined, ended, start, unless_left}
 use Rattle.script_meaning.specs.Costs.{keeping, kept_in, costs_in, page_run}
 use Rattle.script_meaning.specs.Evaluate.{Flow}
-use Rattle.script_meaning.specs.Run.{Cost, taking, taking_request, issuing, Run, Progress, Outcome, goes, stops, ◌>>=◌, after, answered, and_cost, last_issuing}
+use Rattle.script_meaning.specs.Run.{Cost, taking, taking_request, issuing, Run, Progress, Ran, goes, stops, ◌>>=◌, after, answered, and_cost, last_issuing}
 use Rattle.script_meaning.specs.declared.run.Mark.TheVariants.{Issued as issued}
 use Rattle.script_meaning.specs.declared.run.Stop.TheVariants.{Wants as wants, Fault as fault, AnswerFault as answer_fault}
 use Rattle.group_costs.specs.Sharing.{for_operations}
@@ -28,7 +28,7 @@ abbrev IsCounted : ℕ → Progress → Type 0
 IsCounted n p = IsCountedWith n p.answers p
 
 -- of a run that wants an operation nothing is said
-abbrev EndsCounted : {A : Type 0} → ℕ → Outcome A → Type 0
+abbrev EndsCounted : {A : Type 0} → ℕ → Ran A → Type 0
 EndsCounted n (goes a p) = IsCounted n p
 EndsCounted n (stops (wants op) p) = Unit {0}
 EndsCounted n (stops (fault f) p) = IsCounted n p
@@ -41,7 +41,7 @@ module _ (n : ℕ) where
   binds : (A B : Type 0) (m : Run A) (f : A → Run B) → StaysCounted A m → ((a : A) → StaysCounted B (f a)) → StaysCounted B (m >>= f)
   binds A B m f g h p counted = by (m p) (g p counted)
     where
-      by : (r : Outcome A) → EndsCounted n r → EndsCounted n (after r f)
+      by : (r : Ran A) → EndsCounted n r → EndsCounted n (after r f)
       by (goes a q) e = h a q e
       by (stops (wants op) q) e = tt
       by (stops (fault x) q) e = e
@@ -52,16 +52,18 @@ module _ (n : ℕ) where
   abbrev charged : Cost → Progress → Progress
   charged c p = record p { steps = p.steps + 1; costs = and_cost c p.costs }
 
-  abbrev charge_outcome : Cost → Progress → Bool → Outcome (Unit {0})
-  charge_outcome c p b = cond b (stops (fault OutOfSteps) p) (goes tt (charged c p))
+  abbrev charge_ran : Cost → Progress → Bool → Ran (Unit {0})
+  charge_ran c p b = cond b (stops (fault OutOfSteps) p) (goes tt (charged c p))
 
-  charge_counted : (c : Cost) (p : Progress) (b : Bool) → ((cs : List Cost) (k : ℕ) → for_operations 1 (c ∷ cs) + k ≡ for_operations 1 cs + k) → IsCounted n p → EndsCounted n (charge_outcome c p b)
+  charge_counted : (c : Cost) (p : Progress) (b : Bool)
+      → ((cs : List Cost) (k : ℕ) → for_operations 1 (c ∷ cs) + k ≡ for_operations 1 cs + k) → IsCounted n p
+      → EndsCounted n (charge_ran c p b)
   charge_counted c p true same h = h
   charge_counted c p false same h = (c ∷ h.0, ap (and_cost c) h.1, omega (arith, h.2), same h.0 (length p.answers) ∙ h.3)
 
   -- ---- operations
 
-  abbrev taken : Op → Progress → Datum → List Datum → Bool → Outcome Datum
+  abbrev taken : Op → Progress → Datum → List Datum → Bool → Ran Datum
   taken op p x xs b = let q : Progress = record p { answers = xs; trail = p.trail ++ issued op ∷ [] } in cond b (goes x q) (stops answer_fault q)
 
   taken_counted : (op : Op) (p : Progress) (x : Datum) (xs : List Datum) (b : Bool) → IsCountedWith n xs p → EndsCounted n (taken op p x xs b)
@@ -72,36 +74,40 @@ module _ (n : ℕ) where
   answer_counted op [] p h = tt
   answer_counted op (x ∷ xs) p h = taken_counted op p x xs (is_within_limits x) (h.0, h.1, h.2, omega (arith, h.3))
 
-  abbrev count_outcome : Progress → Bool → Outcome (Unit {0})
-  count_outcome p b = cond b (stops (fault TooManyOperations) p) (goes tt (record p { operations = p.operations + 1; costs = last_issuing p.costs }))
+  abbrev count_ran : Progress → Bool → Ran (Unit {0})
+  count_ran p b = cond b (stops (fault TooManyOperations) p) (goes tt (record p { operations = p.operations + 1; costs = last_issuing p.costs }))
 
-  count_counted : (ds : List Datum) (op : Op) (p : Progress) (b : Bool) → IsCounted n p → EndsCounted n (after (count_outcome (charged (taking ds) p) b) (λ _ q. answered op q.answers q))
+  count_counted : (ds : List Datum) (op : Op) (p : Progress) (b : Bool) → IsCounted n p
+      → EndsCounted n (after (count_ran (charged (taking ds) p) b) (λ _ q. answered op q.answers q))
   count_counted ds op p true h = (taking ds ∷ h.0, ap (and_cost (taking ds)) h.1, omega (arith, h.2), h.3)
   count_counted ds op p false h =
       answer_counted op p.answers (record p { steps = p.steps + 1; operations = p.operations + 1; costs = last_issuing (and_cost (taking ds) p.costs) })
       (issuing ∷ h.0, ap (λ o. last_issuing (and_cost (taking ds) o)) h.1, omega (arith, h.2), omega (arith, h.3))
 
   operation_counted : (ds : List Datum) (op : Op) (p : Progress) (b : Bool) → IsCounted n p
-      → EndsCounted n (after (charge_outcome (taking ds) p b) (λ _ q. after (count_outcome q (q.operations == MOST_OPERATIONS)) (λ _ s. answered op s.answers s)))
+      → EndsCounted n (after (charge_ran (taking ds) p b) (λ _ q. after (count_ran q (q.operations == MOST_OPERATIONS)) (λ _ s. answered op s.answers s)))
   operation_counted ds op p true h = h
   operation_counted ds op p false h = count_counted ds op p (p.operations == MOST_OPERATIONS) h
 
   -- ---- the response
 
-  abbrev print_outcome : List ℕ → Progress → Bool → Outcome (Unit {0})
-  print_outcome bytes p b = cond b (stops (fault TooLarge) p) (goes tt (record p { body = p.body ++ bytes }))
+  abbrev print_ran : List ℕ → Progress → Bool → Ran (Unit {0})
+  print_ran bytes p b = cond b (stops (fault TooLarge) p) (goes tt (record p { body = p.body ++ bytes }))
 
-  print_counted : (bytes : List ℕ) (p : Progress) (b : Bool) → IsCounted n p → EndsCounted n (print_outcome bytes p b)
+  print_counted : (bytes : List ℕ) (p : Progress) (b : Bool) → IsCounted n p → EndsCounted n (print_ran bytes p b)
   print_counted bytes p true h = h
   print_counted bytes p false h = h
 
-page_counted : (program : Program) (request : Request) (answers : List Datum) (page : NumberedPage) → EndsCounted (length answers) (page_run program request (keeping (Some []) (start answers)) page)
+page_counted : (program : Program) (request : Request) (answers : List Datum) (page : NumberedPage)
+    → EndsCounted (length answers) (page_run program request (keeping (Some []) (start answers)) page)
 page_counted program request answers page =
     let n = length answers in
     run_holds (StaysCounted n) (binds n) (λ A a p h. h) (λ A f p h. h) (λ ds p h. charge_counted n (taking ds) p (p.steps == MOST_STEPS) (λ cs k. refl) h)
     (λ q ds p h. charge_counted n (taking_request q ds) p (p.steps == MOST_STEPS) (λ cs k. refl) h)
-    (λ ds op p h. operation_counted n ds op p (p.steps == MOST_STEPS) h) (λ m p h. h) (λ bytes p h. print_counted n bytes p (nat_lt MOST_BODY_BYTES (length (p.body ++ bytes))) h) (λ k p h. h)
-    (record { program = program; request = request }) (MOST_STEPS + 1) 0 (statements_of page.body) [] (keeping (Some []) (start answers)) ([], refl, refl, omega arith)
+    (λ ds op p h. operation_counted n ds op p (p.steps == MOST_STEPS) h) (λ m p h. h)
+    (λ bytes p h. print_counted n bytes p (nat_lt MOST_BODY_BYTES (length (p.body ++ bytes))) h) (λ k p h. h)
+    (record { program = program; request = request }) (MOST_STEPS + 1) 0 (statements_of page.body) []
+    (keeping (Some []) (start answers)) ([], refl, refl, omega arith)
 
 -- ---- endings
 
@@ -112,13 +118,14 @@ HasSpent n cs (Wants op) = Unit {0}
 HasSpent n cs Undefined = Unit {0}
 
 over_spends : (n : ℕ) (o : Option (List Cost)) (xs : List Datum) (x : Response) (path : Path)
-    → (cs : List Cost) × (o ≡ Some cs) × (length cs ≡ path.steps) × (for_operations 1 cs + length xs ≡ n) → HasSpent n (kept_in o) (unless_left xs (Ends x path))
+    → (cs : List Cost) × (o ≡ Some cs) × (length cs ≡ path.steps) × (for_operations 1 cs + length xs ≡ n)
+    → HasSpent n (kept_in o) (unless_left xs (Ends x path))
 over_spends n o [] x path h =
     let kept = ap kept_in h.1 in
     (ap length kept ∙ h.2, ap (for_operations 1) kept ∙ omega (arith, h.3))
 over_spends n o (d ∷ ds) x path h = tt
 
-ended_spends : (n k : ℕ) (r : Outcome Flow) → EndsCounted n r → HasSpent n (costs_in r) (ended k r).ending
+ended_spends : (n k : ℕ) (r : Ran Flow) → EndsCounted n r → HasSpent n (costs_in r) (ended k r).ending
 ended_spends n k (goes flow p) h = over_spends n p.costs p.answers _ _ h
 ended_spends n k (stops (wants op) p) h = tt
 ended_spends n k (stops (fault f) p) h = over_spends n p.costs p.answers _ _ h

@@ -6,9 +6,9 @@ use Rattle.std.specs.Prelude.{All}
 use Rattle.script_tree.specs.Objects.{Objects}
 use Rattle.script_tree.specs.Programs.{Program}
 use Rattle.script_tree.specs.Requests.{Request}
-use Rattle.script_tree.specs.Traces.{request_of}
-use Rattle.script_tree.specs.declared.trace.TraceEvent.{TraceEvent}
-use Rattle.report.specs.declared.Report.{Report}
+use Rattle.period.specs.Traces.{request_of}
+use Rattle.period.specs.declared.trace.TraceEvent.{TraceEvent}
+use Rattle.period.specs.declared.report.Report.{Report}
 use Rattle.script_meaning.specs.Costs.{costs_of}
 use Rattle.script_meaning.specs.GroupCost.{group_cost}
 use Rattle.script_meaning.specs.Run.{Cost, taking, taking_request, issuing}
@@ -27,7 +27,8 @@ for_each n (taking_request q ds ∷ cs) = for_each n cs
 for_each n (issuing ∷ cs) = omega (arith, suc-mul (for_operations 1 cs) n, for_each n cs)
 
 module _ (P : Program) (O : Objects) (T : List TraceEvent) (R : Report) where
-  by_request : (a b : ℕ) (o : Option Request) → told R O a (done_by P O T R a o) ≡ told R O b (done_by P O T R b o) → costs_by P O T R a o ≡ costs_by P O T R b o
+  by_request : (a b : ℕ) (o : Option Request) → told R O a (done_by P O T R a o) ≡ told R O b (done_by P O T R b o)
+      → costs_by P O T R a o ≡ costs_by P O T R b o
   by_request a b None h = refl
   by_request a b (Some q) h = ap (costs_of P q) h
 

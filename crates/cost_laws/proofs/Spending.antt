@@ -7,11 +7,11 @@ use Rattle.script_tree.specs.Declarations.{NumberedPage, page_in}
 use Rattle.script_tree.specs.Objects.{Objects}
 use Rattle.script_tree.specs.Programs.{Program}
 use Rattle.script_tree.specs.Requests.{Request}
-use Rattle.script_tree.specs.Traces.{request_of, response_of}
+use Rattle.period.specs.Traces.{request_of, response_of}
 use Rattle.script_tree.specs.declared.request.Response.{Response}
-use Rattle.script_tree.specs.declared.schedule.Moment.{Moment}
-use Rattle.script_tree.specs.declared.trace.TraceEvent.{TraceEvent}
-use Rattle.report.specs.declared.Report.{Report}
+use Rattle.period.specs.declared.schedule.Moment.{Moment}
+use Rattle.period.specs.declared.trace.TraceEvent.{TraceEvent}
+use Rattle.period.specs.declared.report.Report.{Report}
 use Rattle.script_meaning.specs.Conduct.{Ending, Ends, Wants, Undefined, on_page}
 use Rattle.script_meaning.specs.Costs.{costs_of, costs_on}
 use Rattle.script_meaning.specs.Replay.{ending_of}
@@ -38,7 +38,8 @@ on_page_spends : KeepingChangesNothing → (program : Program) (request : Reques
     → HasSpent (length answers) (costs_on program request answers page) (on_page program request answers page).ending
 on_page_spends law program request answers None = no_page_spends answers _ _ refl
 on_page_spends law program request answers (Some page) =
-    subst (λ c. HasSpent (length answers) (costs_on program request answers (Some page)) c.ending) (law.same program request answers page (Some [])) (page_spends program request answers page)
+    subst (λ c. HasSpent (length answers) (costs_on program request answers (Some page)) c.ending)
+    (law.same program request answers page (Some [])) (page_spends program request answers page)
 
 steps_spent : (n : ℕ) (cs : List Cost) (e : Ending) (y : Option Response) → gives e y ≡ true → HasSpent n cs e → length cs ≡ steps_to e
 steps_spent n cs (Ends response path) y h spent = spent.0
@@ -100,7 +101,9 @@ module _ (law : KeepingChangesNothing) (P : Program) (O : Objects) (T : List Tra
   steps_both [] ys = omega arith
   steps_both (x ∷ xs) ys = let h = steps_both xs ys in omega (arith, h)
 
-  groups_spend : (gs : List (List ℕ)) → ((i : ℕ) (g : List ℕ) → nth gs i ≡ Some g → (n : ℕ) × (group_fault P O T R n g ≡ None)) → cost_of_all P O T R gs ≤ steps_of_all P O T R (flat_map (λ (g : List ℕ). g) gs)
+  groups_spend : (gs : List (List ℕ)) → ((i : ℕ) (g : List ℕ) → nth gs i ≡ Some g
+      → (n : ℕ) × (group_fault P O T R n g ≡ None))
+      → cost_of_all P O T R gs ≤ steps_of_all P O T R (flat_map (λ (g : List ℕ). g) gs)
   groups_spend [] h = omega arith
   groups_spend (g ∷ gs) h =
       let sound = h 0 g refl in
@@ -132,7 +135,8 @@ IsAccepted (Accepted S v n) = Unit {0}
 IsAccepted (Rejected r) = ⊥
 
 -- what is accepted has no fault in its groups
-accepted_parts : (a : Option Reason) (C : List Node) (n : Option (List Node)) (l : Option Reason) (R : Report) (evaluated steps : ℕ) (S : List Moment) (v k : ℕ) → judged a C n l R evaluated steps ≡ Accepted S v k
+accepted_parts : (a : Option Reason) (C : List Node) (n : Option (List Node)) (l : Option Reason) (R : Report)
+    (evaluated steps : ℕ) (S : List Moment) (v k : ℕ) → judged a C n l R evaluated steps ≡ Accepted S v k
     → (l ≡ None) × (evaluated ≡ v) × (steps ≡ k)
 accepted_parts (Some r) C n l R evaluated steps S v k e = absurd (subst IsAccepted (sym e) tt)
 accepted_parts None C None l R evaluated steps S v k e = absurd (subst IsAccepted (sym e) tt)

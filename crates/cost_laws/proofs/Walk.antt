@@ -60,7 +60,9 @@ module _ (Of : (A : Type 0) → Run A → Type 0)
 
   decided : (whole x : Datum) → Holds (decide_by whole x)
   decided whole x =
-      bind (charge_for whole) _ (charged (whole ∷ [])) (λ _. bind (unless_fault (bool_in x)) _ (unless (bool_in x)) (λ b. bind (note (Decided b)) (λ _. give b) (noted (Decided b)) (λ _. gives b)))
+      bind (charge_for whole) _ (charged (whole ∷ []))
+      (λ _. bind (unless_fault (bool_in x)) _ (unless (bool_in x))
+      (λ b. bind (note (Decided b)) (λ _. give b) (noted (Decided b)) (λ _. gives b)))
 
   noded : (ds : List Datum) (a : Answer) → Holds (node ds a)
   noded ds a = then (charge (taking ds)) (unless_fault a) (charged ds) (unless a)
@@ -77,8 +79,11 @@ module _ (Of : (A : Type 0) → Run A → Type 0)
 
   module _ (w : Setting) (later : Later) (so : AllHold later) where
     entered_holds : (depth : ℕ) (g : DeclaredFunction) (ds : List Datum) → Holds (entered later depth g ds)
-    entered_holds depth g ds = either (depth == MOST_CALL_DEPTH) (fails TooDeep) (later (depth + 1) (statements_of g.body) (bound g.parameters ds) >>= λ flow. give (value_of flow))
-        (failing TooDeep) (bind (later (depth + 1) (statements_of g.body) (bound g.parameters ds)) (λ flow. give (value_of flow)) (so (depth + 1) (statements_of g.body) (bound g.parameters ds)) (λ flow. gives (value_of flow)))
+    entered_holds depth g ds = either (depth == MOST_CALL_DEPTH) (fails TooDeep)
+        (later (depth + 1) (statements_of g.body) (bound g.parameters ds) >>= λ flow. give (value_of flow))
+        (failing TooDeep) (bind (later (depth + 1) (statements_of g.body) (bound g.parameters ds))
+        (λ flow. give (value_of flow)) (so (depth + 1) (statements_of g.body) (bound g.parameters ds))
+        (λ flow. gives (value_of flow)))
 
     called_holds : (depth : ℕ) (c : Callee) (store : List ℕ) (ds : List Datum) → Holds (called w later depth c store ds)
     called_holds depth (own g) store ds = then (charge (taking ds)) (entered later depth g ds) (charged ds) (entered_holds depth g ds)
@@ -109,35 +114,44 @@ module _ (Of : (A : Type 0) → Run A → Type 0)
 
         all_holds : (es : Expressions) → Holds (eval_all w later depth vs es)
         all_holds no_expression = gives []
-        all_holds (expression e es) = bind (eval w later depth vs e) _ (eval_holds e) (λ x. bind (eval_all w later depth vs es) _ (all_holds es) (λ ds. gives (x ∷ ds)))
+        all_holds (expression e es) = bind (eval w later depth vs e) _ (eval_holds e)
+            (λ x. bind (eval_all w later depth vs es) _ (all_holds es) (λ ds. gives (x ∷ ds)))
 
         arguments_holds : (b : Bool) (es : Expressions) → Holds (cond b (eval_others w later depth vs es) (eval_all w later depth vs es))
         arguments_holds true no_expression = gives []
         arguments_holds true (expression e es) = all_holds es
         arguments_holds false no_expression = gives []
-        arguments_holds false (expression e es) = bind (eval w later depth vs e) _ (eval_holds e) (λ x. bind (eval_all w later depth vs es) _ (all_holds es) (λ ds. gives (x ∷ ds)))
+        arguments_holds false (expression e es) =
+            bind (eval w later depth vs e) _ (eval_holds e)
+            (λ x. bind (eval_all w later depth vs es) _ (all_holds es) (λ ds. gives (x ∷ ds)))
 
         query_holds : (q : Query) → Holds (operands_of w later depth vs q)
         query_holds (insert at t es) = bind (eval_all w later depth vs es) _ (all_holds es) (λ ds. gives _)
-        query_holds (select at xs t cs) = bind (tests_of w later depth vs (table_in w.program t) cs) _ (tests_holds (table_in w.program t) cs) (λ tests. gives _)
+        query_holds (select at xs t cs) = bind (tests_of w later depth vs (table_in w.program t) cs) _
+            (tests_holds (table_in w.program t) cs) (λ tests. gives _)
         query_holds (update at t sets cs) =
             bind (changes_of w later depth vs (table_in w.program t) sets) _ (changes_holds (table_in w.program t) sets) (λ changes.
             bind (tests_of w later depth vs (table_in w.program t) cs) _ (tests_holds (table_in w.program t) cs) (λ tests. gives _))
         query_holds (delete at t cs) = bind (tests_of w later depth vs (table_in w.program t) cs) _ (tests_holds (table_in w.program t) cs) (λ tests. gives _)
         query_holds (expect at e t cs) =
-            bind (eval w later depth vs e) _ (eval_holds e) (λ n. bind (tests_of w later depth vs (table_in w.program t) cs) _ (tests_holds (table_in w.program t) cs) (λ tests. gives _))
+            bind (eval w later depth vs e) _ (eval_holds e)
+            (λ n. bind (tests_of w later depth vs (table_in w.program t) cs) _
+            (tests_holds (table_in w.program t) cs) (λ tests. gives _))
 
         queries_holds : (qs : Queries) → Holds (operands_of_all w later depth vs qs)
         queries_holds no_query = gives []
-        queries_holds (query q qs) = bind (operands_of w later depth vs q) _ (query_holds q) (λ x. bind (operands_of_all w later depth vs qs) _ (queries_holds qs) (λ ds. gives (x ∷ ds)))
+        queries_holds (query q qs) = bind (operands_of w later depth vs q) _ (query_holds q)
+            (λ x. bind (operands_of_all w later depth vs qs) _ (queries_holds qs) (λ ds. gives (x ∷ ds)))
 
         tests_holds : (t : NumberedTable) (cs : Conditions) → Holds (tests_of w later depth vs t cs)
         tests_holds t no_condition = gives []
-        tests_holds t (condition x c e cs) = bind (eval w later depth vs e) _ (eval_holds e) (λ y. bind (tests_of w later depth vs t cs) _ (tests_holds t cs) (λ tests. gives _))
+        tests_holds t (condition x c e cs) = bind (eval w later depth vs e) _ (eval_holds e)
+            (λ y. bind (tests_of w later depth vs t cs) _ (tests_holds t cs) (λ tests. gives _))
 
         changes_holds : (t : NumberedTable) (sets : Assignments) → Holds (changes_of w later depth vs t sets)
         changes_holds t no_assignment = gives []
-        changes_holds t (assignment x e sets) = bind (eval w later depth vs e) _ (eval_holds e) (λ y. bind (changes_of w later depth vs t sets) _ (changes_holds t sets) (λ changes. gives _))
+        changes_holds t (assignment x e sets) = bind (eval w later depth vs e) _ (eval_holds e)
+            (λ y. bind (changes_of w later depth vs t sets) _ (changes_holds t sets) (λ changes. gives _))
 
     -- ---- statements
 
@@ -148,14 +162,17 @@ module _ (Of : (A : Type 0) → Run A → Type 0)
     scoped_holds : (vs : Variables) (m : Run Flow) → Holds m → Holds (scoped vs m)
     scoped_holds vs m h = bind m (λ flow. give (left_as vs flow)) h (λ flow. gives (left_as vs flow))
 
-    turns_holds : (whole : Datum) (x : List ℕ) (body : Variables → Run Flow) → ((us : Variables) → Holds (body us)) → (vs : Variables) (ds : List Datum) → Holds (turns whole x body vs ds)
+    turns_holds : (whole : Datum) (x : List ℕ) (body : Variables → Run Flow) → ((us : Variables) → Holds (body us))
+        → (vs : Variables) (ds : List Datum) → Holds (turns whole x body vs ds)
     turns_holds whole x body h vs [] = bind (decide_by whole (v.bool false)) (λ _. give (on vs)) (decided whole (v.bool false)) (λ _. gives (on vs))
     turns_holds whole x body h vs (y ∷ ds) =
         bind (decide_by whole (v.bool true)) _ (decided whole (v.bool true)) (λ _.
-        bind (scoped vs (body (declared vs x y))) (λ flow. then_on flow (λ us. turns whole x body us ds)) (scoped_holds vs (body (declared vs x y)) (h (declared vs x y))) (λ flow.
+        bind (scoped vs (body (declared vs x y))) (λ flow. then_on flow (λ us. turns whole x body us ds))
+        (scoped_holds vs (body (declared vs x y)) (h (declared vs x y))) (λ flow.
         then_on_holds flow (λ us. turns whole x body us ds) (λ us. turns_holds whole x body h us ds)))
 
-    turns_of_holds : (whole : Datum) (x : List ℕ) (body : Variables → Run Flow) → ((us : Variables) → Holds (body us)) → (vs : Variables) (r : Result (List Datum) ScriptFault) → Holds (turns_of whole x body vs r)
+    turns_of_holds : (whole : Datum) (x : List ℕ) (body : Variables → Run Flow) → ((us : Variables) → Holds (body us))
+        → (vs : Variables) (r : Result (List Datum) ScriptFault) → Holds (turns_of whole x body vs r)
     turns_of_holds whole x body h vs (Ok ds) = turns_holds whole x body h vs ds
     turns_of_holds whole x body h vs (Err f) = then (charge_for whole) (fails f) (charged (whole ∷ [])) (failing f)
 
@@ -163,7 +180,8 @@ module _ (Of : (A : Type 0) → Run A → Type 0)
     printed_holds x = bind (unless_fault (printed x)) print (unless (printed x)) prints
 
     module _ (depth : ℕ) where
-      spent : (vs : Variables) (e : Expression) (f : Datum → Run Flow) → ((x : Datum) → Holds (f x)) → Holds (eval w later depth vs e >>= λ x. charge_for x >>= λ _. f x)
+      spent : (vs : Variables) (e : Expression) (f : Datum → Run Flow) → ((x : Datum) → Holds (f x))
+          → Holds (eval w later depth vs e >>= λ x. charge_for x >>= λ _. f x)
       spent vs e f h = bind (eval w later depth vs e) _ (eval_holds depth vs e) (λ x. bind (charge_for x) (λ _. f x) (charged (x ∷ [])) (λ _. h x))
 
       mutual
@@ -175,16 +193,20 @@ module _ (Of : (A : Type 0) → Run A → Type 0)
             scoped_holds vs _ (either holds (block w later depth body vs) (otherwise w later depth other vs) (block_holds body vs) (otherwise_holds other vs))))
         exec_holds (while_ at e body) vs =
             bind (eval w later depth vs e) _ (eval_holds depth vs e) (λ x. bind (decide x) _ (decided x x) (λ holds.
-            either holds (scoped vs (block w later depth body vs) >>= λ flow. then_on flow (later depth (statement (while_ at e body) no_statement))) (give (on vs))
+            either holds (scoped vs (block w later depth body vs)
+            >>= λ flow. then_on flow (later depth (statement (while_ at e body) no_statement))) (give (on vs))
             (bind (scoped vs (block w later depth body vs)) (λ flow. then_on flow (later depth (statement (while_ at e body) no_statement)))
             (scoped_holds vs (block w later depth body vs) (block_holds body vs)) (λ flow.
             then_on_holds flow (later depth (statement (while_ at e body) no_statement)) (λ us. so depth (statement (while_ at e body) no_statement) us)))
             (gives (on vs))))
         exec_holds (for_ at x e body) vs =
-            bind (eval w later depth vs e) _ (eval_holds depth vs e) (λ y. turns_of_holds y x.text (block w later depth body) (λ us. block_holds body us) vs (list_in y))
+            bind (eval w later depth vs e) _ (eval_holds depth vs e)
+            (λ y. turns_of_holds y x.text (block w later depth body) (λ us. block_holds body us) vs (list_in y))
         exec_holds (echo at e) vs = spent vs e _ (λ y. bind (print_value y) (λ _. give (on vs)) (printed_holds y) (λ _. gives (on vs)))
         exec_holds (status at e) vs =
-            spent vs e _ (λ y. bind (unless_fault (status_in y)) (λ n. set_status n >>= λ _. give (on vs)) (unless (status_in y)) (λ n. bind (set_status n) (λ _. give (on vs)) (sets_status n) (λ _. gives (on vs))))
+            spent vs e _ (λ y. bind (unless_fault (status_in y)) (λ n. set_status n >>= λ _. give (on vs))
+            (unless (status_in y)) (λ n. bind (set_status n) (λ _. give (on vs)) (sets_status n)
+            (λ _. gives (on vs))))
         exec_holds (return at e) vs = spent vs e _ (λ y. gives (back y))
         exec_holds (do_ at e) vs = spent vs e _ (λ y. gives (on vs))
 
@@ -195,7 +217,8 @@ module _ (Of : (A : Type 0) → Run A → Type 0)
         block_holds : (ss : Statements) (vs : Variables) → Holds (block w later depth ss vs)
         block_holds no_statement vs = gives (on vs)
         block_holds (statement x ss) vs =
-            bind (exec w later depth x vs) (λ flow. then_on flow (block w later depth ss)) (exec_holds x vs) (λ flow. then_on_holds flow (block w later depth ss) (λ us. block_holds ss us))
+            bind (exec w later depth x vs) (λ flow. then_on flow (block w later depth ss)) (exec_holds x vs)
+            (λ flow. then_on_holds flow (block w later depth ss) (λ us. block_holds ss us))
 
   pub run_holds : (w : Setting) (n : ℕ) → AllHold (run w n)
   run_holds w zero depth ss vs = failing OutOfSteps

@@ -3,11 +3,11 @@ use Rattle.std.specs.Prelude.{◌≡◌, ℕ, ◌+◌, ◌*◌, List, ◌∷◌,
 use Rattle.script_tree.specs.Datum.{Datum}
 use Rattle.script_tree.specs.Objects.{Objects}
 use Rattle.script_tree.specs.Programs.{Program}
-use Rattle.script_tree.specs.Traces.{request_of}
+use Rattle.period.specs.Traces.{request_of}
 use Rattle.script_tree.specs.declared.path.Path.{Path}
 use Rattle.script_tree.specs.declared.request.Response.{Response}
-use Rattle.script_tree.specs.declared.trace.TraceEvent.{TraceEvent}
-use Rattle.report.specs.declared.Report.{Report}
+use Rattle.period.specs.declared.trace.TraceEvent.{TraceEvent}
+use Rattle.period.specs.declared.report.Report.{Report}
 use Rattle.script_meaning.specs.Conduct.{Ends}
 use Rattle.audit_meaning.specs.Groups.{cost_of_group, done, end_of}
 use Rattle.audit_meaning.specs.Members.{told}
@@ -23,7 +23,8 @@ module _ (program : Program) (start : Objects) (trace : List TraceEvent) (report
 
 -- Where one member's run ends, and all others are equal to it, the group costs its steps, and one more for each operation of each other.
 abbrev pub EqualMembersCostOne : Type 0
-EqualMembersCostOne = (program : Program) (start : Objects) (trace : List TraceEvent) (report : Report) (rid : ℕ) (others : List ℕ) (response : Response) (path : Path)
+EqualMembersCostOne = (program : Program) (start : Objects) (trace : List TraceEvent) (report : Report) (rid : ℕ)
+    (others : List ℕ) (response : Response) (path : Path)
     → end_of program start trace report rid ≡ Ends response path
     → All (AreEqual program start trace report rid) others
     → cost_of_group program start trace report (rid ∷ others) ≡ path.steps + done program start trace report rid * length others

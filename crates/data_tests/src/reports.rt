@@ -1,7 +1,7 @@
 //! `report` and `report_format`: the examples of docs/formats.md, and files that can't be read.
 
 use basis::OrMemory;
-use report::{Log, LogEntry, Report};
+use period::report::{Log, LogEntry, Report};
 use report_format::appending::{SpelledEntries, add_count, add_group, add_log, begin};
 use report_format::decoding::decode;
 use report_format::encoding::encode;

@@ -1,10 +1,10 @@
 //! `schedule_format`: the examples of docs/formats.md, and files that can't be read.
 
 use basis::OrMemory;
+use period::schedule::Moment;
 use schedule_format::decoding::decode;
 use schedule_format::encoding::encode;
 use script_tree::operation::Choice;
-use script_tree::schedule::Moment;
 use std::alloc::Global;
 use wire::fault::Unreadable;
 

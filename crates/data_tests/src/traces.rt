@@ -1,8 +1,8 @@
 //! `trace_format`: the example of docs/formats.md, files that can't be read, and balance.
 
 use basis::OrMemory;
+use period::trace::TraceEvent;
 use script_tree::request::Request;
-use script_tree::trace::TraceEvent;
 use std::alloc::{AllocError, Global};
 use trace_format::appending::{add_request, add_response, begin};
 use trace_format::balance::first_unbalanced;

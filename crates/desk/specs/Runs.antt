@@ -3,6 +3,7 @@ use Rattle.std.specs.Prelude.{◌≡◌, ℕ, ◌==◌, List, [], ◌∷◌, ◌
 use Rattle.desk.specs.declared.bench.Call.{Call}
 
 module _ {E R : Type 0} where
+  -- a call from a seat: its event, and its reply
   abbrev pub call : ℕ → E → R → Call E R
   call seat event reply = record { seat = seat; event = event; reply = reply }
 

@@ -6,5 +6,5 @@ pub mod Walks
 pub mod Windows
 pub mod Paces
 pub mod Stuckness
-pub mod Outcomes
+pub mod Ends
 pub mod Rings

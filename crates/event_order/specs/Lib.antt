@@ -3,5 +3,5 @@ pub mod Standing
 pub mod Thin
 pub mod Cycle
 pub mod Window
-pub mod Outcome
+pub mod OrderOrCycle
 pub mod Laws

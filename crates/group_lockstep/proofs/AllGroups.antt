@@ -39,7 +39,9 @@ module _ (program : Program) (t : Told) where
   abbrev pub cost_to : ℕ → ℕ
   cost_to n = cost_of_all program (objects_of t.start) t.trace t.report (take n groups_told)
 
-  cost_both : (xs ys : List (List ℕ)) → cost_of_all program (objects_of t.start) t.trace t.report (xs ++ ys) ≡ cost_of_all program (objects_of t.start) t.trace t.report xs + cost_of_all program (objects_of t.start) t.trace t.report ys
+  cost_both : (xs ys : List (List ℕ)) → cost_of_all program (objects_of t.start) t.trace t.report (xs ++ ys)
+      ≡ cost_of_all program (objects_of t.start) t.trace t.report xs + cost_of_all program
+      (objects_of t.start) t.trace t.report ys
   cost_both [] ys = omega arith
   cost_both (x ∷ xs) ys = let h = cost_both xs ys in omega (arith, h)
 
@@ -56,12 +58,14 @@ module _ (program : Program) (t : Told) where
 
     pub unsound_at : (reason : Reason) → AreSound i → fault_of program t number rids ≡ Some reason → unsound_in program t ≡ Some reason
     unfolding unsound_group
-    unsound_at reason sound is = found fault_after (befores groups_told) i (take i groups_told, group) reason sound (befores_at groups_told i group at) (fault_here ∙ is)
+    unsound_at reason sound is = found fault_after (befores groups_told) i (take i groups_told, group) reason sound
+        (befores_at groups_told i group at) (fault_here ∙ is)
 
     pub sound_more : AreSound i → fault_of program t number rids ≡ None → AreSound (i + 1)
     sound_more sound is = none_more fault_after (befores groups_told) i (take i groups_told, group) sound (befores_at groups_told i group at) (fault_here ∙ is)
 
-    steps_next : (steps spent sum : ℕ) → steps ≡ steps_of program t (members_to i) → spent ≡ steps_of program t rids → sum ≡ steps + spent → sum ≡ steps_of program t (members_to (i + 1))
+    steps_next : (steps spent sum : ℕ) → steps ≡ steps_of program t (members_to i) → spent ≡ steps_of program t rids
+        → sum ≡ steps + spent → sum ≡ steps_of program t (members_to (i + 1))
     steps_next steps spent sum is more total =
         total ∙ ap (λ n. n + spent) is ∙ ap (λ n. steps_of program t (members_to i) + n) (more ∙ ap (steps_of program t) same)
         ∙ sym (steps_both program t (members_to i) group) ∙ ap (steps_of program t) (members_more groups_told i group (members_to i) at refl)

@@ -10,7 +10,8 @@ get_last : {A : Type 0} (xs : List A) (y d : A) → get_or (xs ++ y ∷ []) (len
 get_last [] y d = refl
 get_last (x ∷ xs) y d = get_last xs y d
 
-pub each_more : {A : Type 0} (P : ℕ → A → Type 0) (xs : List A) (y d : A) (n : ℕ) → length xs ≡ n → ((i : ℕ) → i < n → P i (get_or xs i d)) → P n y → (i : ℕ) → i < n + 1 → P i (get_or (xs ++ y ∷ []) i d)
+pub each_more : {A : Type 0} (P : ℕ → A → Type 0) (xs : List A) (y d : A) (n : ℕ) → length xs ≡ n
+    → ((i : ℕ) → i < n → P i (get_or xs i d)) → P n y → (i : ℕ) → i < n + 1 → P i (get_or (xs ++ y ∷ []) i d)
 each_more P xs y d n size before here =
     below_more (λ i. P i (get_or (xs ++ y ∷ []) i d)) n (λ i lt. subst (P i) (sym (get_before xs y d i (omega (arith, lt, size)))) (before i lt))
     (subst (P n) (sym (get_last xs y d) ∙ ap (λ j. get_or (xs ++ y ∷ []) j d) size) here)

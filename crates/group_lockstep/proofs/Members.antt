@@ -10,7 +10,7 @@ use Rattle.script_tree.specs.Datum.{Datum}
 use Rattle.script_tree.specs.Paths.{same_page, same_decision}
 use Rattle.script_tree.specs.Programs.{Program}
 use Rattle.script_tree.specs.Requests.{Request}
-use Rattle.script_tree.specs.Traces.{request_of, response_of}
+use Rattle.period.specs.Traces.{request_of, response_of}
 use Rattle.script_tree.specs.declared.path.Path.{Path}
 use Rattle.script_tree.specs.declared.request.Response.{Response}
 use Rattle.object_set.specs.ObjectSets.{objects_of}
@@ -67,9 +67,12 @@ alike f m (r ∷ rs) h = ap (λ x. list_all (same_mark x) (map f rs)) (h 0 r ref
   where
     all : (ss : List ℕ) → ((i s : ℕ) → nth ss i ≡ Some s → f s ≡ m) → list_all (same_mark m) (map f ss) ≡ true
     all [] k = refl
-    all (s ∷ ss) k = and_from (same_mark m (f s)) (list_all (same_mark m) (map f ss)) (subst (λ x. same_mark m x ≡ true) (sym (k 0 s refl)) (same_mark_itself m)) (all ss (λ i x at. k (suc i) x at))
+    all (s ∷ ss) k = and_from (same_mark m (f s)) (list_all (same_mark m) (map f ss))
+        (subst (λ x. same_mark m x ≡ true) (sym (k 0 s refl)) (same_mark_itself m))
+        (all ss (λ i x at. k (suc i) x at))
 
-not_bad : (page : Option ℕ) (trail : List Mark) (a b i : ℕ) → is_bad (nth (map (λ s. record { page = page; sign = s }) (map sign_of trail ++ ended a b ∷ [])) i) ≡ false
+not_bad : (page : Option ℕ) (trail : List Mark) (a b i : ℕ)
+    → is_bad (nth (map (λ s. record { page = page; sign = s }) (map sign_of trail ++ ended a b ∷ [])) i) ≡ false
 not_bad page [] a b zero = refl
 not_bad page [] a b (suc i) = refl
 not_bad page (decided t ∷ trail) a b zero = refl
@@ -95,7 +98,8 @@ gives_ended x path (Some y) = refl
 -- ---- sums
 
 -- members that spend the same
-each_spends : (program : Program) (t : Told) (s : ℕ) (rs : List ℕ) → ((i r : ℕ) → nth rs i ≡ Some r → spent_by program t r ≡ s) → steps_of program t rs ≡ length rs * s
+each_spends : (program : Program) (t : Told) (s : ℕ) (rs : List ℕ)
+    → ((i r : ℕ) → nth rs i ≡ Some r → spent_by program t r ≡ s) → steps_of program t rs ≡ length rs * s
 each_spends program t s [] h = sym (zero-mul s)
 each_spends program t s (r ∷ rs) h =
     let first = h 0 r refl in
@@ -112,7 +116,9 @@ costs_gathered g f k (r ∷ rs) h =
     costs_gathered g f (suc k) rs (λ i x at. let later : k + suc i ≡ suc k + i = omega arith in h (suc i) x at ∙ ap f later) in
     (λ z. (h 0 r refl ∙ ap f here) z ∷ rest z)
 
-module _ (program : Program) (t : Told) (rids : List ℕ) (qs : List Request) (n spent : ℕ) (e : Ended) (asked : AreAsked t rids qs) (counts : AllCount t rids n) (well : EndsWell t rids program qs n spent e) (given : AllGive t rids e) where
+module _ (program : Program) (t : Told) (rids : List ℕ) (qs : List Request) (n spent : ℕ) (e : Ended)
+    (asked : AreAsked t rids qs) (counts : AllCount t rids n) (well : EndsWell t rids program qs n spent e)
+    (given : AllGive t rids e) where
   -- what a member does
   abbrev trail_at : ℕ → List Mark
   trail_at i = (conduct program (request_at qs i) (told_at t rids n i)).trail
@@ -207,7 +213,8 @@ module _ (program : Program) (t : Told) (rids : List ℕ) (qs : List Request) (n
       (none_first (mark_fault program (objects_of t.start) t.trace t.report group rids) (numbers 0 (longest (map ms rids))) (λ j i at_j.
       none_or (first_answer (if_bad program (objects_of t.start) t.trace t.report i) rids) _
       (none_first (if_bad program (objects_of t.start) t.trace t.report i) rids (λ m x at.
-      none_answer _ _ (ap (λ xs. is_bad (nth xs i)) (marks_there m x at) ∙ not_bad (page_number program (request_at qs m)) (trail_at m) e.steps (fault_in e.end) i)))
+      none_answer _ _ (ap (λ xs. is_bad (nth xs i)) (marks_there m x at)
+      ∙ not_bad (page_number program (request_at qs m)) (trail_at m) e.steps (fault_in e.end) i)))
       (none_answer _ _ (ap not (alike (λ x. nth (ms x) i) (nth (left_at 0) i) rids (λ m x at. ap (λ xs. nth xs i) (marks_first m x at)))))))
       (none_or (first_answer (if_fewer program (objects_of t.start) t.trace t.report) rids) _
       (none_first (if_fewer program (objects_of t.start) t.trace t.report) rids (λ m x at.
@@ -221,7 +228,8 @@ module _ (program : Program) (t : Told) (rids : List ℕ) (qs : List Request) (n
       ∙ ap (λ m. group_cost (costs_of_all 0 m (λ i. costs_of program (request_at qs i) (told_at t rids n i)))) asked.count
       ∙ sym (ap group_cost (costs_gathered (costs program (objects_of t.start) t.trace t.report) (λ i. costs_of program (request_at qs i) (told_at t rids n i)) 0 rids (λ i x at.
       let here : 0 + i ≡ i = omega arith in
-      ap (costs program (objects_of t.start) t.trace t.report) (sym (is_rid i x at)) ∙ costs_are i (within i x at) ∙ ap (λ j. costs_of program (request_at qs j) (told_at t rids n j)) (sym here))))
+      ap (costs program (objects_of t.start) t.trace t.report) (sym (is_rid i x at)) ∙ costs_are i (within i x at)
+      ∙ ap (λ j. costs_of program (request_at qs j) (told_at t rids n j)) (sym here))))
 
   pub sound_group : (s : Spent) → s.evaluated ≡ spent → s.plain ≡ length rids * e.steps → IsSoundGroup program t rids s
   sound_group s evaluated plain = record {

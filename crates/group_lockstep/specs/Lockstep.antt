@@ -3,7 +3,7 @@ use Rattle.std.specs.Prelude.{◌≡◌, ◌<◌, ℕ, true, List, length, get_o
 use Rattle.script_tree.specs.Datum.{Datum}
 use Rattle.script_tree.specs.Programs.{Program}
 use Rattle.script_tree.specs.Requests.{Request}
-use Rattle.script_tree.specs.Traces.{request_of, response_of}
+use Rattle.period.specs.Traces.{request_of, response_of}
 use Rattle.script_tree.specs.declared.operation.Op.{Op}
 use Rattle.script_meaning.specs.Conduct.{Wants}
 use Rattle.object_set.specs.ObjectSets.{objects_of}

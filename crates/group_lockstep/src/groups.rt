@@ -1,8 +1,8 @@
 ghost use Rattle.std.specs.Prelude.{◌≡◌, length};
 ghost use Rattle.script_tree.specs.Programs.{Program as AnyProgram};
 ghost use Rattle.script_code.specs.Translated.{IsCodeOf};
-ghost use Rattle.log_checker.specs.Faults.{Gives};
-ghost use Rattle.report.specs.Groups.{IsSome};
+ghost use Rattle.log_checker.specs.Faults.{IsFaultOr};
+ghost use Rattle.period.specs.Groups.{IsSome};
 ghost use Rattle.group_runner.specs.Told.{fault_of, unsound_in};
 ghost use Rattle.group_lockstep.specs.Costs.{IsSpentBy, IsSpentInAll};
 
@@ -27,7 +27,7 @@ fn run_group(
 ) -> Result<Spent, OrMemory<Reason>>
     requires { IsSome rids.now }
     ensures { (program : AnyProgram) → IsCodeOf program code.now
-        → Gives (fault_of program evidence.now number rids.now)
+        → IsFaultOr (fault_of program evidence.now number rids.now)
         (IsSpentBy program evidence.now rids.now) result }
 {
     if rids.len() == 1 {
@@ -60,7 +60,7 @@ fn run_alone(
 ) -> Result<Spent, OrMemory<Reason>>
     requires { length rids.now ≡ 1 }
     ensures { (program : AnyProgram) → IsCodeOf program code.now
-        → Gives (fault_of program evidence.now number rids.now)
+        → IsFaultOr (fault_of program evidence.now number rids.now)
         (IsSpentBy program evidence.now rids.now) result }
 {
     one_member_costs_its_steps();
@@ -80,7 +80,7 @@ pub fn run_groups<G: Gate + Sync>(
     gate: &G,
 ) -> Result<Spent, OrMemory<Reason>>
     ensures { (program : AnyProgram) → IsCodeOf program code.now
-        → Gives (unsound_in program evidence.now) (IsSpentInAll program evidence.now) result }
+        → IsFaultOr (unsound_in program evidence.now) (IsSpentInAll program evidence.now) result }
 {
     let mut spent = Spent::nothing();
     for (number, group) in evidence.groups().iter().enumerate() {

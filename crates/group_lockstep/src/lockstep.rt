@@ -1,6 +1,6 @@
 ghost use Rattle.std.specs.Prelude.{◌≡◌, ◌<◌, ◌*◌, ℕ, true, length, IfOk, IfSome, IsTrue};
 ghost use Rattle.script_tree.specs.Programs.{Program as AnyProgram};
-ghost use Rattle.script_tree.specs.Traces.{response_of};
+ghost use Rattle.period.specs.Traces.{response_of};
 ghost use Rattle.script_code.specs.Translated.{IsCodeOf};
 ghost use Rattle.group_runner.specs.Told.{gives_response};
 ghost use Rattle.group_lockstep.specs.Lockstep.{AllCount, AreAsked, AreAnswers, AllGive, EndsWell};

@@ -33,8 +33,11 @@ differ_in xs ys i = not (same_mark (nth (marks_in xs) i) (nth (marks_in ys) i))
 pub bad_said : (xs ys : List LeftMark) (o p : Option ℕ) → xs ≡ ys → o ≡ p → IsLeastPlace (bad_in xs) o → IsLeastPlace (bad_in ys) p
 bad_said xs ys o p same is least = subst (λ zs. IsLeastPlace (bad_in zs) p) same (subst (IsLeastPlace (bad_in xs)) is least)
 
-pub difference_said : (xs xs' ys ys' : List LeftMark) (o p : Option ℕ) → xs ≡ xs' → ys ≡ ys' → o ≡ p → IsLeastPlace (differ_in xs ys) o → IsLeastPlace (differ_in xs' ys') p
-difference_said xs xs' ys ys' o p same same' is least = subst (λ zs. IsLeastPlace (differ_in zs ys') p) same (subst (λ zs. IsLeastPlace (differ_in xs zs) p) same' (subst (IsLeastPlace (differ_in xs ys)) is least))
+pub difference_said : (xs xs' ys ys' : List LeftMark) (o p : Option ℕ) → xs ≡ xs' → ys ≡ ys' → o ≡ p
+    → IsLeastPlace (differ_in xs ys) o → IsLeastPlace (differ_in xs' ys') p
+difference_said xs xs' ys ys' o p same same' is least =
+    subst (λ zs. IsLeastPlace (differ_in zs ys') p) same
+    (subst (λ zs. IsLeastPlace (differ_in xs zs) p) same' (subst (IsLeastPlace (differ_in xs ys)) is least))
 
 and_true : (b : Bool) → (b && true) ≡ b
 and_true true = refl
@@ -49,7 +52,8 @@ module _ (program : Program) (t : Told) (group : ℕ) where
     bad_same i = ap (λ ms. answer_if (is_bad (nth ms i)) (other_operation i)) h.marks'
 
     pub none_bad : IsLeastPlace (bad_in m.marks.items) None → IsLeastFault group (bad_told program t r) None
-    none_bad least = least_same group (λ i. answer_if (bad_in m.marks.items i) (other_operation i)) (bad_told program t r) None bad_same (no_place group (bad_in m.marks.items) other_operation least)
+    none_bad least = least_same group (λ i. answer_if (bad_in m.marks.items i) (other_operation i))
+        (bad_told program t r) None bad_same (no_place group (bad_in m.marks.items) other_operation least)
 
     pub one_bad : (place number : ℕ) → number ≡ suc m.done → IsLeastPlace (bad_in m.marks.items) (Some place)
         → IsLeastFault group (bad_told program t r) (Some (record { place = place; fault = OtherOperation r number }))
@@ -63,17 +67,22 @@ module _ (program : Program) (t : Told) (group : ℕ) where
     differ_same i =
         ap (λ ms. answer_if (not (same_mark (nth ms i) (nth (marks_in b.marks.items) i))) (reason.MarksDiffer group i)) h.marks'
         ∙ ap (λ ms. answer_if (not (same_mark (nth (marks_told program t first) i) (nth ms i))) (reason.MarksDiffer group i)) k.marks'
-        ∙ ap (λ b. answer_if (not b) (reason.MarksDiffer group i)) (sym (and_true (same_mark (nth (marks_told program t first) i) (nth (marks_told program t r) i))))
+        ∙ ap (λ b. answer_if (not b) (reason.MarksDiffer group i))
+        (sym (and_true (same_mark (nth (marks_told program t first) i) (nth (marks_told program t r) i))))
 
     pub none_differs : IsLeastPlace (differ_in a.marks.items b.marks.items) None → IsLeastFault group (differing_told program t group first (r ∷ [])) None
     none_differs least =
-        least_same group (λ i. answer_if (differ_in a.marks.items b.marks.items i) (reason.MarksDiffer group i)) (differing_told program t group first (r ∷ [])) None differ_same
+        least_same group (λ i. answer_if (differ_in a.marks.items b.marks.items i) (reason.MarksDiffer group i))
+        (differing_told program t group first (r ∷ [])) None differ_same
         (no_place group (differ_in a.marks.items b.marks.items) (λ i. reason.MarksDiffer group i) least)
 
-    pub one_differs : (place : ℕ) → IsLeastPlace (differ_in a.marks.items b.marks.items) (Some place) → IsLeastFault group (differing_told program t group first (r ∷ [])) (Some (record { place = place; fault = Differs }))
+    pub one_differs : (place : ℕ) → IsLeastPlace (differ_in a.marks.items b.marks.items) (Some place)
+        → IsLeastFault group (differing_told program t group first (r ∷ []))
+        (Some (record { place = place; fault = Differs }))
     one_differs place least =
         let mark : FaultyMark = record { place = place; fault = Differs } in
-        least_same group (λ i. answer_if (differ_in a.marks.items b.marks.items i) (reason.MarksDiffer group i)) (differing_told program t group first (r ∷ [])) (Some mark) differ_same
+        least_same group (λ i. answer_if (differ_in a.marks.items b.marks.items i) (reason.MarksDiffer group i))
+        (differing_told program t group first (r ∷ [])) (Some mark) differ_same
         (least_place group (differ_in a.marks.items b.marks.items) (λ i. reason.MarksDiffer group i) mark least refl)
 
 -- ---- ends
@@ -85,7 +94,8 @@ module _ (program : Program) (t : Told) (r : ℕ) (m : Member) (h : IsMemberOf p
   lesser_told : (count : ℕ) → count ≡ count_of t.report r → nat_lt m.done count ≡ nat_lt done_told (count_of t.report r)
   lesser_told count is = ap (λ n. nat_lt n count) h.done' ∙ ap (nat_lt done_told) is
 
-  pub is_fewer : (count number : ℕ) → count ≡ count_of t.report r → nat_lt m.done count ≡ true → number ≡ suc m.done → fewer_told program t r ≡ Some (reason_of (FewerOperations r number))
+  pub is_fewer : (count number : ℕ) → count ≡ count_of t.report r → nat_lt m.done count ≡ true → number ≡ suc m.done
+      → fewer_told program t r ≡ Some (reason_of (FewerOperations r number))
   is_fewer count number is low next =
       answers (nat_lt done_told (count_of t.report r)) (reason.FewerOperations r (suc done_told)) (sym (lesser_told count is) ∙ low)
       ∙ ap (λ n. Some (reason.FewerOperations r n)) (sym (next ∙ ap suc h.done'))

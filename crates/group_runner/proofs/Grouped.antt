@@ -61,17 +61,21 @@ module _ (program : Program) (t : Told) where
 
   beyond : (group : ℕ) (rids : List ℕ) (i : ℕ) → longest (map (marks_told program t) rids) ≤ i → fault_at group rids i ≡ None
   beyond group rids i le =
-      later (first_answer (λ r. bad_told program t r i) rids) (answer_if (not (all_alike (map (mark_at i) rids))) (MarksDiffer group i)) None (bad_beyond rids i le)
+      later (first_answer (λ r. bad_told program t r i) rids)
+      (answer_if (not (all_alike (map (mark_at i) rids))) (MarksDiffer group i)) None (bad_beyond rids i le)
       (silent (not (all_alike (map (mark_at i) rids))) (MarksDiffer group i) (ap not (alike_beyond rids i le)))
 
   -- ---- the group
 
-  faults_told : (group first : ℕ) (rids : List ℕ) (i : ℕ) → or_else (first_answer (λ r. bad_told program t r i) (first ∷ rids)) (differing_told program t group first rids i) ≡ fault_at group (first ∷ rids) i
+  faults_told : (group first : ℕ) (rids : List ℕ) (i : ℕ)
+      → or_else (first_answer (λ r. bad_told program t r i) (first ∷ rids))
+      (differing_told program t group first rids i) ≡ fault_at group (first ∷ rids) i
   faults_told group first rids i =
       ap (λ b. or_else (first_answer (λ r. bad_told program t r i) (first ∷ rids)) (answer_if (not b) (MarksDiffer group i)))
       (sym (list_all-map (same_mark (mark_at i first)) (mark_at i) rids))
 
-  pub group_told : (group first : ℕ) (rids : List ℕ) (found : Findings) → FindsAll program t group first rids found → fault_of program t group (first ∷ rids) ≡ reason_in group found
+  pub group_told : (group first : ℕ) (rids : List ℕ) (found : Findings) → FindsAll program t group first rids found
+      → fault_of program t group (first ∷ rids) ≡ reason_in group found
   unfolding group_fault
   group_told group first rids found h =
       let all = first ∷ rids in
@@ -88,23 +92,32 @@ module _ (program : Program) (t : Told) where
 
   pub first_told : (group first : ℕ) (found : Findings) → FindsAlone program t group first found → FindsAll program t group first [] found
   first_told group first found h =
-      finds_same group (bad_told program t first) nowhere (λ i. first_answer (λ r. bad_told program t r i) (first ∷ [])) (differing_told program t group first []) (fewer_told program t first)
+      finds_same group (bad_told program t first) nowhere
+      (λ i. first_answer (λ r. bad_told program t r i) (first ∷ [])) (differing_told program t group first [])
+      (fewer_told program t first)
       (unlike_told program t first) (first_answer (fewer_told program t) (first ∷ [])) (first_answer (unlike_told program t) (first ∷ [])) found
-      (λ i. sym (first_one (λ r. bad_told program t r i) first)) (λ i. sym (silent false (MarksDiffer group i) refl)) (sym (first_one (fewer_told program t) first))
+      (λ i. sym (first_one (λ r. bad_told program t r i) first)) (λ i. sym (silent false (MarksDiffer group i) refl))
+      (sym (first_one (fewer_told program t) first))
       (sym (first_one (unlike_told program t) first)) h
 
-  differs_more : (group first : ℕ) (rids : List ℕ) (r i : ℕ) → or_else (differing_told program t group first rids i) (differing_told program t group first (r ∷ []) i) ≡ differing_told program t group first (rids ++ r ∷ []) i
+  differs_more : (group first : ℕ) (rids : List ℕ) (r i : ℕ)
+      → or_else (differing_told program t group first rids i) (differing_told program t group first (r ∷ []) i)
+      ≡ differing_told program t group first (rids ++ r ∷ []) i
   differs_more group first rids r i =
       let p : ℕ → Bool = λ x. same_mark (mark_at i first) (mark_at i x) in
       unless_both (list_all p rids) (list_all p (r ∷ [])) (MarksDiffer group i)
       ∙ ap (λ b. answer_if (not b) (MarksDiffer group i)) (sym (list_all-append p rids (r ∷ [])))
 
-  pub more_told : (group first : ℕ) (rids : List ℕ) (r : ℕ) (x y : Findings) → FindsAll program t group first rids x → FindsBeside program t group first r y → FindsAll program t group first (rids ++ r ∷ []) (both x y)
+  pub more_told : (group first : ℕ) (rids : List ℕ) (r : ℕ) (x y : Findings) → FindsAll program t group first rids x
+      → FindsBeside program t group first r y → FindsAll program t group first (rids ++ r ∷ []) (both x y)
   more_told group first rids r x y h k =
       let all = first ∷ rids in
       finds_same group _ _ _ _ _ _ _ _ (both x y)
-      (λ i. sym (first_more (λ s. bad_told program t s i) all r)) (differs_more group first rids r) (sym (first_more (fewer_told program t) all r)) (sym (first_more (unlike_told program t) all r))
-      (finds_both group (λ i. first_answer (λ s. bad_told program t s i) all) (differing_told program t group first rids) (bad_told program t r) (differing_told program t group first (r ∷ []))
+      (λ i. sym (first_more (λ s. bad_told program t s i) all r)) (differs_more group first rids r)
+      (sym (first_more (fewer_told program t) all r)) (sym (first_more (unlike_told program t) all r))
+      (finds_both group (λ i. first_answer (λ s. bad_told program t s i) all)
+      (differing_told program t group first rids) (bad_told program t r)
+      (differing_told program t group first (r ∷ []))
       (first_answer (fewer_told program t) all) (first_answer (unlike_told program t) all) (fewer_told program t r) (unlike_told program t r) x y h k)
 
   -- ---- steps

@@ -50,10 +50,13 @@ answer_some false x y e = absurd (none_is_not e)
 
 -- the run is over
 pub not_wanted : (t : Told) (r n : ℕ) (step : MachineStep) (x : Response) (path : Path) → step ≡ Ends x path → answer_to t r n (told.ending_of step) ≡ None
-not_wanted t r n step x path is = silent (wants_as (told.ending_of step) (spot_of t.report r n)) (answer_at (objects_of t.start) (spot_of t.report r n)) (ap (λ s. wants_as (told.ending_of s) (spot_of t.report r n)) is)
+not_wanted t r n step x path is = silent (wants_as (told.ending_of step) (spot_of t.report r n))
+    (answer_at (objects_of t.start) (spot_of t.report r n))
+    (ap (λ s. wants_as (told.ending_of s) (spot_of t.report r n)) is)
 
 -- it waits for the answer that it gets
-pub waits_if_answered : (t : Told) (r n : ℕ) (step : MachineStep) (m : Machine) (d : Datum) → Some d ≡ answer_to t r n (told.ending_of step) → WaitsAfter step m → IsWaiting m
+pub waits_if_answered : (t : Told) (r n : ℕ) (step : MachineStep) (m : Machine) (d : Datum)
+    → Some d ≡ answer_to t r n (told.ending_of step) → WaitsAfter step m → IsWaiting m
 waits_if_answered t r n (Wants op) m d is waits = waits
 waits_if_answered t r n (Ends x path) m d is waits = absurd (none_is_not (sym (not_wanted t r n (Ends x path) x path refl) ∙ sym is))
 
@@ -73,7 +76,8 @@ module _ (program : Program) (t : Told) (r : ℕ) (request : Request) where
   good_told k = refl
 
   -- one more is answered
-  pub good_more : (k n : ℕ) (d : Datum) → AreGood k → n ≡ suc k → answer_to t r n (next k) ≡ Some d → AreGood (suc k) × (answers_to t r k ++ d ∷ [] ≡ answers_to t r (suc k))
+  pub good_more : (k n : ℕ) (d : Datum) → AreGood k → n ≡ suc k → answer_to t r n (next k) ≡ Some d
+      → AreGood (suc k) × (answers_to t r k ++ d ∷ [] ≡ answers_to t r (suc k))
   good_more k n d good number answered =
       let both = answer_some (wants_as (next k) (spot_of t.report r (suc k))) (answer_at (objects_of t.start) (spot_of t.report r (suc k))) d (ap (λ m. answer_to t r m (next k)) (sym number) ∙ answered) in (
         λ j lt. elim (cases_eq j k) [
@@ -84,12 +88,16 @@ module _ (program : Program) (t : Told) (r : ℕ) (request : Request) where
       )
 
   -- the next one isn't good
-  pub ends_at : (k n : ℕ) → AreGood k → k < count_of t.report r → n ≡ suc k → answer_to t r n (next k) ≡ None → k ≡ performed program (objects_of t.start) t.report r request
+  pub ends_at : (k n : ℕ) → AreGood k → k < count_of t.report r → n ≡ suc k → answer_to t r n (next k) ≡ None
+      → k ≡ performed program (objects_of t.start) t.report r request
   ends_at k n good low number answered =
       sym (stops_at (is_good program (objects_of t.start) t.report r request) 0 (count_of t.report r) k (λ j l u. good j u)
-      (good_told k ∙ answer_none (wants_as (next k) (spot_of t.report r (suc k))) (answer_at (objects_of t.start) (spot_of t.report r (suc k))) (ap (λ m. answer_to t r m (next k)) (sym number) ∙ answered))
+      (good_told k ∙ answer_none (wants_as (next k) (spot_of t.report r (suc k)))
+      (answer_at (objects_of t.start) (spot_of t.report r (suc k)))
+      (ap (λ m. answer_to t r m (next k)) (sym number) ∙ answered))
       (omega arith) (omega (arith, low)))
 
   -- all are good
   pub all_done : (n : ℕ) → AreGood n → n ≡ count_of t.report r → n ≡ performed program (objects_of t.start) t.report r request
-  all_done n good is = is ∙ sym (all_good (is_good program (objects_of t.start) t.report r request) 0 (count_of t.report r) (λ j l u. good j (omega (arith, u, is))) ∙ omega arith)
+  all_done n good is = is ∙ sym (all_good (is_good program (objects_of t.start) t.report r request) 0
+      (count_of t.report r) (λ j l u. good j (omega (arith, u, is))) ∙ omega arith)

@@ -5,6 +5,7 @@ use Rattle.log_checker.specs.OpMaps.{IsMapOf}
 use Rattle.group_runner.specs.Told.{Told, told_by}
 use Rattle.group_runner.specs.declared.evidence.Evidence.TheInside.{Inside}
 
+-- what the auditor is told, as the evidence of the code has it
 abbrev pub told_in : Inside → Told
 told_in a = told_by a.trace.now a.start.now a.report.now
 

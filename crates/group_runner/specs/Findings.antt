@@ -20,13 +20,16 @@ use Rattle.group_runner.specs.declared.findings.MarkFault.TheVariants.{OtherOper
 
 -- ---- as reasons, in the group of a number
 
+-- the reason of what is wrong with the group's marks at a place
 abbrev pub reason_by : ℕ → ℕ → MarkFault → Reason
 reason_by group place (OtherOperation rid operation) = reason.OtherOperation rid operation
 reason_by group place Differs = reason.MarksDiffer group place
 
+-- the reason that is told of a mark that is at fault
 abbrev pub reason_at : ℕ → FaultyMark → Reason
 reason_at group mark = reason_by group mark.place mark.fault
 
+-- the reason that is told of how a member ends
 abbrev pub reason_of : EndFault → Reason
 reason_of (FewerOperations rid operation) = reason.FewerOperations rid operation
 reason_of (OtherResponse rid) = reason.OtherResponse rid
@@ -39,6 +42,7 @@ lesser None right = right
 lesser (Some a) None = Some a
 lesser (Some a) (Some b) = if nat_le a.place b.place then Some a else Some b
 
+-- what is found wrong with members, where this is found with the first and that with the later ones
 abbrev pub both : Findings → Findings → Findings
 both first later = record {
   bad = lesser first.bad later.bad;
@@ -75,18 +79,23 @@ module _ (program : Program) (told : Told) where
   abbrev pub marks_told : ℕ → List MemberMark
   marks_told r = marks program (objects_of told.start) told.trace told.report r
 
+  -- its mark at a place is bad
   abbrev pub bad_told : ℕ → ℕ → Option Reason
   bad_told r i = if_bad program (objects_of told.start) told.trace told.report i r
 
+  -- it issued fewer operations than are counted
   abbrev pub fewer_told : ℕ → Option Reason
   fewer_told r = if_fewer program (objects_of told.start) told.trace told.report r
 
+  -- its response isn't the trace's
   abbrev pub unlike_told : ℕ → Option Reason
   unlike_told r = if_unlike program (objects_of told.start) told.trace told.report r
 
   -- the mark of one of these members at a place isn't like the first member's
   abbrev pub differing_told : ℕ → ℕ → List ℕ → ℕ → Option Reason
-  differing_told group first rids i = answer_if (not (list_all (λ r. same_mark (nth (marks_told first) i) (nth (marks_told r) i)) rids)) (reason.MarksDiffer group i)
+  differing_told group first rids i = answer_if
+      (not (list_all (λ r. same_mark (nth (marks_told first) i) (nth (marks_told r) i)) rids))
+      (reason.MarksDiffer group i)
 
   -- what is found of a member alone
   abbrev pub FindsAlone : ℕ → ℕ → Findings → Type 0

@@ -3,7 +3,7 @@ use Rattle.std.specs.Prelude.{◌≡◌, ℕ, List, [], ◌∷◌, ◌++◌, Opt
 use Rattle.script_tree.specs.Datum.{Datum}
 use Rattle.script_tree.specs.Programs.{Program}
 use Rattle.script_tree.specs.Requests.{Request}
-use Rattle.script_tree.specs.Traces.{response_of}
+use Rattle.period.specs.Traces.{response_of}
 use Rattle.object_set.specs.ObjectSets.{objects_of}
 use Rattle.script_meaning.specs.Conduct.{conduct}
 use Rattle.machine.specs.Follows.{Follows}

@@ -5,10 +5,10 @@ use Rattle.script_tree.specs.Alike.{same_response}
 use Rattle.script_tree.specs.Datum.{Datum}
 use Rattle.script_tree.specs.Programs.{Program}
 use Rattle.script_tree.specs.declared.request.Response.{Response}
-use Rattle.script_tree.specs.declared.trace.TraceEvent.{TraceEvent}
-use Rattle.script_tree.specs.contracts.trace.TraceEvent as event_row
-use Rattle.report.specs.declared.Report.{Report}
-use Rattle.report.specs.contracts.Report as report_row
+use Rattle.period.specs.declared.trace.TraceEvent.{TraceEvent}
+use Rattle.period.specs.contracts.trace.TraceEvent as event_row
+use Rattle.period.specs.declared.report.Report.{Report}
+use Rattle.period.specs.contracts.report.Report as report_row
 use Rattle.script_meaning.specs.Conduct.{Ending}
 use Rattle.object_set.specs.ObjectSets.{HeldObjects, objects_of, coded_objects}
 use Rattle.audit_meaning.specs.Groups.{group_fault, unsound_group, end_of, steps_to, steps_of_all}
@@ -24,6 +24,7 @@ pub record Told : Type 0 where
   pub start : HeldObjects
   pub report : Report
 
+-- what an auditor is told by these
 abbrev pub told_by : List TraceEvent → HeldObjects → Report → Told
 told_by trace start report = record { trace = trace; start = start; report = report }
 
@@ -54,6 +55,7 @@ fault_of program told group rids = group_fault program (objects_of told.start) t
 abbrev pub spent_by : Program → Told → ℕ → ℕ
 spent_by program told r = steps_to (end_of program (objects_of told.start) told.trace told.report r)
 
+-- the steps that these members spend
 abbrev pub steps_of : Program → Told → List ℕ → ℕ
 steps_of program told rids = steps_of_all program (objects_of told.start) told.trace told.report rids
 

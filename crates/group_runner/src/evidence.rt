@@ -9,7 +9,8 @@ ghost use Rattle.group_runner.specs.Told.{told_by, answer_to};
 
 use log_checker::OpMap;
 use object_set::ObjectSet;
-use report::{Group, Log, LogEntry, Report};
+use period::group::Group;
+use period::report::{Log, LogEntry, Report};
 use script_tree::operation::Op;
 use script_tree::value::Value;
 use std::alloc::{AllocError, Global};

@@ -1,8 +1,8 @@
 ghost use Rattle.std.specs.Prelude.{◌≡◌, ◌+◌, IfOk};
 ghost use Rattle.script_tree.specs.Programs.{Program as AnyProgram};
 ghost use Rattle.script_code.specs.Translated.{IsCodeOf};
-ghost use Rattle.log_checker.specs.Faults.{Gives};
-ghost use Rattle.report.specs.Groups.{IsSome};
+ghost use Rattle.log_checker.specs.Faults.{IsFaultOr};
+ghost use Rattle.period.specs.Groups.{IsSome};
 ghost use Rattle.group_runner.specs.MembersTold.{IsGroupRunOf};
 ghost use Rattle.group_runner.specs.Told.{fault_of, steps_of};
 
@@ -57,7 +57,7 @@ pub fn run_one_by_one(
 ) -> Result<u64, OrMemory<Reason>>
     requires { IsSome rids.now }
     ensures { (program : AnyProgram) → IsCodeOf program code.now
-        → Gives (fault_of program evidence.now number rids.now)
+        → IsFaultOr (fault_of program evidence.now number rids.now)
         (λ steps. steps ≡ steps_of program evidence.now rids.now) result }
 {
     let Some((first_rid, others)) = rids.split_first() else {

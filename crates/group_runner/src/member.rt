@@ -1,6 +1,6 @@
 ghost use Rattle.std.specs.Prelude.{◌≡◌, ◌∷◌, [], suc, ℕ, None, option_map, IfOk};
 ghost use Rattle.script_tree.specs.Programs.{Program as AnyProgram};
-ghost use Rattle.script_tree.specs.Traces.{request_of};
+ghost use Rattle.period.specs.Traces.{request_of};
 ghost use Rattle.audit_meaning.specs.Spots.{count_of};
 ghost use Rattle.group_runner.specs.Told.{Told as AnyTold};
 ghost use Rattle.group_runner.specs.Findings.{FindsAlone, FindsBeside, IsLeastFault, reason_of};

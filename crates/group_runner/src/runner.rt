@@ -2,7 +2,7 @@ ghost use Rattle.std.specs.Prelude.{◌≡◌, ℕ, List, Some, None, is_some, I
 ghost use Rattle.script_tree.specs.Datum.{Datum};
 ghost use Rattle.script_tree.specs.Programs.{Program as AnyProgram};
 ghost use Rattle.script_tree.specs.Requests.{Request as AnyRequest};
-ghost use Rattle.script_tree.specs.Traces.{response_of};
+ghost use Rattle.period.specs.Traces.{response_of};
 ghost use Rattle.script_code.specs.Translated.{IsCodeOf};
 ghost use Rattle.audit_meaning.specs.Groups.{gives, steps_to};
 ghost use Rattle.audit_meaning.specs.Members.{fault_in, last_sign, page_number};

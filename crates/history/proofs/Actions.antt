@@ -36,7 +36,8 @@ use Rattle.history.specs.declared.event.Reply.TheVariants.{Acted}
 inner : (u v : Visit) → Some v ≡ Some u → u ≡ v
 inner u v e = cc
 
-pub wanted_fits : (program : Program) (h : HeldObjects) (v : Visit) (op : Op) → IsSetOf program h → IsValid program.declarations → IsRequestWithinLimits v.request → WantsNext program (Some v) op → FitsSet h op
+pub wanted_fits : (program : Program) (h : HeldObjects) (v : Visit) (op : Op) → IsSetOf program h → IsValid program
+    → IsRequestWithinLimits v.request → WantsNext program (Some v) op → FitsSet h op
 unfolding ending_of
 wanted_fits program h v op of valid short (u, same, wants) =
     fits_set program h op.object op.act of
@@ -117,8 +118,11 @@ acts old new seat op offer rid number choice answer v of_id of_number may here f
       replied = ap (λ r. Acted r number choice answer) (of_id ∙ ap rid_at (sym here))
           ∙ ap (λ n. Acted (rid_at (at_seat old.visits seat)) n choice answer) (of_number ∙ ap number_at (sym here))
           ∙ ap (λ c. Acted (rid_at (at_seat old.visits seat)) (number_at (at_seat old.visits seat)) c answer) so
-          ∙ ap (λ d. Acted (rid_at (at_seat old.visits seat)) (number_at (at_seat old.visits seat)) (choice_of op.act offer (objects_of old.objects op.object)) d) does_so.answered;
-      left = room_is (λ i o. does_so.left o i) arrived (visits ∙ ap (λ w. seated seat w (at_seat old.visits)) (sym kept ∙ ap (λ d. and_answer (at_seat old.visits seat) d) does_so.answered));
+          ∙ ap (λ d. Acted (rid_at (at_seat old.visits seat)) (number_at (at_seat old.visits seat))
+          (choice_of op.act offer (objects_of old.objects op.object)) d) does_so.answered;
+      left = room_is (λ i o. does_so.left o i) arrived
+          (visits ∙ ap (λ w. seated seat w (at_seat old.visits))
+          (sym kept ∙ ap (λ d. and_answer (at_seat old.visits seat) d) does_so.answered));
       program = program;
     }
 

@@ -4,7 +4,7 @@ use Rattle.std.specs.Prelude.{option_map}
 use Rattle.script_tree.specs.Datum.{Datum}
 use Rattle.script_tree.specs.Objects.{acted}
 use Rattle.script_tree.specs.Programs.{Program}
-use Rattle.script_tree.specs.declared.trace.TraceEvent.TheVariants.{Asked}
+use Rattle.period.specs.declared.trace.TraceEvent.TheVariants.{Asked}
 use Rattle.history.specs.Balanced.{TracesAreBalanced}
 use Rattle.history.specs.Names.{names}
 use Rattle.history.specs.Rooms.{Room, AreSteps, and_answer, empty_room, onward, room_after}
@@ -33,7 +33,8 @@ follows program room (Arrive seat rid request ∷ rest) (((free, short), named),
     let after = onward room (Arrive seat rid request) in
     subst (λ r. Follows room.arrived (ids_in room) (Asked r request.value ∷ trace_in (names rest))) (sym named)
     (came_follows room.arrived (ids_in room) seat (ap (option_map rid_of) free) request.value (trace_in (names rest))
-    (subst (λ ids. Follows (suc room.arrived) ids (trace_in (names rest))) (sym (mapped_seated rid_of seat (Some (visit_of room.arrived request.value [])) room.open_at))
+    (subst (λ ids. Follows (suc room.arrived) ids (trace_in (names rest)))
+    (sym (mapped_seated rid_of seat (Some (visit_of room.arrived request.value [])) room.open_at))
     (follows program after rest steps closed)))
 follows program room (Act seat rid number op choice ∷ rest) (wants, steps) closed =
     let after = onward room (Act seat rid number op choice) in
@@ -44,7 +45,9 @@ follows program room (Act seat rid number op choice ∷ rest) (wants, steps) clo
     subst (λ ids. Follows room.arrived ids (trace_in (names rest))) (sym same) (follows program after rest steps closed)
 follows program room (Depart seat rid response path ∷ rest) (((v, here, ends), named), steps) closed =
     let after = onward room (Depart seat rid response path) in
-    went_follows room.arrived (ids_in room) seat rid (ap (option_map rid_of) here ∙ ap (λ w. Some (rid_at w)) (sym here) ∙ ap (λ r. Some r) (sym named)) response (trace_in (names rest))
+    went_follows room.arrived (ids_in room) seat rid
+    (ap (option_map rid_of) here ∙ ap (λ w. Some (rid_at w)) (sym here) ∙ ap (λ r. Some r) (sym named)) response
+    (trace_in (names rest))
     (subst (λ ids. Follows room.arrived ids (trace_in (names rest))) (sym (mapped_seated rid_of seat None room.open_at))
     (follows program after rest steps closed))
 

@@ -13,22 +13,25 @@ use Rattle.history.specs.declared.happening.Happening.{Happening}
 use Rattle.history.specs.declared.happening.Happening.TheVariants as did
 
 -- The reply tells what happened.
-told : (room : Room) (seat : ℕ) (event : Event) (reply : Reply) → reply ≡ reply_to room (happening_at room seat event) → happening_by seat event reply ≡ happening_at room seat event
-told room seat (Arrive request) reply is = ap (λ r. did.Arrive seat (rid_in r) request) is
-told room seat (Act op offer) reply is = ap (λ r. did.Act seat (rid_in r) (number_in r) op (choice_in r)) is
-told room seat (Depart response path) reply is = ap (λ r. did.Depart seat (rid_in r) response path) is
+pub reply_tells : (room : Room) (seat : ℕ) (event : Event) (reply : Reply)
+    → reply ≡ reply_to room (happening_at room seat event)
+    → happening_by seat event reply ≡ happening_at room seat event
+reply_tells room seat (Arrive request) reply is = ap (λ r. did.Arrive seat (rid_in r) request) is
+reply_tells room seat (Act op offer) reply is = ap (λ r. did.Act seat (rid_in r) (number_in r) op (choice_in r)) is
+reply_tells room seat (Depart response path) reply is = ap (λ r. did.Depart seat (rid_in r) response path) is
 
 recorded : (old new : Recorded) (calls : List (Call Event Reply)) → Runs Takes old calls new → IsRecorded old calls new
 recorded old new [] runs = record { legal = tt; left = ap room_of (sym runs) }
 recorded old new (call ∷ calls) (middle, step, runs) =
     let h = happening_in call in
-    let is : happening_in call ≡ happening_at (room_of old) call.seat call.event = told (room_of old) call.seat call.event call.reply step.replied in
+    let is : happening_in call ≡ happening_at (room_of old) call.seat call.event = reply_tells (room_of old) call.seat call.event call.reply step.replied in
     let rest = recorded middle new calls runs in
     let next : room_of middle ≡ onward (room_of old) h = step.left ∙ ap (onward (room_of old)) (sym is) in
     record {
       legal = (
         subst (IsStep old.program (room_of old)) (sym is) step.allowed,
-        subst (λ p. AreSteps p (onward (room_of old) h) (history_of calls)) step.program (subst (λ room. AreSteps middle.program room (history_of calls)) next rest.legal),
+        subst (λ p. AreSteps p (onward (room_of old) h) (history_of calls)) step.program
+            (subst (λ room. AreSteps middle.program room (history_of calls)) next rest.legal),
       );
       left = rest.left ∙ ap (λ room. room_after room (history_of calls)) next;
     }

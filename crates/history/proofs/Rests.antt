@@ -3,10 +3,10 @@ use Rattle.std.proofs.Common.{◌≡◌, ◌≢◌, ℕ, zero, suc, ◌<◌, ◌
 use Rattle.std.proofs.lemmas.Bool.{cases_eq}
 use Rattle.basis.specs.Lists.{nth}
 use Rattle.script_tree.specs.Requests.{Request}
-use Rattle.script_tree.specs.Traces.{IsBalanced}
+use Rattle.period.specs.Traces.{IsBalanced}
 use Rattle.script_tree.specs.declared.request.Response.{Response}
-use Rattle.script_tree.specs.declared.trace.TraceEvent.{TraceEvent}
-use Rattle.script_tree.specs.declared.trace.TraceEvent.TheVariants.{Asked, Answered}
+use Rattle.period.specs.declared.trace.TraceEvent.{TraceEvent}
+use Rattle.period.specs.declared.trace.TraceEvent.TheVariants.{Asked, Answered}
 use Rattle.history.specs.Seats.{seated}
 use Rattle.history.proofs.Seated.{here_seated, there_seated, what_is_seated}
 
@@ -93,7 +93,8 @@ module _ (arrived : ℕ) (ids : ℕ → Option ℕ) (seat : ℕ) (free : ids sea
           old : (x : ℕ) → Some arrived ≡ Some r → ids x ≡ Some r → a ≡ b
           old x new is = let same : arrived ≡ r = cc new in absurd (omega (arith, same, distinct.below x r is))
 
-          by : ((seat ≡ a) × (Some arrived ≡ Some r)) ⊎ ((seat ≢ a) × (ids a ≡ Some r)) → ((seat ≡ b) × (Some arrived ≡ Some r)) ⊎ ((seat ≢ b) × (ids b ≡ Some r)) → a ≡ b
+          by : ((seat ≡ a) × (Some arrived ≡ Some r)) ⊎ ((seat ≢ a) × (ids a ≡ Some r))
+              → ((seat ≡ b) × (Some arrived ≡ Some r)) ⊎ ((seat ≢ b) × (ids b ≡ Some r)) → a ≡ b
           by (inl (at_a, new)) (inl (at_b, new_too)) = sym at_a ∙ at_b
           by (inl (at_a, new)) (inr (ne, is)) = old b new is
           by (inr (ne, is)) (inl (at_b, new)) = old a new is
@@ -150,7 +151,8 @@ module _ (arrived : ℕ) (ids : ℕ → Option ℕ) (seat : ℕ) (free : ids sea
       was_open = came_was_open;
     }
 
-  pub came_follows : (q : Request) (trace : List TraceEvent) → Follows (suc arrived) (seated seat (Some arrived) ids) trace → Follows arrived ids (Asked arrived q ∷ trace)
+  pub came_follows : (q : Request) (trace : List TraceEvent)
+      → Follows (suc arrived) (seated seat (Some arrived) ids) trace → Follows arrived ids (Asked arrived q ∷ trace)
   came_follows q trace follows distinct = came_rest q trace (follows (came_distinct distinct))
 
 -- ---- a departure

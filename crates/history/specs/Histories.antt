@@ -32,14 +32,17 @@ choice_in (Arrived rid) = Nothing
 choice_in (Acted rid number choice answer) = choice
 choice_in (Departed rid) = Nothing
 
+-- what happens by the event of a seat, as its reply tells
 abbrev pub happening_by : ℕ → Event → Reply → Happening
 happening_by seat (asks.Arrive request) reply = Arrive seat (rid_in reply) request
 happening_by seat (asks.Act op offer) reply = Act seat (rid_in reply) (number_in reply) op (choice_in reply)
 happening_by seat (asks.Depart response path) reply = Depart seat (rid_in reply) response path
 
+-- what happens by a call
 abbrev pub happening_in : Call Event Reply → Happening
 happening_in call = happening_by call.seat call.event call.reply
 
+-- what happens by the calls, one after the other
 abbrev pub history_of : List (Call Event Reply) → List Happening
 history_of calls = map happening_in calls
 
@@ -48,6 +51,7 @@ pub record IsRecorded (old : Recorded) (calls : List (Call Event Reply)) (new : 
   pub legal : AreSteps old.program (room_of old) (history_of calls)
   pub left : room_of new ≡ room_after (room_of old) (history_of calls)
 
+-- Law: the calls of a recorder are a legal history.
 pub record RunsAreLegal : Type 0 where
   pub steps : (old new : Recorded) (calls : List (Call Event Reply)) → Runs Takes old calls new → IsRecorded old calls new
   -- from a start on, at which no request has arrived

@@ -20,6 +20,7 @@ use Rattle.history.specs.declared.event.Reply.TheVariants.{Arrived, Acted, Depar
 use Rattle.history.specs.declared.happening.Happening.{Happening}
 use Rattle.history.specs.declared.happening.Happening.TheVariants.{Arrive, Act as Acts, Depart}
 
+-- What a recorder keeps: its program, what the objects hold, how many requests have arrived, and the open ones.
 pub record Recorded : Type 0 where
   pub program : Program
   pub objects : HeldObjects
@@ -27,9 +28,11 @@ pub record Recorded : Type 0 where
   -- the open requests, by seat
   pub visits : List (Option Visit)
 
+-- a recorder that keeps these
 abbrev pub recorded : Program → HeldObjects → ℕ → List (Option Visit) → Recorded
 recorded program objects arrived visits = record { program = program; objects = objects; arrived = arrived; visits = visits }
 
+-- the room that a recorder keeps
 abbrev pub room_of : Recorded → Room
 room_of r = record { objects = objects_of r.objects; arrived = r.arrived; open_at = at_seat r.visits }
 
@@ -53,6 +56,7 @@ IsOffer (Transact ss) offer = offer ≡ None
 IsOffer Now offer = (n : ℤ) × (offer ≡ Some n)
 IsOffer (Roll bound) offer = (n : ℤ) × (offer ≡ Some n) × (is_roll bound (Number n) none ≡ true)
 
+-- the greater of two numbers
 abbrev pub greater : ℤ → ℤ → ℤ
 greater m n = if int_le m n then n else m
 
@@ -86,6 +90,7 @@ MayFollow program here (asks.Arrive request) = here ≡ None
 MayFollow program here (asks.Act op offer) = WantsNext program here op × IsOffer op.act offer
 MayFollow program here (asks.Depart response path) = EndsWith program here response path
 
+-- this event may come from a seat of the recorder
 abbrev pub MayCome : Recorded → ℕ → Event → Type 0
 MayCome r seat event = MayFollow r.program (at_seat r.visits seat) event
 

@@ -54,10 +54,12 @@ IsStep program room h = MayHappen program room h × IsOfOpen room h
 
 -- ---- what a step leaves
 
+-- the open request with one answer more
 abbrev pub and_answer : Option Visit → Datum → Option Visit
 and_answer None d = None
 and_answer (Some v) d = Some (record v { answers = v.answers ++ d ∷ [] })
 
+-- the room that a step leaves
 abbrev pub onward : Room → Happening → Room
 onward room (Arrive seat rid request) = record room {
   arrived = suc room.arrived;
@@ -69,12 +71,14 @@ onward room (Act seat rid number op choice) = record room {
 }
 onward room (Depart seat rid response path) = record room { open_at = seated seat None room.open_at }
 
+-- the room after these steps
 abbrev pub room_after : Room → List Happening → Room
 room_after room [] = room
 room_after room (h ∷ hs) = room_after (onward room h) hs
 
 -- ---- histories
 
+-- each is a step that the program allows, in the room that those before it leave
 abbrev pub AreSteps : Program → Room → List Happening → Type 0
 AreSteps program room [] = Unit {0}
 AreSteps program room (h ∷ hs) = IsStep program room h × AreSteps program (onward room h) hs

@@ -24,7 +24,8 @@ use std::sync::Arc;
 use trace_format::packed::PackedRequest;
 
 /// What a recorder keeps between events: the objects, and of each seat the request that is open
-/// there. Its program is not run here; it is what says which events may come.
+/// there. Its program is not run here; it is what says which events may come. Ids of requests and
+/// numbers of operations have 32 bits: an event that would need more is answered as want of memory.
 #[derive(Drop)]
 pub struct Recording {
     alloc: Global,
@@ -159,6 +160,7 @@ fn one_more(count: u32) -> Result<u32, AllocError>
 }
 
 /// Does an operation that fits, with a choice that its object takes, and gives the answer three times.
+#[tactic(auto, using(object_set::proofs::Sets::fits_op))]
 fn thrice(
     objects: &mut ObjectSet,
     op: &Op,

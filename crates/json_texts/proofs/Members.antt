@@ -45,14 +45,16 @@ other_members name (json.member k d (json.member l e ms)) h = refl
 -- ---- digits
 
 -- the bytes so far, that of the next pair, and those of the digits behind it
-pub next_pair : (rest past pushed : List ℕ) (byte n : ℕ) → 2 ≤ length rest → n ≡ length rest - 2 → hex_byte (slice_index rest 0) (slice_index rest 1) ≡ Some byte → pushed ≡ past ++ byte ∷ []
+pub next_pair : (rest past pushed : List ℕ) (byte n : ℕ) → 2 ≤ length rest → n ≡ length rest - 2
+    → hex_byte (slice_index rest 0) (slice_index rest 1) ≡ Some byte → pushed ≡ past ++ byte ∷ []
     → option_map (λ more. past ++ more) (hex_bytes rest) ≡ option_map (λ more. pushed ++ more) (hex_bytes (take n (drop 2 rest)))
 next_pair [] past pushed byte n two is spelled more = absurd (omega arith)
 next_pair (b ∷ []) past pushed byte n two is spelled more = absurd (omega arith)
 next_pair (b ∷ c ∷ rest) past pushed byte n two is spelled more =
     let all : take n rest ≡ rest = take_all n rest (omega arith) in
     rw (all, more, spelled) (moved (hex_bytes rest)) where
-      moved : (found : Option (List ℕ)) → option_map (λ more. past ++ more) (found >>= (λ more. Some (byte ∷ more))) ≡ option_map (λ more. (past ++ byte ∷ []) ++ more) found
+      moved : (found : Option (List ℕ)) → option_map (λ more. past ++ more) (found >>= (λ more. Some (byte ∷ more)))
+          ≡ option_map (λ more. (past ++ byte ∷ []) ++ more) found
       moved None = refl
       moved (Some bytes) = ap Some (sym (append_assoc past (byte ∷ []) bytes))
 
@@ -70,7 +72,9 @@ pub next_member : {A : Type 0} (read : json.Data → Option A) (past pushed : Li
     → read (view v) ≡ Some found → pushed ≡ past ++ (string_bytes k, found) ∷ []
     → option_map (λ more. past ++ more) (each_of read (members_view ((k, v) ∷ es))) ≡ option_map (λ more. pushed ++ more) (each_of read (members_view es))
 next_member {A} read past pushed k v found es is more = rw (is, more) (moved (each_of read (members_view es))) where
-  moved : (rest : Option (List (Named A))) → option_map (λ more. past ++ more) (rest >>= (λ more. Some ((string_bytes k, found) ∷ more))) ≡ option_map (λ more. (past ++ (string_bytes k, found) ∷ []) ++ more) rest
+  moved : (rest : Option (List (Named A)))
+      → option_map (λ more. past ++ more) (rest >>= (λ more. Some ((string_bytes k, found) ∷ more)))
+      ≡ option_map (λ more. (past ++ (string_bytes k, found) ∷ []) ++ more) rest
   moved None = refl
   moved (Some xs) = ap Some (sym (append_assoc past ((string_bytes k, found) ∷ []) xs))
 
@@ -90,7 +94,8 @@ abbrev names : List JsonEntry → List (List ℕ)
 names [] = []
 names (e ∷ es) = string_bytes e.0 ∷ names es
 
-none_in : (k : String Global) (es : List JsonEntry) → AllByRecursion (λ y. string_cmp k y ≡ Less) (keys_of es) → list_any (bytes_eq (string_bytes k)) (names es) ≡ false
+none_in : (k : String Global) (es : List JsonEntry) → AllByRecursion (λ y. string_cmp k y ≡ Less) (keys_of es)
+    → list_any (bytes_eq (string_bytes k)) (names es) ≡ false
 none_in k [] h = refl
 none_in k (e ∷ es) h = rw (sym (is_eq-slice_cmp (string_bytes k) (string_bytes e.0)) ∙ ap is_eq h.0) (none_in k es h.1)
 
@@ -99,7 +104,8 @@ unfolding IsStrictlySortedBy
 names_once [] h = refl
 names_once (e ∷ es) h = rw (none_in e.0 es h.0) (names_once es h.1)
 
-same_names : {A : Type 0} (read : json.Data → Option A) (es : List JsonEntry) (xs : List (Named A)) → each_of read (members_view es) ≡ Some xs → keys_of xs ≡ names es
+same_names : {A : Type 0} (read : json.Data → Option A) (es : List JsonEntry) (xs : List (Named A))
+    → each_of read (members_view es) ≡ Some xs → keys_of xs ≡ names es
 same_names read [] xs h = rw (← some_is h) refl
 same_names read (e ∷ es) xs h =
     let first = bind_some (read (view e.1)) _ xs h in
@@ -107,13 +113,18 @@ same_names read (e ∷ es) xs h =
     rw (← some_is rest.2) (ap (λ ks. string_bytes e.0 ∷ ks) (same_names read es rest.0 rest.1))
 
 -- an object has each name once
-pub members_once : {A : Type 0} (read : json.Data → Option A) (es : List JsonEntry) (xs : List (Named A)) → IsStrictlySortedBy string_cmp (keys_of es) → Some xs ≡ each_of read (members_view es) → has_twice (keys_of xs) ≡ false
+pub members_once : {A : Type 0} (read : json.Data → Option A) (es : List JsonEntry) (xs : List (Named A))
+    → IsStrictlySortedBy string_cmp (keys_of es) → Some xs ≡ each_of read (members_view es)
+    → has_twice (keys_of xs) ≡ false
 members_once read es xs ordered h = ap has_twice (same_names read es xs (sym h)) ∙ names_once es ordered
 
 -- ---- members that are taken out
 
-pub taken_out : (bs cs : List ℕ) (m n : BTreeMap (String Global) Value) → UpdatesBy string_cmp (λ k. slice_cmp nat_cmp bs (string_bytes k)) m n None → bytes_eq bs cs ≡ false → get_by_text n cs ≡ get_by_text m cs
+pub taken_out : (bs cs : List ℕ) (m n : BTreeMap (String Global) Value)
+    → UpdatesBy string_cmp (λ k. slice_cmp nat_cmp bs (string_bytes k)) m n None → bytes_eq bs cs ≡ false
+    → get_by_text n cs ≡ get_by_text m cs
 taken_out bs cs m n updates other = btree_map_updates_text bs m n None updates cs ∙ ap (λ b. cond b None (get_by_text m cs)) other
 
-pub found_in : (name : List ℕ) (m : BTreeMap (String Global) Value) (o : Option Value) → o ≡ get_by_text m name → option_map view o ≡ get_member name (members_view m.entries)
+pub found_in : (name : List ℕ) (m : BTreeMap (String Global) Value) (o : Option Value) → o ≡ get_by_text m name
+    → option_map view o ≡ get_member name (members_view m.entries)
 found_in name m o h = ap (option_map view) h ∙ view-lookup name m.entries

@@ -12,8 +12,8 @@ abbrev pub IsNoJson : List ℕ → Type 0
 IsNoJson bytes = (d : json.Data) → IsJson bytes d → ⊥
 
 -- The bytes are a JSON text of the right shape, which gives this.
-abbrev pub Gives : {A : Type 0} → (json.Data → Option A) → List ℕ → A → Type 0
-Gives shape bytes given = (d : json.Data) × IsJson bytes d × (shape d ≡ Some given)
+abbrev pub IsJsonOf : {A : Type 0} → (json.Data → Option A) → List ℕ → A → Type 0
+IsJsonOf shape bytes given = (d : json.Data) × IsJson bytes d × (shape d ≡ Some given)
 
 -- The bytes are a JSON text of another shape.
 abbrev pub HasOtherShape : {A : Type 0} → (json.Data → Option A) → List ℕ → Type 0

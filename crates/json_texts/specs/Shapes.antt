@@ -21,9 +21,11 @@ all_of read (json.item d items) = do
   rest ← all_of read items
   Some (first ∷ rest)
 
+-- what the items of an array give
 abbrev pub array_of : {A : Type 0} → (json.Data → Option A) → json.Data → Option (List A)
 array_of read d = as_array d >>= all_of read
 
+-- both items, where there are two
 abbrev pub pair_in : json.Items → Option (json.Data × json.Data)
 pair_in json.no_items = None
 pair_in (json.item first json.no_items) = None
@@ -48,6 +50,7 @@ each_of read (json.member name d ms) = do
   rest ← each_of read ms
   Some ((name, first) ∷ rest)
 
+-- what the members of an object give, with their names
 abbrev pub object_of : {A : Type 0} → (json.Data → Option A) → json.Data → Option (List (Named A))
 object_of read d = as_object d >>= each_of read
 

@@ -11,6 +11,7 @@ hex_digit b =
     if nat_le 48 b && nat_le b 57 then Some (b - 48)
     else (if nat_le 97 b && nat_le b 102 then Some (b - 87) else None)
 
+-- the byte that two digits stand for
 abbrev pub hex_byte : ℕ → ℕ → Option ℕ
 hex_byte b c = do
   high ← hex_digit b

@@ -2,8 +2,8 @@
 
 use crate::programs::program;
 use page_walker::{Walker, WalkerStep};
+use script_check::lookup::Index;
 use script_check::program::Program;
-use script_index::Index;
 use script_tree::operation::{Act, Object, Op};
 use script_tree::path::{End, Path};
 use script_tree::request::{Parameters, Request};

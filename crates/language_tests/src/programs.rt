@@ -1,9 +1,9 @@
-//! `script_check` and `script_index`: what a small program declares, and a fault of one.
+//! `script_check`: what a small program declares, and a fault of one.
 
 use basis::OrMemory;
 use script_check::fault::{CheckFault, CheckFaultKind};
+use script_check::lookup::Index;
 use script_check::program::{Program, check};
-use script_index::Index;
 use script_syntax::parse::parse;
 use std::alloc::Global;
 
@@ -19,7 +19,7 @@ fn has_a_page(program: Program) -> bool {
     let counts = program.counts();
     (counts.pages, counts.functions, counts.stores, counts.tables) == (1, 0, 0, 0)
         && program.declarations().len() == 1
-        && program.into_tree().len() == 1
+        && program.into_tree().declarations.len() == 1
 }
 
 #[test]

@@ -7,12 +7,12 @@ use Rattle.basis.specs.declared.or_memory.OrMemory.{OrMemory}
 use Rattle.basis.specs.declared.or_memory.OrMemory.TheVariants.{Memory, Other}
 use Rattle.script_tree.specs.Objects.{Objects}
 use Rattle.script_tree.specs.Programs.{Program}
-use Rattle.script_tree.specs.declared.trace.TraceEvent.{TraceEvent}
+use Rattle.period.specs.declared.trace.TraceEvent.{TraceEvent}
 use Rattle.std.proofs.Common.{List}
-use Rattle.report.specs.declared.Report.{Report}
+use Rattle.period.specs.declared.report.Report.{Report}
 use Rattle.audit_meaning.specs.LogFaults.{second_log, second_count, count_of_no_request, request_without_count, faulty_entry, operation_without_entry, log_fault}
 use Rattle.audit_meaning.specs.declared.reason.Reason.{Reason}
-use Rattle.log_checker.specs.Faults.{GivesNothing}
+use Rattle.log_checker.specs.Faults.{IsFaultIfAny}
 
 pub carried : {B : Type 0} (err : Reason → Type 0) (ok' : B → Type 0) (err' : Reason → Type 0) (d : OrMemory Reason) (r : Result B (OrMemory Reason))
     → IsErrAnd r (λ e. e ≡ d)
@@ -42,7 +42,7 @@ unfolding log_fault
 in_order program start trace report o h = h
 
 -- what a call gives is handed on whole
-pub handed : {B : Type 0} (f g : Option Reason) (r : Result B (OrMemory Reason)) → GivesNothing f r → ((o : Option Reason) → f ≡ o → g ≡ o) → GivesNothing g r
+pub handed : {B : Type 0} (f g : Option Reason) (r : Result B (OrMemory Reason)) → IsFaultIfAny f r → ((o : Option Reason) → f ≡ o → g ≡ o) → IsFaultIfAny g r
 handed f g (Ok x) h k = k None h
 handed f g (Err Memory) h k = tt
 handed f g (Err (Other e)) h k = k (Some e) h

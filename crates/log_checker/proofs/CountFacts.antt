@@ -4,11 +4,11 @@ use Rattle.std.specs.Prelude.{is_some, is_none}
 use Rattle.std.specs.List.{list_any}
 use Rattle.basis.specs.Lists.{nth, first_answer}
 use Rattle.script_tree.specs.Requests.{Request}
-use Rattle.script_tree.specs.Traces.{request_of}
-use Rattle.script_tree.specs.declared.trace.TraceEvent.TheVariants.{Asked}
-use Rattle.script_tree.specs.declared.trace.TraceEvent.{TraceEvent}
-use Rattle.report.specs.declared.Count.{Count}
-use Rattle.report.specs.declared.Report.{Report}
+use Rattle.period.specs.Traces.{request_of}
+use Rattle.period.specs.declared.trace.TraceEvent.TheVariants.{Asked}
+use Rattle.period.specs.declared.trace.TraceEvent.{TraceEvent}
+use Rattle.period.specs.declared.report.Count.{Count}
+use Rattle.period.specs.declared.report.Report.{Report}
 use Rattle.audit_meaning.specs.Lists.{befores, befores_from, answer_if}
 use Rattle.audit_meaning.specs.LogFaults.{second_count, count_of_no_request, request_without_count, if_without_count}
 use Rattle.audit_meaning.specs.Spots.{operations_in}

@@ -13,17 +13,17 @@ use Rattle.script_tree.specs.Programs.{Program}
 use Rattle.script_tree.specs.Requests.{Request}
 use Rattle.script_tree.specs.declared.operation.Object.{Object}
 use Rattle.script_tree.specs.declared.operation.Object.TheVariants.{Register, Store, Tables, Clock, Dice}
-use Rattle.script_tree.specs.declared.trace.TraceEvent.{TraceEvent}
-use Rattle.script_tree.specs.declared.trace.TraceEvent.TheVariants.{Asked}
+use Rattle.period.specs.declared.trace.TraceEvent.{TraceEvent}
+use Rattle.period.specs.declared.trace.TraceEvent.TheVariants.{Asked}
 use Rattle.object_set.specs.ObjectSets.{HeldObjects, objects_of}
-use Rattle.report.specs.declared.Log.{Log}
-use Rattle.report.specs.declared.LogEntry.{LogEntry}
-use Rattle.report.specs.declared.Report.{Report}
+use Rattle.period.specs.declared.report.Log.{Log}
+use Rattle.period.specs.declared.report.LogEntry.{LogEntry}
+use Rattle.period.specs.declared.report.Report.{Report}
 use Rattle.trace_index.specs.Places.{request_place}
 use Rattle.audit_meaning.specs.Lists.{befores, befores_from, answer_if, numbers}
 use Rattle.audit_meaning.specs.LogFaults.{at_entry, is_foreign, is_of_no_request, is_named, is_second, is_implausible, entry_fault, faulty_entry, if_without_entry, operation_without_entry}
 use Rattle.audit_meaning.specs.Spots.{Spot, spots, spots_in, spot_of, if_named, count_of}
-use Rattle.report.specs.LeftBy.{left_by}
+use Rattle.period.specs.LeftBy.{left_by}
 use Rattle.audit_meaning.specs.declared.reason.Reason.{Reason}
 use Rattle.audit_meaning.specs.declared.reason.Reason.TheVariants.{ForeignEntry, EntryOfNoRequest, UncountedEntry, SecondEntry, EntryOutOfOrder, ImplausibleEntry, OperationWithoutEntry}
 use Rattle.audit_meaning.proofs.Words.{map_nth, folded_more}

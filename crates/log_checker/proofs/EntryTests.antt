@@ -14,8 +14,8 @@ use Rattle.script_tree.specs.declared.operation.Choice.{Choice}
 use Rattle.script_tree.specs.declared.operation.Choice.TheVariants.{Nothing, Number}
 use Rattle.script_tree.specs.declared.operation.Object.{Object}
 use Rattle.script_tree.specs.declared.operation.Object.TheVariants.{Register, Store, Tables, Clock, Dice}
-use Rattle.report.specs.declared.LogEntry.{LogEntry}
-use Rattle.report.specs.declared.Report.{Report}
+use Rattle.period.specs.declared.report.LogEntry.{LogEntry}
+use Rattle.period.specs.declared.report.Report.{Report}
 use Rattle.script_fit.specs.OfProgram.{is_of_program, choice_is_of}
 use Rattle.audit_meaning.specs.LogFaults.{is_foreign, is_uncounted, is_out_of_order}
 use Rattle.audit_meaning.specs.Spots.{Spot, count_of, operations_in}

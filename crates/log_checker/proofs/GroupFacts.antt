@@ -9,10 +9,10 @@ use Rattle.std.proofs.lemmas.Grind.{flat_map-append}
 use Rattle.std.proofs.lemmas.List.{append-nil}
 use Rattle.basis.specs.Lists.{nth, or_else}
 use Rattle.script_tree.specs.Requests.{Request}
-use Rattle.script_tree.specs.Traces.{request_of}
-use Rattle.script_tree.specs.declared.trace.TraceEvent.{TraceEvent}
-use Rattle.script_tree.specs.declared.trace.TraceEvent.TheVariants.{Asked}
-use Rattle.report.specs.declared.Report.{Report}
+use Rattle.period.specs.Traces.{request_of}
+use Rattle.period.specs.declared.trace.TraceEvent.{TraceEvent}
+use Rattle.period.specs.declared.trace.TraceEvent.TheVariants.{Asked}
+use Rattle.period.specs.declared.report.Report.{Report}
 use Rattle.audit_meaning.specs.GroupFaults.{members, member_of_no_request, second_member, if_without_group, request_without_group, grouping_fault}
 use Rattle.audit_meaning.specs.Lists.{answer_if, befores}
 use Rattle.audit_meaning.specs.declared.reason.Reason.{Reason}

@@ -11,8 +11,8 @@ use Rattle.script_tree.specs.declared.operation.Object.{Object}
 use Rattle.script_tree.specs.declared.operation.Object.TheVariants.{Register, Store, Tables, Clock, Dice}
 use Rattle.script_check.specs.Scopes.{holds}
 use Rattle.script_check.proofs.Names.{by_text, set_grows, bytes_sym}
-use Rattle.report.specs.declared.Log.{Log}
-use Rattle.report.specs.declared.Report.{Report}
+use Rattle.period.specs.declared.report.Log.{Log}
+use Rattle.period.specs.declared.report.Report.{Report}
 use Rattle.audit_meaning.specs.Lists.{befores, answer_if}
 use Rattle.audit_meaning.specs.LogFaults.{second_log}
 use Rattle.audit_meaning.specs.declared.reason.Reason.{Reason}

@@ -7,7 +7,7 @@ use Rattle.std.proofs.lemmas.Bool.Decides.{nat_tests}
 use Rattle.std.proofs.lemmas.Bool.{eqb-true}
 use Rattle.std.proofs.lemmas.List.{take_all}
 use Rattle.basis.specs.Lists.{nth, or_else, first_answer}
-use Rattle.report.specs.declared.Count.{Count}
+use Rattle.period.specs.declared.report.Count.{Count}
 use Rattle.audit_meaning.specs.Spots.{operations_in}
 use Rattle.audit_meaning.proofs.Filters.{take_more}
 use Rattle.id_table.specs.Tables.{number_of, Puts}

@@ -2,14 +2,14 @@
 use Rattle.std.proofs.Common.{◌≡◌, ◌∙◌, ℕ, List, Option, Some, None, Bool, true, false, not, cond, nat_eq, is_none, refl, ◌||◌, ap, sym, true≢false}
 use Rattle.std.specs.Prelude.{is_some}
 use Rattle.std.proofs.lemmas.Bool.{eqb-true, eq-eqb}
-use Rattle.script_tree.specs.Traces.{request_of}
-use Rattle.script_tree.specs.declared.trace.TraceEvent.{TraceEvent}
+use Rattle.period.specs.Traces.{request_of}
+use Rattle.period.specs.declared.trace.TraceEvent.{TraceEvent}
 use Rattle.trace_index.specs.Places.{request_place}
 use Rattle.trace_index.proofs.PlaceFacts.{request_absent, request_here}
 use Rattle.basis.proofs.Options.{none_is_not}
 use Rattle.audit_meaning.proofs.Places.{first_none}
-use Rattle.script_tree.specs.Traces.{request_in}
-use Rattle.script_tree.specs.declared.trace.TraceEvent.TheVariants.{Asked}
+use Rattle.period.specs.Traces.{request_in}
+use Rattle.period.specs.declared.trace.TraceEvent.TheVariants.{Asked}
 use Rattle.trace_index.proofs.HeadFacts.{nth_got}
 
 pub same_bool : (a b : Bool) → (a ≡ true → b ≡ true) → (b ≡ true → a ≡ true) → a ≡ b

@@ -2,7 +2,7 @@
 use Rattle.std.specs.Prelude.{◌≡◌, ℕ, Option}
 use Rattle.basis.specs.Lists.{first_answer}
 use Rattle.id_table.specs.Tables.{number_of}
-use Rattle.report.specs.declared.Report.{Report}
+use Rattle.period.specs.declared.report.Report.{Report}
 use Rattle.audit_meaning.specs.Spots.{operations_in}
 use Rattle.log_checker.specs.declared.counting.OperationCounts.{OperationCounts}
 

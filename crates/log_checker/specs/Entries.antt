@@ -10,19 +10,19 @@ use Rattle.script_tree.specs.declared.operation.Choice.{Choice}
 use Rattle.script_tree.specs.declared.operation.Choice.TheVariants.{Nothing, Number}
 use Rattle.script_tree.specs.declared.operation.Object.{Object}
 use Rattle.script_tree.specs.declared.operation.Object.TheVariants.{Register, Store, Tables, Clock, Dice}
-use Rattle.script_tree.specs.declared.trace.TraceEvent.{TraceEvent}
+use Rattle.period.specs.declared.trace.TraceEvent.{TraceEvent}
 use Rattle.object_set.specs.ObjectSets.{HeldObjects, IsSetOf, objects_of}
-use Rattle.report.specs.declared.Log.{Log}
-use Rattle.report.specs.declared.LogEntry.{LogEntry}
-use Rattle.report.specs.declared.Report.{Report}
+use Rattle.period.specs.declared.report.Log.{Log}
+use Rattle.period.specs.declared.report.LogEntry.{LogEntry}
+use Rattle.period.specs.declared.report.Report.{Report}
 use Rattle.audit_meaning.specs.Lists.{last, befores_from}
 use Rattle.audit_meaning.specs.LogFaults.{entry_fault}
 use Rattle.audit_meaning.specs.Spots.{Spot, spots_in}
-use Rattle.report.specs.LeftBy.{left_by}
+use Rattle.period.specs.LeftBy.{left_by}
 use Rattle.audit_meaning.specs.declared.reason.Reason.{Reason}
 use Rattle.log_checker.specs.Counting.{IsCounted}
 use Rattle.log_checker.specs.EntryFaults.{first_wrong}
-use Rattle.log_checker.specs.Faults.{Gives}
+use Rattle.log_checker.specs.Faults.{IsFaultOr}
 use Rattle.log_checker.specs.OpMaps.{MapsSpots}
 use Rattle.log_checker.specs.declared.entry_fault.EntryFault.{EntryFault}
 use Rattle.log_checker.specs.declared.op_map.OpMap.{OpMap}
@@ -82,4 +82,4 @@ fault_behind program start trace report earlier spots = first_answer (entry_faul
 abbrev pub ReadsLog : {A : Type 0} → HeldObjects → List TraceEvent → Log → ℕ → OpMap → OpMap → Result A (OrMemory Reason) → Type 0
 ReadsLog set trace log number old new result =
     (program : Program) (report : Report) (earlier : List Spot) → IsSetOf program set → Knows report earlier old → nth report.logs number ≡ Some log
-    → Gives (fault_behind program (objects_of set) trace report earlier (spots_in log)) (λ x. Knows report (earlier ++ spots_in log) new) result
+    → IsFaultOr (fault_behind program (objects_of set) trace report earlier (spots_in log)) (λ x. Knows report (earlier ++ spots_in log) new) result

@@ -4,8 +4,8 @@ use Rattle.basis.specs.Lists.{or_else}
 use Rattle.script_tree.specs.Objects.{Objects}
 use Rattle.script_tree.specs.Programs.{Program}
 use Rattle.script_tree.specs.declared.operation.Object.{Object}
-use Rattle.script_tree.specs.declared.trace.TraceEvent.{TraceEvent}
-use Rattle.report.specs.declared.Report.{Report}
+use Rattle.period.specs.declared.trace.TraceEvent.{TraceEvent}
+use Rattle.period.specs.declared.report.Report.{Report}
 use Rattle.audit_meaning.specs.Lists.{last, answer_if}
 use Rattle.audit_meaning.specs.LogFaults.{is_foreign, is_of_no_request, is_uncounted, is_second, is_out_of_order, is_implausible}
 use Rattle.audit_meaning.specs.Spots.{Spot}

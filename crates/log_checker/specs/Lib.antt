@@ -5,5 +5,4 @@ pub mod Faults
 pub mod Finds
 pub mod Grouping
 pub mod LogObjects
-pub mod OfProgram
 pub mod OpMaps

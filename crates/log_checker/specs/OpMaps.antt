@@ -2,9 +2,9 @@
 use Rattle.std.specs.Prelude.{◌≡◌, ℕ, ◌+◌, ◌<◌, false, ◌&&◌, List, take, Option, Some, None, is_none, nat_eq, unwrap_or, if◌then◌else◌}
 use Rattle.basis.specs.Lists.{nth, first_answer}
 use Rattle.operation_table.specs.Tables.{place_of}
-use Rattle.report.specs.declared.Log.{Log}
-use Rattle.report.specs.declared.LogEntry.{LogEntry}
-use Rattle.report.specs.declared.Report.{Report}
+use Rattle.period.specs.declared.report.Log.{Log}
+use Rattle.period.specs.declared.report.LogEntry.{LogEntry}
+use Rattle.period.specs.declared.report.Report.{Report}
 use Rattle.audit_meaning.specs.Spots.{Spot, if_named, spot_of}
 use Rattle.log_checker.specs.Counting.{IsCounted, operations_of}
 use Rattle.log_checker.specs.declared.op_map.OpMap.{OpMap}

@@ -1,9 +1,9 @@
 ghost use Rattle.std.specs.Prelude.{◌≡◌};
 ghost use Rattle.script_tree.specs.Programs.{Program as AnyProgram};
 ghost use Rattle.object_set.specs.ObjectSets.{IsSetOf, objects_of};
-ghost use Rattle.report.specs.declared.Report.{Report as AnyReport};
+ghost use Rattle.period.specs.declared.report.Report.{Report as AnyReport};
 ghost use Rattle.audit_meaning.specs.LogFaults.{operation_without_entry, log_fault};
-ghost use Rattle.log_checker.specs.Faults.{Gives, GivesNothing};
+ghost use Rattle.log_checker.specs.Faults.{IsFaultOr, IsFaultIfAny};
 ghost use Rattle.log_checker.specs.OpMaps.{IsMapOf};
 
 use crate::counting::{OperationCounts, check_counted};
@@ -13,7 +13,7 @@ use crate::op_map::OpMap;
 use audit_meaning::reason::Reason;
 use basis::OrMemory;
 use object_set::ObjectSet;
-use report::Report;
+use period::report::Report;
 use std::alloc::Global;
 use trace_format::trace_file::EventHead;
 use trace_index::IndexedTrace;
@@ -21,7 +21,7 @@ use trace_index::IndexedTrace;
 /// Each operation that is counted has an entry.
 fn check_operations(trace: &IndexedTrace<'_>, map: &OpMap) -> Result<(), OrMemory<Reason>>
     ensures { (report : AnyReport) → IsMapOf report map.now
-        → GivesNothing (operation_without_entry trace.now report) result }
+        → IsFaultIfAny (operation_without_entry trace.now report) result }
 {
     for place in 0..trace.len() {
         if let EventHead::Asks(rid) = trace.head(place) {
@@ -42,7 +42,7 @@ pub fn check_logs(
     report: &Report,
 ) -> Result<OpMap, OrMemory<Reason>>
     ensures { (program : AnyProgram) → IsSetOf program start.now
-        → Gives (log_fault program (objects_of start.now) trace.now report.now)
+        → IsFaultOr (log_fault program (objects_of start.now) trace.now report.now)
         (IsMapOf report.now) result }
 {
     check_objects(alloc, report)?;

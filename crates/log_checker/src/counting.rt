@@ -1,13 +1,13 @@
 ghost use Rattle.std.specs.Prelude.{◌≡◌};
-ghost use Rattle.report.specs.declared.Report.{Report as AnyReport};
+ghost use Rattle.period.specs.declared.report.Report.{Report as AnyReport};
 ghost use Rattle.audit_meaning.specs.LogFaults.{second_count, count_of_no_request, request_without_count};
 ghost use Rattle.log_checker.specs.Counting.{IsCounted, operations_of};
-ghost use Rattle.log_checker.specs.Faults.{Gives, GivesNothing};
+ghost use Rattle.log_checker.specs.Faults.{IsFaultOr, IsFaultIfAny};
 
 use audit_meaning::reason::Reason;
 use basis::OrMemory;
 use id_table::IdTable;
-use report::Report;
+use period::report::Report;
 use std::alloc::Global;
 use trace_format::trace_file::EventHead;
 use trace_index::IndexedTrace;
@@ -21,7 +21,7 @@ pub struct OperationCounts {
 impl OperationCounts {
     /// The counts of a report, no two of one request.
     pub(crate) fn read(alloc: Global, report: &Report) -> Result<OperationCounts, OrMemory<Reason>>
-        ensures { Gives (second_count report.now) (IsCounted report.now) result }
+        ensures { IsFaultOr (second_count report.now) (IsCounted report.now) result }
     {
         let mut operations = IdTable::new(alloc, report.counts.len())?;
         for count in report.counts.as_slice() {
@@ -43,7 +43,7 @@ impl OperationCounts {
     /// Each request has a count.
     pub(crate) fn check_requests(&self, trace: &IndexedTrace<'_>) -> Result<(), OrMemory<Reason>>
         ensures { (report : AnyReport) → IsCounted report self.now
-            → GivesNothing (request_without_count trace.now report) result }
+            → IsFaultIfAny (request_without_count trace.now report) result }
     {
         for place in 0..trace.len() {
             if let EventHead::Asks(rid) = trace.head(place) {
@@ -61,7 +61,7 @@ pub(crate) fn check_counted(
     trace: &IndexedTrace<'_>,
     report: &Report,
 ) -> Result<(), OrMemory<Reason>>
-    ensures { GivesNothing (count_of_no_request trace.now report.now) result }
+    ensures { IsFaultIfAny (count_of_no_request trace.now report.now) result }
 {
     for count in report.counts.as_slice() {
         let rid = count.rid;

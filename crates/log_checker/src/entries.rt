@@ -2,24 +2,24 @@ ghost use Rattle.std.specs.Prelude.{◌≡◌, List, None, IfOk};
 ghost use Rattle.std.specs.Option.{option_copied};
 ghost use Rattle.script_tree.specs.Programs.{Program as AnyProgram};
 ghost use Rattle.object_set.specs.ObjectSets.{IsSetOf, objects_of};
-ghost use Rattle.report.specs.declared.LogEntry.{LogEntry as AnyEntry};
-ghost use Rattle.report.specs.declared.Report.{Report as AnyReport};
+ghost use Rattle.period.specs.declared.report.LogEntry.{LogEntry as AnyEntry};
+ghost use Rattle.period.specs.declared.report.Report.{Report as AnyReport};
 ghost use Rattle.audit_meaning.specs.LogFaults.{is_foreign, is_out_of_order, is_uncounted, faulty_entry};
 ghost use Rattle.audit_meaning.specs.Spots.{spots};
 ghost use Rattle.log_checker.specs.Counting.{IsCounted};
 ghost use Rattle.log_checker.specs.Entries.{next_reading, spot_at, FindsFault, Knows, ReadsLog};
-ghost use Rattle.log_checker.specs.Faults.{Gives};
+ghost use Rattle.log_checker.specs.Faults.{IsFaultOr};
 ghost use Rattle.log_checker.specs.OpMaps.{PutsPlace};
 
+use crate::choices::choice_is_of;
 use crate::counting::OperationCounts;
 use crate::entry_fault::EntryFault;
-use crate::of_program::{choice_is_of, is_of_program};
 use crate::op_map::OpMap;
 use crate::plausible::is_plausible;
 use audit_meaning::reason::Reason;
 use basis::OrMemory;
 use object_set::ObjectSet;
-use report::{Log, LogEntry, Report};
+use period::report::{Log, LogEntry, Report};
 use script_tree::operation::{Choice, Object};
 use std::alloc::{AllocError, Global};
 use trace_index::{IndexedTrace, narrow};
@@ -39,7 +39,7 @@ fn is_foreign(start: &ObjectSet, object: &Object, entry: &LogEntry) -> bool
     ensures { (program : AnyProgram) (past : List AnyEntry) → IsSetOf program start.now
         → result ≡ is_foreign program (spot_at object.now past entry.now) }
 {
-    !is_of_program(start, object, &entry.act) || !choice_is_of(&entry.act, entry.choice)
+    !start.is_of_program(object, &entry.act) || !choice_is_of(&entry.act, entry.choice)
 }
 
 fn is_uncounted(map: &OpMap, entry: &LogEntry) -> bool
@@ -135,7 +135,7 @@ impl EntryChecker<'_, '_> {
         report: &Report,
     ) -> Result<OpMap, OrMemory<Reason>>
         requires { IsCounted report.now counts }
-        ensures { (program : AnyProgram) → IsSetOf program self.now.start.now → Gives
+        ensures { (program : AnyProgram) → IsSetOf program self.now.start.now → IsFaultOr
             (faulty_entry program (objects_of self.now.start.now) self.now.trace.now report.now)
             (Knows report.now (spots report.now.logs)) result }
     {

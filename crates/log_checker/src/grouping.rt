@@ -1,12 +1,12 @@
 ghost use Rattle.std.specs.Prelude.{◌≡◌, IfOk};
-ghost use Rattle.report.specs.declared.Report.{Report as AnyReport};
+ghost use Rattle.period.specs.declared.report.Report.{Report as AnyReport};
 ghost use Rattle.audit_meaning.specs.GroupFaults.{members, member_of_no_request, second_member, request_without_group, grouping_fault};
-ghost use Rattle.log_checker.specs.Faults.{Gives, GivesNothing};
+ghost use Rattle.log_checker.specs.Faults.{IsFaultOr, IsFaultIfAny};
 ghost use Rattle.log_checker.specs.Grouping.{AreMembers};
 
 use audit_meaning::reason::Reason;
 use basis::OrMemory;
-use report::Report;
+use period::report::Report;
 use std::alloc::{AllocError, Global};
 use std::collections::BTreeSet;
 use trace_format::trace_file::EventHead;
@@ -26,7 +26,7 @@ fn members_of(alloc: Global, report: &Report) -> Result<Vec<u32>, AllocError>
 /// Each member is a request.
 fn check_members(trace: &IndexedTrace<'_>, rids: &[u32]) -> Result<(), OrMemory<Reason>>
     ensures { (report : AnyReport) → rids.now ≡ members report
-        → GivesNothing (member_of_no_request trace.now report) result }
+        → IsFaultIfAny (member_of_no_request trace.now report) result }
 {
     for member in rids {
         let rid = *member;
@@ -40,7 +40,7 @@ fn check_members(trace: &IndexedTrace<'_>, rids: &[u32]) -> Result<(), OrMemory<
 /// The members as a set; none of them stands twice.
 fn members_once(alloc: Global, rids: &[u32]) -> Result<BTreeSet<u32>, OrMemory<Reason>>
     ensures { (report : AnyReport) → rids.now ≡ members report
-        → Gives (second_member report) (AreMembers (members report)) result }
+        → IsFaultOr (second_member report) (AreMembers (members report)) result }
 {
     let mut seen = BTreeSet::new(alloc);
     for member in rids {
@@ -55,7 +55,7 @@ fn members_once(alloc: Global, rids: &[u32]) -> Result<BTreeSet<u32>, OrMemory<R
 /// Each request is a member.
 fn check_grouped(trace: &IndexedTrace<'_>, grouped: &BTreeSet<u32>) -> Result<(), OrMemory<Reason>>
     ensures { (report : AnyReport) → AreMembers (members report) grouped.now
-        → GivesNothing (request_without_group trace.now report) result }
+        → IsFaultIfAny (request_without_group trace.now report) result }
 {
     for place in 0..trace.len() {
         if let EventHead::Asks(rid) = trace.head(place) {
@@ -73,7 +73,7 @@ pub fn check_groups(
     trace: &IndexedTrace<'_>,
     report: &Report,
 ) -> Result<(), OrMemory<Reason>>
-    ensures { GivesNothing (grouping_fault trace.now report.now) result }
+    ensures { IsFaultIfAny (grouping_fault trace.now report.now) result }
 {
     let rids = members_of(alloc, report)?;
     check_members(trace, &rids)?;

@@ -3,13 +3,13 @@
 #![tactic(auto)]
 
 mod checking;
+mod choices;
 mod counting;
 mod entries;
 mod entry_fault;
 mod grouping;
 pub mod law;
 mod log_objects;
-mod of_program;
 pub mod op_map;
 mod plausible;
 

@@ -1,12 +1,12 @@
 ghost use Rattle.std.specs.Prelude.{◌≡◌, false, not, IfOk, OnOk};
 ghost use Rattle.script_tree.specs.declared.operation.Object.{Object as AnyObject};
 ghost use Rattle.audit_meaning.specs.LogFaults.{second_log};
-ghost use Rattle.log_checker.specs.Faults.{GivesNothing};
+ghost use Rattle.log_checker.specs.Faults.{IsFaultIfAny};
 ghost use Rattle.log_checker.specs.LogObjects.{has_object, Enters};
 
 use audit_meaning::reason::Reason;
 use basis::OrMemory;
-use report::Report;
+use period::report::Report;
 use script_tree::operation::Object;
 use std::alloc::{AllocError, Global};
 use std::collections::BTreeSet;
@@ -65,7 +65,7 @@ pub(crate) fn copy_of(object: &Object) -> Result<Object, AllocError>
 
 /// No two logs are of one object.
 pub(crate) fn check_objects(alloc: Global, report: &Report) -> Result<(), OrMemory<Reason>>
-    ensures { GivesNothing (second_log report.now) result }
+    ensures { IsFaultIfAny (second_log report.now) result }
 {
     let mut seen = LogObjects::new(alloc);
     for log in report.logs.as_slice() {

@@ -12,7 +12,7 @@ use Rattle.script_meaning.specs.Conduct as meant
 use Rattle.script_meaning.specs.Conduct.{conduct, ended, start, path_of, response_of, fault_response, no_page}
 use Rattle.script_meaning.specs.Evaluate.{Flow, on}
 use Rattle.script_meaning.specs.Operations.{Op}
-use Rattle.script_meaning.specs.Run.{Outcome, goes, stops}
+use Rattle.script_meaning.specs.Run.{Ran, goes, stops}
 use Rattle.script_meaning.specs.declared.run.Mark.TheVariants.{Issued as issued}
 use Rattle.script_meaning.specs.declared.run.Stop.TheVariants.{Wants as wants, Fault as fault, AnswerFault as answer_fault}
 use Rattle.script_code.specs.Code.{Entry}
@@ -38,9 +38,10 @@ use Rattle.machine.proofs.Trails.{one_issued, bare_marks}
 
 -- ---- how the conduct ends
 
-module _ (program : Program) (q : Request) (answers : List Datum) (code : Code) (means : IsCodeOf program code) (entry : Entry) (found : pages_of code q.path ≡ Some entry) where
-  -- as a run that comes to an outcome
-  pub conducts_so : (o : Outcome Flow) → Reaches (begun q code entry answers) (λ k. o) → ended entry.number o ≡ conduct program q answers
+module _ (program : Program) (q : Request) (answers : List Datum) (code : Code) (means : IsCodeOf program code)
+    (entry : Entry) (found : pages_of code q.path ≡ Some entry) where
+  -- as a run that came to this
+  pub conducts_so : (o : Ran Flow) → Reaches (begun q code entry answers) (λ k. o) → ended entry.number o ≡ conduct program q answers
   conducts_so o r =
       let d = means.conducts q answers in
       let e : r.0 + d.0 ≡ d.0 + r.0 = omega arith in
@@ -50,31 +51,41 @@ module _ (program : Program) (q : Request) (answers : List Datum) (code : Code) 
       ∙ d.1 r.0
 
   -- where no more answers come
-  pub none_more : (there : (ops : List Op) (more : List Datum) → ℕ → Outcome Flow) (l : Leads q code entry answers there) (g : ℕ → Outcome Flow) → Reaches (there l.ops []) g → Reaches (begun q code entry answers) g
-  none_more there l g s = subst (λ as'. Reaches (begun q code entry as') g) (append-nil answers) (reaches_on (begun q code entry (answers ++ [])) (there l.ops []) g (l.leads []) s)
+  pub none_more : (there : (ops : List Op) (more : List Datum) → ℕ → Ran Flow) (l : Leads q code entry answers there)
+      (g : ℕ → Ran Flow) → Reaches (there l.ops []) g → Reaches (begun q code entry answers) g
+  none_more there l g s = subst (λ as'. Reaches (begun q code entry as') g) (append-nil answers)
+      (reaches_on (begun q code entry (answers ++ [])) (there l.ops []) g (l.leads []) s)
 
 -- ---- marks
 
 -- of a conduct whose marks are those of an account
-left_by : {w : meant.Conduct} {ending : meant.Ending} (a : Account) (ops : List Op) → record { trail = marks_of a.trail.items ops; ending = ending } ≡ w → a.trail.items ≡ bare_trail w.trail
+left_by : {w : meant.Conduct} {ending : meant.Ending} (a : Account) (ops : List Op)
+    → record { trail = marks_of a.trail.items ops; ending = ending } ≡ w → a.trail.items ≡ bare_trail w.trail
 left_by a ops h = sym (bare_marks a.trail.items ops) ∙ ap (λ w. bare_trail w.trail) h
 
 -- ---- answers
 
-noted : (a b : Account) (ops : List Op) (op : Op) (more : List Datum) → IsNoted a b → progress_of b (op ∷ ops) more ≡ record (progress_of a ops more) { trail = marks_of a.trail.items ops ++ issued op ∷ [] }
+noted : (a b : Account) (ops : List Op) (op : Op) (more : List Datum) → IsNoted a b
+    → progress_of b (op ∷ ops) more ≡ record
+    (progress_of a ops more) { trail = marks_of a.trail.items ops ++ issued op ∷ [] }
 noted a b ops op more n =
     let t : marks_of b.trail.items (op ∷ ops) ≡ marks_of a.trail.items ops ++ issued op ∷ [] =
     ap (λ ts. marks_of ts (op ∷ ops)) n.trail ∙ one_issued a.trail.items ops op in
-    λ i. record { steps = n.steps i; operations = n.operations i; costs = None; trail = t i; answers = more; status = n.status i; body = (n.body i).items }
+    λ i. record { steps = n.steps i; operations = n.operations i; costs = None; trail = t i; answers = more; status = (n.output i).status; body = (n.output i).body }
 
-module _ (q : Request) (code : Code) (entry : Entry) (answers : List Datum) (d : Datum) (old new : Run) (op : Op) (noting : IsNoted old.state.account new.state.account) (l : Leads q code entry answers (wanting q code old op)) where
-  answer_comes : (more : List Datum) (g : ℕ → Outcome Flow) → Reaches (wanting q code old op l.ops (d ∷ more)) g → Reaches (begun q code entry ((answers ++ d ∷ []) ++ more)) g
+module _ (q : Request) (code : Code) (entry : Entry) (answers : List Datum) (d : Datum) (old new : Run) (op : Op)
+    (noting : IsNoted old.state.account new.state.account)
+    (l : Leads q code entry answers (wanting q code old op)) where
+  answer_comes : (more : List Datum) (g : ℕ → Ran Flow) → Reaches (wanting q code old op l.ops (d ∷ more)) g
+      → Reaches (begun q code entry ((answers ++ d ∷ []) ++ more)) g
   answer_comes more g s =
       subst (λ as'. Reaches (begun q code entry as') g) (sym (append_assoc answers (d ∷ []) more))
       (reaches_on (begun q code entry (answers ++ d ∷ more)) (wanting q code old op l.ops (d ∷ more)) g (l.leads (d ∷ more)) s)
 
   -- one within the limits
-  pub answer_goes : is_within_limits d ≡ true → new.frames ≡ old.frames → new.place ≡ old.place → new.state.stack ≡ d ∷ old.state.stack → new.state.slots ≡ old.state.slots → Leads q code entry (answers ++ d ∷ []) (going q code new)
+  pub answer_goes : is_within_limits d ≡ true → new.frames ≡ old.frames → new.place ≡ old.place
+      → new.state.stack ≡ d ∷ old.state.stack → new.state.slots ≡ old.state.slots
+      → Leads q code entry (answers ++ d ∷ []) (going q code new)
   answer_goes fits frames place stack slots = record {
     ops = op ∷ l.ops;
     leads = λ more. answer_comes more (going q code new (op ∷ l.ops) more) (
@@ -99,7 +110,8 @@ module _ (q : Request) (code : Code) (entry : Entry) (answers : List Datum) (d :
 
 -- ---- the start
 
-pub begins : (program : Program) (q : Request) (m : Machine) (entry : Entry) → IsCodeOf program m.code.now → m.request ≡ q → m.page ≡ entry.number → m.phase ≡ Running → IsFresh entry.place m.run
+pub begins : (program : Program) (q : Request) (m : Machine) (entry : Entry) → IsCodeOf program m.code.now
+    → m.request ≡ q → m.page ≡ entry.number → m.phase ≡ Running → IsFresh entry.place m.run
     → pages_of m.code.now q.path ≡ Some entry → Follows program q [] m
 begins program q m entry of same page phase fresh found = record {
   code = of;
@@ -115,14 +127,17 @@ begins program q m entry of same page phase fresh found = record {
             0,
             λ k.
                 let z : 0 + k ≡ k = omega arith in
-                rw z (λ i. exec q m.code.now.functions.items m.code.now.instructions.items k (sym fresh.frames i) (sym fresh.place' i) (sym fresh.stack i) (sym fresh.slots i) (sym (fresh.account more) i)),
+                rw z (λ i. exec q m.code.now.functions.items m.code.now.instructions.items k (sym fresh.frames i)
+                (sym fresh.place' i) (sym fresh.stack i) (sym fresh.slots i) (sym (fresh.account more) i)),
           );
         },
       );
 }
 
 -- where no page has its path
-pub begins_nowhere : (program : Program) (q : Request) (m : Machine) (place : ℕ) → IsCodeOf program m.code.now → m.request ≡ q → m.phase ≡ NoPage → IsFresh place m.run → pages_of m.code.now q.path ≡ None → Follows program q [] m
+pub begins_nowhere : (program : Program) (q : Request) (m : Machine) (place : ℕ) → IsCodeOf program m.code.now
+    → m.request ≡ q → m.phase ≡ NoPage → IsFresh place m.run → pages_of m.code.now q.path ≡ None
+    → Follows program q [] m
 begins_nowhere program q m place of same phase fresh none =
     let marks : HasTrail [] m.run = sym (bare_marks m.run.state.account.trail.items []) ∙ ap (λ p. bare_trail p.trail) (fresh.account []) in
     record {
@@ -142,17 +157,25 @@ module _ (program : Program) (q : Request) (answers : List Datum) (m : Machine) 
   ops_so_far = stands.3.ops
 
   -- the conduct is what the run of the code comes to
-  pub comes_to : (o : Outcome Flow) → Reaches (λ k. onward (exec m.request m.code.now.functions.items m.code.now.instructions.items k) m.run ops_so_far []) (λ k. o) → ended m.page o ≡ conduct program q answers
+  pub comes_to : (o : Ran Flow) → Reaches (λ k. onward
+      (exec m.request m.code.now.functions.items m.code.now.instructions.items k) m.run ops_so_far []) (λ k. o)
+      → ended m.page o ≡ conduct program q answers
   comes_to o r =
       let s = subst (λ a. Reaches (λ k. onward (exec a m.code.now.functions.items m.code.now.instructions.items k) m.run ops_so_far []) (λ k. o)) f.request r in
       ap (λ n. ended n o) (sym stands.2)
-      ∙ conducts_so program q answers m.code.now f.code stands.0 stands.1 o (none_more program q answers m.code.now f.code stands.0 stands.1 (going q m.code.now m.run) stands.3 (λ k. o) s)
+      ∙ conducts_so program q answers m.code.now f.code stands.0 stands.1 o
+      (none_more program q answers m.code.now f.code stands.0 stands.1 (going q m.code.now m.run) stands.3 (λ k. o) s)
 
-  pub over_tells : (new : Run) → ((ops : List Op) (more : List Datum) → Stands m.request m.code.now.functions.items m.code.now.instructions.items ops more (Ok tt) new (λ k. onward (exec m.request m.code.now.functions.items m.code.now.instructions.items k) m.run ops more))
-      → meant.Ends (response_of (progress_of new.state.account ops_so_far [])) (path_of m.page (progress_of new.state.account ops_so_far []) Normal) ≡ (conduct program q answers).ending
+  pub over_tells : (new : Run) → ((ops : List Op) (more : List Datum)
+      → Stands m.request m.code.now.functions.items m.code.now.instructions.items ops more (Ok tt) new
+      (λ k. onward (exec m.request m.code.now.functions.items m.code.now.instructions.items k) m.run ops more))
+      → meant.Ends (response_of (progress_of new.state.account ops_so_far []))
+      (path_of m.page (progress_of new.state.account ops_so_far []) Normal) ≡ (conduct program q answers).ending
   over_tells new runs = ap (λ w. w.ending) (comes_to (goes (on []) (progress_of new.state.account ops_so_far [])) (runs ops_so_far []))
 
-  pub over_leaves : (new : Run) → ((ops : List Op) (more : List Datum) → Stands m.request m.code.now.functions.items m.code.now.instructions.items ops more (Ok tt) new (λ k. onward (exec m.request m.code.now.functions.items m.code.now.instructions.items k) m.run ops more))
+  pub over_leaves : (new : Run) → ((ops : List Op) (more : List Datum)
+      → Stands m.request m.code.now.functions.items m.code.now.instructions.items ops more (Ok tt) new
+      (λ k. onward (exec m.request m.code.now.functions.items m.code.now.instructions.items k) m.run ops more))
       → HasTrail (conduct program q answers).trail new
   over_leaves new runs = left_by new.state.account ops_so_far (comes_to (goes (on []) (progress_of new.state.account ops_so_far [])) (runs ops_so_far []))
 
@@ -164,7 +187,9 @@ module _ (program : Program) (q : Request) (answers : List Datum) (m : Machine) 
       → HasTrail (conduct program q answers).trail new
   fault_leaves new j runs = left_by new.state.account ops_so_far (comes_to (stops (fault j) (progress_of new.state.account ops_so_far [])) (runs ops_so_far []))
 
-  pub wants_tells : (new : Run) (op : Op) → ((ops : List Op) (more : List Datum) → Stands m.request m.code.now.functions.items m.code.now.instructions.items ops more (Err (Wants op)) new (λ k. onward (exec m.request m.code.now.functions.items m.code.now.instructions.items k) m.run ops more))
+  pub wants_tells : (new : Run) (op : Op) → ((ops : List Op) (more : List Datum)
+      → Stands m.request m.code.now.functions.items m.code.now.instructions.items ops more (Err (Wants op)) new
+      (λ k. onward (exec m.request m.code.now.functions.items m.code.now.instructions.items k) m.run ops more))
       → meant.Wants op ≡ (conduct program q answers).ending
   wants_tells new op runs = ap (λ w. w.ending) (comes_to (stops (wants op) (progress_of new.state.account ops_so_far [])) (runs ops_so_far []))
 
@@ -180,7 +205,8 @@ module _ (program : Program) (q : Request) (answers : List Datum) (m : Machine) 
         ops = ops_so_far;
         leads = λ more.
             let s = subst (λ a. Reaches (going a m.code.now m.run ops_so_far more) (wanting a m.code.now new op ops_so_far more)) f.request (runs ops_so_far more) in
-            reaches_on (begun q m.code.now stands.0 (answers ++ more)) (going q m.code.now m.run ops_so_far more) (wanting q m.code.now new op ops_so_far more) (stands.3.leads more) s;
+            reaches_on (begun q m.code.now stands.0 (answers ++ more)) (going q m.code.now m.run ops_so_far more)
+            (wanting q m.code.now new op ops_so_far more) (stands.3.leads more) s;
       },
     ),
   )
@@ -188,12 +214,16 @@ module _ (program : Program) (q : Request) (answers : List Datum) (m : Machine) 
 -- ---- a run that waits
 
 -- its marks are those of the conduct
-pub waiting_leaves : (program : Program) (q : Request) (answers : List Datum) (m : Machine) → Follows program q answers m → OnPage q m.code.now answers m.page m.run Waiting → HasTrail (conduct program q answers).trail m.run
+pub waiting_leaves : (program : Program) (q : Request) (answers : List Datum) (m : Machine)
+    → Follows program q answers m → OnPage q m.code.now answers m.page m.run Waiting
+    → HasTrail (conduct program q answers).trail m.run
 waiting_leaves program q answers m f s =
     let l = s.3.1 in
-    let o : Outcome Flow = stops (wants s.3.0) (progress_of m.run.state.account l.ops []) in
+    let o : Ran Flow = stops (wants s.3.0) (progress_of m.run.state.account l.ops []) in
     left_by m.run.state.account l.ops
-    (conducts_so program q answers m.code.now f.code s.0 s.1 o (none_more program q answers m.code.now f.code s.0 s.1 (wanting q m.code.now m.run s.3.0) l (λ k. o) (0, λ k. refl)))
+    (conducts_so program q answers m.code.now f.code s.0 s.1 o
+    (none_more program q answers m.code.now f.code s.0 s.1 (wanting q m.code.now m.run s.3.0) l (λ k. o)
+    (0, λ k. refl)))
 
 -- ---- a run that ends at an answer or without a page
 
@@ -201,15 +231,18 @@ module _ (program : Program) (q : Request) (answers : List Datum) (m : Machine) 
   abbrev refused_at : OnPage q m.code.now answers m.page m.run Refused
   refused_at = subst (λ p. StandsIn program q m.code.now answers m.page m.run p) refusing f.stands
 
-  abbrev refused_with : Outcome Flow
+  abbrev refused_with : Ran Flow
   refused_with = stops answer_fault (progress_of m.run.state.account refused_at.3.ops [])
 
   refused_so : ended m.page refused_with ≡ conduct program q answers
   refused_so =
       ap (λ n. ended n refused_with) (sym refused_at.2)
-      ∙ conducts_so program q answers m.code.now f.code refused_at.0 refused_at.1 refused_with (none_more program q answers m.code.now f.code refused_at.0 refused_at.1 (refused m.run) refused_at.3 (λ k. refused_with) (0, λ k. refl))
+      ∙ conducts_so program q answers m.code.now f.code refused_at.0 refused_at.1 refused_with
+      (none_more program q answers m.code.now f.code refused_at.0 refused_at.1 (refused m.run) refused_at.3
+      (λ k. refused_with) (0, λ k. refl))
 
-  pub refused_tells : (ops : List Op) × (meant.Ends (fault_response TooLarge) (path_of m.page (progress_of m.run.state.account ops []) AnswerFault) ≡ (conduct program q answers).ending)
+  pub refused_tells : (ops : List Op) × (meant.Ends (fault_response TooLarge)
+      (path_of m.page (progress_of m.run.state.account ops []) AnswerFault) ≡ (conduct program q answers).ending)
   refused_tells = (refused_at.3.ops, ap (λ w. w.ending) refused_so)
 
   pub refused_leaves : HasTrail (conduct program q answers).trail m.run
@@ -234,7 +267,8 @@ module _ (program : Program) (q : Request) (answers : List Datum) (m : Machine) 
 
 -- ---- a run that stopped
 
-trail_in : (program : Program) (q : Request) (answers : List Datum) (m : Machine) → Follows program q answers m → (phase : Phase) → StandsIn program q m.code.now answers m.page m.run phase → stopped_in phase
+trail_in : (program : Program) (q : Request) (answers : List Datum) (m : Machine) → Follows program q answers m
+    → (phase : Phase) → StandsIn program q m.code.now answers m.page m.run phase → stopped_in phase
     → HasTrail (conduct program q answers).trail m.run
 trail_in program q answers m f Running s h = absurd h
 trail_in program q answers m f Waiting s h = waiting_leaves program q answers m f s
@@ -244,7 +278,8 @@ trail_in program q answers m f Over s h = s
 trail_in program q answers m f Exhausted s h = absurd h
 
 -- its marks are those of the conduct
-pub stopped_trail : (program : Program) (q : Request) (answers : List Datum) (m : Machine) → Follows program q answers m → IsStopped m → HasTrail (conduct program q answers).trail m.run
+pub stopped_trail : (program : Program) (q : Request) (answers : List Datum) (m : Machine)
+    → Follows program q answers m → IsStopped m → HasTrail (conduct program q answers).trail m.run
 stopped_trail program q answers m f h = trail_in program q answers m f m.phase f.stands h
 
 not_over : (op : Op) (r : Response) (p : Path) → meant.Wants op ≡ meant.Ends r p → ⊥

@@ -13,11 +13,12 @@ use Rattle.script_code.specs.CodeRun.{Frame, Next, step, topmost, all_taken, all
 use Rattle.script_code.specs.declared.instruction.Shape.{Shape}
 use Rattle.script_code.specs.declared.instruction.Instruction.TheVariants.{And, Or, Branch, Each, Echo, Transact}
 use Rattle.script_values.specs.CallsMade.{made}
+use Rattle.script_values.specs.Outputs.{TellsRan}
 use Rattle.script_values.specs.declared.builtins.Called.{Called}
 use Rattle.script_values.specs.declared.builtins.Called.TheVariants.{Value, Operation}
 use Rattle.script_meaning.specs.Kinds.{bool_in}
 use Rattle.script_meaning.specs.Operations.{Op}
-use Rattle.script_meaning.specs.Run.{Progress, Outcome, goes, after, charge, taking, charge_for, note, decide, issue, Run}
+use Rattle.script_meaning.specs.Run.{Progress, Ran, goes, after, charge, taking, charge_for, note, decide, issue, Run}
 use Rattle.script_meaning.specs.declared.run.Mark.TheVariants.{Decided as decided}
 use Rattle.machine.specs.Does.{Then, Leaves}
 use Rattle.machine.specs.Gives.{Stops, decide_so, progress_of, stopped_by}
@@ -26,10 +27,15 @@ use Rattle.machine.specs.declared.stopped.Stopped.{Stopped}
 use Rattle.machine.specs.declared.stopped.Stopped.TheVariants.{Memory, Wants, Fault}
 
 -- where the first part stops, so does the whole
-pub stops_first : {A B : Type 0} (e : Stopped) (p : Progress) (o : Outcome A) (f : A → Run B) → Stops e p o → Stops e p (after o f)
+pub stops_first : {A B : Type 0} (e : Stopped) (p : Progress) (o : Ran A) (f : A → Run B) → Stops e p o → Stops e p (after o f)
 stops_first Memory p o f h = tt
 stops_first (Wants op) p o f h = h
 stops_first (Fault k) p o f h = ap (λ r. after r f) h
+
+-- a run stops where its output does
+pub output_stops : (e : OrMemory ScriptFault) (p : Progress) (o : Ran (Unit {0})) → TellsRan (Err e) p o → Stops (stopped_by e) p o
+output_stops values.Memory p o h = tt
+output_stops (values.Other f) p o h = h
 
 -- a decision is a step, a boolean, and a mark
 pub decides : (d : Datum) (b : Bool) (p q r : Progress) → charge_for d p ≡ goes tt q → bool_in d ≡ Ok b → note (decided b) q ≡ goes tt r → decide d p ≡ goes b r
@@ -56,7 +62,9 @@ calls_issue (of_request (Err f)) op p e = absurd (fault_not f op e)
 calls_issue (operation (Ok o)) op p e = ap (λ x. issue x p) (op_is o op e)
 calls_issue (operation (Err f)) op p e = absurd (fault_not f op e)
 
-module _ (q : Request) (functions : List ℕ) (next : Next) (fs : List Frame) (pc n : ℕ) (st rest st' vs vs' : List Datum) (x : Datum) (p p' r : Progress) (top : st ≡ x ∷ rest) (same : vs' ≡ vs) (account : p' ≡ p) where
+module _ (q : Request) (functions : List ℕ) (next : Next) (fs : List Frame) (pc n : ℕ)
+    (st rest st' vs vs' : List Datum) (x : Datum) (p p' r : Progress) (top : st ≡ x ∷ rest) (same : vs' ≡ vs)
+    (account : p' ≡ p) where
   -- a decision that jumps
   pub branch_jumps : decide x p' ≡ goes false r → st' ≡ rest → step q functions (Some (Branch n)) next fs pc st vs p ≡ next fs (pc + 1 + n) st' vs' r
   branch_jumps d e = rw (top, same, ← account, d, e) refl
@@ -71,21 +79,27 @@ module _ (q : Request) (functions : List ℕ) (next : Next) (fs : List Frame) (p
   each_jumps e = rw (top, same, account, e) refl
 
 -- what is done after a step was spent on the topmost value
-module _ (q : Request) (functions : List ℕ) (next : Next) (fs : List Frame) (pc : ℕ) (st rest vs vs' : List Datum) (x v : Datum) (p p' r : Progress) (top : st ≡ x ∷ rest) (same : vs' ≡ vs) (account : p' ≡ p) (seen : v ≡ x) where
+module _ (q : Request) (functions : List ℕ) (next : Next) (fs : List Frame) (pc : ℕ) (st rest vs vs' : List Datum)
+    (x v : Datum) (p p' r : Progress) (top : st ≡ x ∷ rest) (same : vs' ≡ vs) (account : p' ≡ p) (seen : v ≡ x) where
   pub echo_prints : charge_for x p' ≡ goes tt r → step q functions (Some Echo) next fs pc st vs p ≡ after (print_value v r) (λ u. next fs (pc + 1) rest vs')
   echo_prints d = rw (top, same, ← account, seen, d) refl
 
 -- an instruction stops where its part did
-pub stops_leaves : (then' : Then) (ops : List Op) (more : List Datum) (s : State) (e : Stopped) (o : Outcome Flow) → Stops e (progress_of s.account ops more) o → Leaves then' ops more (Err e) s o
+pub stops_leaves : (then' : Then) (ops : List Op) (more : List Datum) (s : State) (e : Stopped) (o : Ran Flow)
+    → Stops e (progress_of s.account ops more) o → Leaves then' ops more (Err e) s o
 stops_leaves then' ops more s Memory o h = tt
 stops_leaves then' ops more s (Wants op) o h = absurd h
 stops_leaves then' ops more s (Fault f) o h = h
 
 -- a transaction is issued after its step
-pub transact_issues : (q : Request) (functions : List ℕ) (next : Next) (fs : List Frame) (pc : ℕ) (st rest vs ds : List Datum) (shapes : List Shape) (p r : Progress) → topmost (all_taken shapes) st [] ≡ ds → drop (all_taken shapes) st ≡ rest → charge (taking ds) p ≡ goes tt r
-    → step q functions (Some (Transact shapes)) next fs pc st vs p ≡ after (issue_unless_fault (transact_op (all_filled shapes ds)) r) (λ d. next fs (pc + 1) (d ∷ rest) vs)
+pub transact_issues : (q : Request) (functions : List ℕ) (next : Next) (fs : List Frame) (pc : ℕ)
+    (st rest vs ds : List Datum) (shapes : List Shape) (p r : Progress) → topmost (all_taken shapes) st [] ≡ ds
+    → drop (all_taken shapes) st ≡ rest → charge (taking ds) p ≡ goes tt r
+    → step q functions (Some (Transact shapes)) next fs pc st vs p
+    ≡ after (issue_unless_fault (transact_op (all_filled shapes ds)) r) (λ d. next fs (pc + 1) (d ∷ rest) vs)
 transact_issues q functions next fs pc st rest vs ds shapes p r e f h = rw (e, f, h) refl
 
-pub op_fails : (e : OrMemory ScriptFault) (a : OpAnswer) (r : Progress) → Answers {A = Op} {B = Op} (λ x. x) a (Err e) → Stops (stopped_by e) r (issue_unless_fault a r)
+pub op_fails : (e : OrMemory ScriptFault) (a : OpAnswer) (r : Progress) → Answers {A = Op} {B = Op} (λ x. x) a (Err e)
+    → Stops (stopped_by e) r (issue_unless_fault a r)
 op_fails values.Memory a r h = tt
 op_fails (values.Other f) a r h = rw h refl

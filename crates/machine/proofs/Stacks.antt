@@ -49,14 +49,17 @@ one_fewer : (count : ℕ) (taken : List Datum) (x : Datum) → length taken < co
 one_fewer count taken x fewer = omega (arith, length-append taken (x ∷ []))
 
 -- The topmost of those that are left is taken too.
-pub takes_one : (count : ℕ) (all taken left : List Datum) (x : Datum) → length taken < count → IsTaking count all taken (x ∷ left) → IsTaking count all (taken ++ x ∷ []) left
+pub takes_one : (count : ℕ) (all taken left : List Datum) (x : Datum) → length taken < count
+    → IsTaking count all taken (x ∷ left) → IsTaking count all (taken ++ x ∷ []) left
 takes_one count all taken left x fewer is = record {
-  topmost' = ap (topmost (count - length (taken ++ x ∷ [])) left) (reverse-append taken (x ∷ [])) ∙ sym (ap (λ n. topmost n (x ∷ left) (reverse taken)) (one_fewer count taken x fewer)) ∙ is.topmost';
+  topmost' = ap (topmost (count - length (taken ++ x ∷ [])) left) (reverse-append taken (x ∷ []))
+      ∙ sym (ap (λ n. topmost n (x ∷ left) (reverse taken)) (one_fewer count taken x fewer)) ∙ is.topmost';
   left' = sym (ap (λ n. drop n (x ∷ left)) (one_fewer count taken x fewer)) ∙ is.left';
 }
 
 -- So many are taken.
-pub takes_all : (count : ℕ) (all taken left : List Datum) → count ≤ length taken → IsTaking count all taken left → (reverse taken ≡ topmost count all []) × (left ≡ drop count all)
+pub takes_all : (count : ℕ) (all taken left : List Datum) → count ≤ length taken → IsTaking count all taken left
+    → (reverse taken ≡ topmost count all []) × (left ≡ drop count all)
 takes_all count all taken left enough is =
     let none : count - length taken ≡ 0 = omega (arith, enough) in
     (sym (ap (λ n. topmost n left (reverse taken)) none) ∙ is.topmost', sym (ap (λ n. drop n left) none) ∙ is.left')

@@ -42,7 +42,8 @@ more_traces t ts = ap decided_in (last t ts) ∙ decided_both (reverse ts) (t �
 
 backwards : (ts : List BareMark) (ops : List Op) → decisions (reverse (marks_back ts ops)) ≡ decided_in (reverse ts)
 backwards [] ops = refl
-backwards (left.Decided b ∷ ts) ops = more_marks (decided b) (marks_back ts ops) ∙ ap (λ ds. ds ++ b ∷ []) (backwards ts ops) ∙ sym (more_traces (left.Decided b) ts)
+backwards (left.Decided b ∷ ts) ops = more_marks (decided b) (marks_back ts ops)
+    ∙ ap (λ ds. ds ++ b ∷ []) (backwards ts ops) ∙ sym (more_traces (left.Decided b) ts)
 backwards (left.Issued ∷ ts) [] = more_marks (issued untold) (marks_back ts []) ∙ ap (λ ds. ds ++ []) (backwards ts []) ∙ sym (more_traces left.Issued ts)
 backwards (left.Issued ∷ ts) (op ∷ ops) = more_marks (issued op) (marks_back ts ops) ∙ ap (λ ds. ds ++ []) (backwards ts ops) ∙ sym (more_traces left.Issued ts)
 
@@ -53,7 +54,8 @@ same_decisions ts ops = backwards (reverse ts) ops ∙ ap decided_in (reverse-re
 
 bare_reversed : (ms : List Mark) → bare_trail (reverse ms) ≡ reverse (bare_trail ms)
 bare_reversed [] = refl
-bare_reversed (m ∷ ms) = ap bare_trail (last m ms) ∙ map-append bare (reverse ms) (m ∷ []) ∙ ap (λ ts. ts ++ bare m ∷ []) (bare_reversed ms) ∙ sym (last (bare m) (bare_trail ms))
+bare_reversed (m ∷ ms) = ap bare_trail (last m ms) ∙ map-append bare (reverse ms) (m ∷ [])
+    ∙ ap (λ ts. ts ++ bare m ∷ []) (bare_reversed ms) ∙ sym (last (bare m) (bare_trail ms))
 
 bare_back : (ts : List BareMark) (ops : List Op) → bare_trail (marks_back ts ops) ≡ ts
 bare_back [] ops = refl

@@ -15,6 +15,7 @@ without n (v.number x) = v.number x
 without n (v.text bytes) = v.text bytes
 without n (v.list ds) = v.list (data_of (drop n (members ds)))
 
+-- what is left of a value, of whose members n are taken
 abbrev pub left_of : ℕ → Datum → Datum
 left_of zero d = d
 left_of (suc n) d = without (suc n) d

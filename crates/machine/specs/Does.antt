@@ -2,14 +2,13 @@
 use Rattle.std.specs.Prelude.{suc, ◌≡◌, ◌≤◌, ◌<◌, ◌+◌, ◌-◌, ◌*◌, ℕ, List, [], ◌∷◌, length, Some, Result, Ok, Err, OnOk}
 use Rattle.script_tree.specs.Datum.{Datum}
 use Rattle.script_tree.specs.Requests.{Request}
-use Rattle.script_tree.specs.declared.fault.ScriptFault.TheVariants.{WrongKind}
 use Rattle.script_tree.specs.declared.limits.TheConstants.{MOST_STEPS}
 use Rattle.script_meaning.specs.BuiltinCalls.{Call}
 use Rattle.script_meaning.specs.Evaluate.{Flow, on, call_made}
 use Rattle.script_meaning.specs.Operations.{Op}
-use Rattle.script_meaning.specs.Run.{Progress, Outcome, goes, stops, after, answered, issue, Run, ◌>>◌}
+use Rattle.script_meaning.specs.Run.{Progress, Ran, goes, stops, after, answered, issue, Run, ◌>>◌}
 use Rattle.script_meaning.specs.declared.run.Stop.TheVariants.{Fault as fault}
-use Rattle.script_code.specs.CodeRun.{Frame, Next, step, exec, back_to}
+use Rattle.script_code.specs.CodeRun.{Frame, Next, lacking, step, exec, back_to}
 use Rattle.script_code.specs.declared.instruction.Instruction.{Instruction}
 use Rattle.machine.specs.Gives.{progress_of, spend}
 use Rattle.machine.specs.declared.run.Run.{Run as Machine}
@@ -26,12 +25,12 @@ abbrev pub Then : Type 0
 Then = (stack slots : List Datum) → Run Flow
 
 -- the same with the answer to an operation on the stack
-abbrev pub with_answer : Then → State → Op → (ops : List Op) → (more : List Datum) → Outcome Flow
+abbrev pub with_answer : Then → State → Op → (ops : List Op) → (more : List Datum) → Ran Flow
 with_answer then' s op ops more = after (answered op more (progress_of s.account ops more)) (λ d. then' (d ∷ s.stack) s.slots.items)
 
--- The outcome is that of going on with the state that is left, or the run is over or stops there. Of a call that ran out
--- of memory nothing is said.
-abbrev pub Leaves : Then → (ops : List Op) → (more : List Datum) → Result Went Stopped → State → Outcome Flow → Type 0
+-- A run came to what going on with the state that is left comes to, or is over or stops there. Of a call that ran out of
+-- memory nothing is said.
+abbrev pub Leaves : Then → (ops : List Op) → (more : List Datum) → Result Went Stopped → State → Ran Flow → Type 0
 Leaves then' ops more (Ok On) s o = o ≡ then' s.stack s.slots.items (progress_of s.account ops more)
 Leaves then' ops more (Ok Over) s o = o ≡ goes (on []) (progress_of s.account ops more)
 Leaves then' ops more (Err Memory) s o = Unit {0}
@@ -46,6 +45,7 @@ DoesFor q i old result new =
     (functions : List ℕ) (next : Next) (fs : List Frame) (pc : ℕ) (ops : List Op) (more : List Datum)
     → Leaves (next fs (pc + 1)) ops more result new (step q functions (Some i) next fs pc old.stack old.slots.items (progress_of old.account ops more))
 
+-- The same for any request.
 abbrev pub Does : Instruction → State → Result Went Stopped → State → Type 0
 Does i old result new = (q : Request) → DoesFor q i old result new
 
@@ -53,7 +53,9 @@ Does i old result new = (q : Request) → DoesFor q i old result new
 abbrev pub DoesBoth : Instruction → Instruction → State → Result Went Stopped → State → Type 0
 DoesBoth i j old result new =
     (q : Request) (functions : List ℕ) (next : Next) (fs : List Frame) (pc : ℕ) (ops : List Op) (more : List Datum)
-    → Leaves (next fs (pc + 1 + 1)) ops more result new (step q functions (Some i) (step q functions (Some j) next) fs pc old.stack old.slots.items (progress_of old.account ops more))
+    → Leaves (next fs (pc + 1 + 1)) ops more result new
+    (step q functions (Some i) (step q functions (Some j) next) fs pc old.stack old.slots.items
+    (progress_of old.account ops more))
 
 -- No step is given back.
 abbrev pub Rises : State → Result Went Stopped → State → Type 0
@@ -74,15 +76,15 @@ Calls c old result new =
 -- ---- any instruction
 
 -- what comes of going on where the machine stands
-abbrev pub onward : Next → Machine → (ops : List Op) → (more : List Datum) → Outcome Flow
+abbrev pub onward : Next → Machine → (ops : List Op) → (more : List Datum) → Ran Flow
 onward next m ops more = next m.frames m.place m.state.stack m.state.slots.items (progress_of m.state.account ops more)
 
 -- the same with the answer to an operation that it wants
-abbrev pub answered_on : Next → Machine → Op → (ops : List Op) → (more : List Datum) → Outcome Flow
+abbrev pub answered_on : Next → Machine → Op → (ops : List Op) → (more : List Datum) → Ran Flow
 answered_on next m op ops more = with_answer (next m.frames m.place) m.state op ops more
 
--- The outcome is that of going on where the machine stands, or the run is over or stops there.
-abbrev pub Comes : Next → (ops : List Op) → (more : List Datum) → Result Went Stopped → Machine → Outcome Flow → Type 0
+-- A run came to what going on where the machine stands comes to, or is over or stops there.
+abbrev pub Comes : Next → (ops : List Op) → (more : List Datum) → Result Went Stopped → Machine → Ran Flow → Type 0
 Comes next ops more result m o = Leaves (next m.frames m.place) ops more result m.state o
 
 -- The machine goes back to where the call was with this value; without one the page is over.
@@ -94,14 +96,16 @@ Returns d old result new =
 -- past the end of the code nothing is done
 abbrev pub EndsAt : ℕ → Next → Type 0
 EndsAt len next =
-    (fs : List Frame) (pc : ℕ) (stack slots : List Datum) (p : Progress) → len ≤ pc → next fs pc stack slots p ≡ stops (fault WrongKind) p
+    (fs : List Frame) (pc : ℕ) (stack slots : List Datum) (p : Progress) → len ≤ pc → next fs pc stack slots p ≡ stops (fault lacking) p
 
 -- The machine does this instruction, which is at this place of code of this length, whatever comes next.
 abbrev pub ActsFor : Request → List ℕ → Instruction → (len place : ℕ) → Machine → Result Went Stopped → Machine → Type 0
 ActsFor q functions i len place old result new =
     (next : Next) (ops : List Op) (more : List Datum) → EndsAt len next
-    → Comes next ops more result new (step q functions (Some i) next old.frames place old.state.stack old.state.slots.items (progress_of old.state.account ops more))
+    → Comes next ops more result new (step q functions
+    (Some i) next old.frames place old.state.stack old.state.slots.items (progress_of old.state.account ops more))
 
+-- The same for any request, and wherever functions begin.
 abbrev pub Acts : Instruction → (len place : ℕ) → Machine → Result Went Stopped → Machine → Type 0
 Acts i len place old result new = (q : Request) (functions : List ℕ) → ActsFor q functions i len place old result new
 
@@ -115,6 +119,7 @@ allowance m = (MOST_STEPS - m.state.account.steps) * 2 + length m.frames
 abbrev pub rank : (len place : ℕ) → Machine → ℕ
 rank len place m = allowance m * (len + 1) + (len - place)
 
+-- What a machine may still do became less, so that its run ends.
 abbrev pub Falls : (len place : ℕ) → Machine → Machine → Type 0
 Falls len place old new = rank len new.place new < rank len place old
 
@@ -123,15 +128,18 @@ Falls len place old new = rank len new.place new < rank len place old
 -- the instruction that is next, and n behind it that are done with it, and whatever so many more do
 abbrev pub StepsOn : Request → List ℕ → List Instruction → Machine → Result Went Stopped → Machine → Type 0
 StepsOn q functions code old result new =
-    (n : ℕ) × ((k : ℕ) (ops : List Op) (more : List Datum) → Comes (exec q functions code k) ops more result new (onward (exec q functions code (n + suc k)) old ops more))
+    (n : ℕ) × ((k : ℕ) (ops : List Op) (more : List Datum)
+    → Comes (exec q functions code k) ops more result new
+    (onward (exec q functions code (n + suc k)) old ops more))
 
 -- after some number of instructions the run is over, or stops
-abbrev pub Stands : Request → List ℕ → List Instruction → (ops : List Op) → (more : List Datum) → Result (Unit {0}) Stopped → Machine → (ℕ → Outcome Flow) → Type 0
+abbrev pub Stands : Request → List ℕ → List Instruction → (ops : List Op) → (more : List Datum) → Result (Unit {0}) Stopped → Machine → (ℕ → Ran Flow) → Type 0
 Stands q functions code ops more (Ok u) m here = (n : ℕ) × ((k : ℕ) → here (n + k) ≡ goes (on []) (progress_of m.state.account ops more))
 Stands q functions code ops more (Err Memory) m here = Unit {0}
 Stands q functions code ops more (Err (Wants op)) m here = (n : ℕ) × ((k : ℕ) → here (n + k) ≡ answered_on (exec q functions code k) m op ops more)
 Stands q functions code ops more (Err (Fault f)) m here = (n : ℕ) × ((k : ℕ) → here (n + k) ≡ stops (fault f) (progress_of m.state.account ops more))
 
+-- The machine runs on until its run is over, or stops, whatever operations were answered and answers are to come.
 abbrev pub Runs : Request → List ℕ → List Instruction → Machine → Result (Unit {0}) Stopped → Machine → Type 0
 Runs q functions code old result new =
     (ops : List Op) (more : List Datum) → Stands q functions code ops more result new (λ k. onward (exec q functions code k) old ops more)

@@ -6,7 +6,7 @@ use Rattle.script_tree.specs.Requests.{Request}
 use Rattle.script_meaning.specs.Conduct.{conduct, start}
 use Rattle.script_meaning.specs.Evaluate.{Flow}
 use Rattle.script_meaning.specs.Operations.{Op}
-use Rattle.script_meaning.specs.Run.{Outcome, stops}
+use Rattle.script_meaning.specs.Run.{Ran, stops}
 use Rattle.script_meaning.specs.declared.run.Mark.{Mark}
 use Rattle.script_meaning.specs.declared.run.Stop.TheVariants.{AnswerFault as answer_fault}
 use Rattle.script_code.specs.Code.{Entry}
@@ -25,6 +25,7 @@ use Rattle.machine.specs.declared.run.Run.{Run}
 
 -- ---- what a machine can be asked for
 
+-- where what is next of a run can be done
 abbrev pub ready_in : Phase → Type 0
 ready_in Running = Unit {0}
 ready_in Waiting = ⊥
@@ -45,6 +46,7 @@ IsWaiting m = m.phase ≡ Waiting
 abbrev pub IsOver : Machine → Type 0
 IsOver m = m.phase ≡ Over
 
+-- where a run went as far as it can
 abbrev pub stopped_in : Phase → Type 0
 stopped_in Running = ⊥
 stopped_in Waiting = Unit {0}
@@ -69,31 +71,32 @@ WaitsAfter (Ends response path) m = IsOver m
 -- ---- where it stands
 
 -- one run of instructions leads to another: after some number of them it does what the other does
-abbrev pub Reaches : (ℕ → Outcome Flow) → (ℕ → Outcome Flow) → Type 0
+abbrev pub Reaches : (ℕ → Ran Flow) → (ℕ → Ran Flow) → Type 0
 Reaches here there = (n : ℕ) × ((k : ℕ) → here (n + k) ≡ there k)
 
 -- the run of a page from its start with these answers, within so many instructions
-abbrev pub begun : Request → Code → Entry → List Datum → ℕ → Outcome Flow
+abbrev pub begun : Request → Code → Entry → List Datum → ℕ → Ran Flow
 begun q code entry answers k = exec q code.functions.items code.instructions.items k [] entry.place [] [] (start answers)
 
 -- Whatever answers are still to come, the run from its start leads there.
-pub record Leads (q : Request) (code : Code) (entry : Entry) (answers : List Datum) (there : (ops : List Op) (more : List Datum) → ℕ → Outcome Flow) : Type 0 where
+pub record Leads (q : Request) (code : Code) (entry : Entry) (answers : List Datum) (there : (ops : List Op) (more : List Datum) → ℕ → Ran Flow) : Type 0 where
   -- the operations that were answered, the last one first
   pub ops : List Op
   pub leads : (more : List Datum) → Reaches (begun q code entry (answers ++ more)) (there ops more)
 
 -- the run goes on where the machine stands
-abbrev pub going : Request → Code → Run → (ops : List Op) (more : List Datum) → ℕ → Outcome Flow
+abbrev pub going : Request → Code → Run → (ops : List Op) (more : List Datum) → ℕ → Ran Flow
 going q code r ops more k = onward (exec q code.functions.items code.instructions.items k) r ops more
 
 -- it goes on there with the answer to this operation
-abbrev pub wanting : Request → Code → Run → Op → (ops : List Op) (more : List Datum) → ℕ → Outcome Flow
+abbrev pub wanting : Request → Code → Run → Op → (ops : List Op) (more : List Datum) → ℕ → Ran Flow
 wanting q code r op ops more k = answered_on (exec q code.functions.items code.instructions.items k) r op ops more
 
 -- it stops at an answer beyond the limits of a value
-abbrev pub refused : Run → (ops : List Op) (more : List Datum) → ℕ → Outcome Flow
+abbrev pub refused : Run → (ops : List Op) (more : List Datum) → ℕ → Ran Flow
 refused r ops more k = stops answer_fault (progress_of r.state.account ops more)
 
+-- The run from its start with these answers leads to where the machine stands, by what is next of it.
 abbrev pub IsThere : Request → Code → Entry → List Datum → Run → Phase → Type 0
 IsThere q code entry answers r Running = Leads q code entry answers (going q code r)
 IsThere q code entry answers r Waiting = (op : Op) × Leads q code entry answers (wanting q code r op)
@@ -110,6 +113,7 @@ OnPage q code answers page r phase = (entry : Entry) × (pages_of code q.path �
 abbrev pub HasTrail : List Mark → Run → Type 0
 HasTrail marks r = r.state.account.trail.items ≡ bare_trail marks
 
+-- The machine stands where the program stands after these answers, on this page, by what is next of its run.
 abbrev pub StandsIn : Program → Request → Code → List Datum → (page : ℕ) → Run → Phase → Type 0
 StandsIn program q code answers page r Running = OnPage q code answers page r Running
 StandsIn program q code answers page r Waiting = OnPage q code answers page r Waiting

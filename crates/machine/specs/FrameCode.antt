@@ -5,6 +5,7 @@ use Rattle.script_tree.specs.Datum.{Datum}
 use Rattle.script_tree.specs.DatumCode.{coded_datum}
 use Rattle.script_code.specs.CodeRun.{Frame}
 
+-- where a call goes on, as a number
 abbrev pub coded_frame : Coded Frame
 coded_frame =
     code_by (ℕ × (List Datum × List Datum)) (coded× coded_ℕ (coded× (coded_list coded_datum) (coded_list coded_datum)))

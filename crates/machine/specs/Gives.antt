@@ -4,11 +4,11 @@ use Rattle.basis.specs.declared.or_memory.OrMemory.{OrMemory}
 use Rattle.basis.specs.declared.or_memory.OrMemory.TheVariants as values
 use Rattle.script_tree.specs.Datum.{Datum, null, bool}
 use Rattle.script_tree.specs.declared.fault.ScriptFault.{ScriptFault}
-use Rattle.script_tree.specs.declared.fault.ScriptFault.TheVariants.{WrongKind}
+use Rattle.script_code.specs.CodeRun.{lacking}
 use Rattle.script_tree.specs.declared.operation.Act.TheVariants.{Now}
 use Rattle.script_tree.specs.declared.operation.Object.TheVariants.{Clock}
 use Rattle.script_meaning.specs.Operations.{Op}
-use Rattle.script_meaning.specs.Run.{Progress, Outcome, goes, stops, Run, charge, taking, decide_by}
+use Rattle.script_meaning.specs.Run.{Progress, Ran, goes, stops, Run, charge, taking, decide_by}
 use Rattle.script_meaning.specs.declared.run.Mark.{Mark}
 use Rattle.script_meaning.specs.declared.run.Mark.TheVariants.{Decided as decided, Issued as issued}
 use Rattle.script_meaning.specs.declared.run.Stop.TheVariants.{Fault as fault}
@@ -41,8 +41,8 @@ progress_of a ops more = record {
   costs = None;
   trail = marks_of a.trail.items ops;
   answers = more;
-  status = a.status;
-  body = a.body.items;
+  status = a.output.status;
+  body = a.output.body;
 }
 
 -- a step is spent; no machine keeps what on, so that any cost will do
@@ -59,13 +59,13 @@ stopped_by values.Memory = Memory
 stopped_by (values.Other f) = Fault f
 
 -- The run stops at a fault, with this progress. Of a call that ran out of memory nothing is said. No operation is wanted.
-abbrev pub Stops : {A : Type 0} → Stopped → Progress → Outcome A → Type 0
+abbrev pub Stops : {A : Type 0} → Stopped → Progress → Ran A → Type 0
 Stops Memory p o = Unit {0}
 Stops (Wants op) p o = ⊥
 Stops (Fault f) p o = o ≡ stops (fault f) p
 
 -- The run goes on with the value that was returned, seen by a view, or it stops.
-abbrev pub Gives : {X A : Type 0} → (X → A) → Result X Stopped → Progress → Outcome A → Type 0
+abbrev pub Gives : {X A : Type 0} → (X → A) → Result X Stopped → Progress → Ran A → Type 0
 Gives view (Ok x) p o = o ≡ goes (view x) p
 Gives view (Err e) p o = Stops e p o
 
@@ -74,12 +74,11 @@ abbrev pub Pops : List Datum → List Datum → Result Datum Stopped → Type 0
 Pops old new (Ok d) = old ≡ d ∷ new
 Pops old new (Err Memory) = Unit {0}
 Pops old new (Err (Wants op)) = ⊥
-Pops old new (Err (Fault f)) = (old ≡ []) × (f ≡ WrongKind)
+Pops old new (Err (Fault f)) = (old ≡ []) × (f ≡ lacking)
 
 -- The mark of an operation is left, and all else is as it was.
 pub record IsNoted (old new : Account) : Type 0 where
   pub steps : new.steps ≡ old.steps
   pub operations : new.operations ≡ old.operations
   pub trail : new.trail.items ≡ old.trail.items ++ left.Issued ∷ []
-  pub status : new.status ≡ old.status
-  pub body : new.body ≡ old.body
+  pub output : new.output ≡ old.output

@@ -6,6 +6,5 @@ pub mod FrameCode
 pub mod FramesView
 pub mod Gives
 pub mod Places
-pub mod Statuses
 pub mod Told
 pub mod Trail

@@ -19,5 +19,6 @@ pub record IsCharged (old new : Run) : Type 0 where
   pub steps : new.state.account.steps ≡ old.state.account.steps + 1
   pub frames : new.frames ≡ old.frames
 
+-- If the run goes on, an instruction was done for a step.
 abbrev pub Charges : Run → Result Went Stopped → Run → Type 0
 Charges old result new = result ≡ Ok On → IsCharged old new

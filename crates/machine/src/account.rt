@@ -2,6 +2,7 @@ ghost use Rattle.std.specs.Prelude.{◌≤◌};
 ghost use Rattle.script_tree.specs.declared.limits.TheConstants.{MOST_STEPS, MOST_OPERATIONS};
 
 use script_tree::limits::{MOST_OPERATIONS, MOST_STEPS};
+use script_values::Output;
 
 /// A mark of a run's trail: a decision, or that an operation was answered, whichever it was.
 #[derive(Clone, Copy, PartialEq, Eq)]
@@ -16,8 +17,7 @@ pub(crate) struct Account {
     pub(crate) steps: u32,
     pub(crate) operations: u32,
     pub(crate) trail: Vec<BareMark>,
-    pub(crate) status: u16,
-    pub(crate) body: Vec<u8>,
+    pub(crate) output: Output,
     ghost spent: { steps ≤ MOST_STEPS },
     ghost issued: { operations ≤ MOST_OPERATIONS },
 }

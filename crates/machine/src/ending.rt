@@ -7,12 +7,11 @@ ghost use Rattle.machine.specs.Gives.{progress_of};
 ghost use Rattle.machine.specs.Told.{ending_of};
 
 use crate::account::Account;
-use script_meaning::status::{FAULT_STATUS, NO_PAGE_STATUS};
+use script_meaning::responses::{fault_response, no_page_path, no_page_response};
 use script_tree::fault::ScriptFault;
 use script_tree::operation::Op;
-use script_tree::path::{Decisions, End, Path};
+use script_tree::path::{End, Path};
 use script_tree::request::Response;
-use script_tree::text::Text;
 use std::alloc::{AllocError, Global};
 
 /// What a run wants next, or how it is over.
@@ -31,7 +30,7 @@ pub(crate) fn ended(
     ensures ends { (ops : List Operation) (more : List Datum) → IfOk result (λ step. ending_of step
         ≡ Ends (response_of (progress_of account.old ops more))
         (path_of page (progress_of account.old ops more) End.Normal)) }
-    ensures rest { account.new ≡ record account.old { body = account.new.body } }
+    ensures rest { account.new ≡ record account.old { output = account.new.output } }
 {
     let path = account.path(alloc, page, End::Normal)?;
     Ok(MachineStep::Ends(account.take_response(alloc), path))
@@ -56,25 +55,6 @@ pub(crate) fn faulted(
 pub(crate) fn no_page(alloc: Global) -> Result<MachineStep, AllocError>
     ensures { IfOk result (λ step. ending_of step ≡ (no_page []).ending) }
 {
-    let response = Response {
-        status: NO_PAGE_STATUS,
-        body: Text::from_vec(b"no page\n".to_vec(alloc)?),
-    };
-    let path = Path {
-        page: None,
-        decisions: Decisions::new(alloc),
-        steps: 0,
-        end: End::Normal,
-    };
-    Ok(MachineStep::Ends(response, path))
-}
-
-fn fault_response(alloc: Global, fault: ScriptFault) -> Result<Response, AllocError>
-    ensures { IfOk result (λ response. response ≡ fault_response fault) }
-{
-    let line = format!(in alloc; "{fault}\n")?;
-    Ok(Response {
-        status: FAULT_STATUS,
-        body: Text::from_vec(line.into_bytes()),
-    })
+    let response = no_page_response(alloc)?;
+    Ok(MachineStep::Ends(response, no_page_path(alloc)))
 }

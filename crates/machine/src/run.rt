@@ -30,7 +30,8 @@ pub(crate) struct Run<'c> {
 }
 
 impl<'c> Run<'c> {
-    /// Passes so many instructions after this one.
+    /// Passes so many instructions after this one. Code that lacks them is out of steps, as all code
+    /// that lacks what an instruction takes: none of a program does.
     #[inline(always)]
     fn jump(&mut self, place: usize, count: usize, len: usize) -> Result<Went, Stopped>
         requires { IsPlaceOf len place }
@@ -40,7 +41,7 @@ impl<'c> Run<'c> {
         ensures state { self.new.state ≡ self.old.state }
     {
         if count > len {
-            return Err(Stopped::Fault(ScriptFault::WrongKind));
+            return Err(Stopped::Fault(ScriptFault::OutOfSteps));
         }
         self.place = place + 1 + count;
         Ok(Went::On)
@@ -176,7 +177,7 @@ impl<'c> Run<'c> {
         let values = self.state.stack.take_into(alloc, count, room)?;
         self.state.account.charge()?;
         let Some(start) = functions.get(function) else {
-            return Err(Stopped::Fault(ScriptFault::WrongKind));
+            return Err(Stopped::Fault(ScriptFault::OutOfSteps));
         };
         if self.frames.len() == MOST_CALL_DEPTH as usize {
             return Err(Stopped::Fault(ScriptFault::TooDeep));
@@ -297,7 +298,7 @@ impl<'c> Run<'c> {
     {
         let place = self.place;
         match code.instructions.get(place) {
-            None => Err(Stopped::Fault(ScriptFault::WrongKind)),
+            None => Err(Stopped::Fault(ScriptFault::OutOfSteps)),
             Some(instruction) => match (instruction, code.instructions.get(place + 1)) {
                 (Instruction::Binary(operator), Some(Instruction::Assign(slot))) => {
                     self.place = place + 2;

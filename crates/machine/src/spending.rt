@@ -1,24 +1,22 @@
 ghost use Rattle.std.specs.Prelude.{◌≡◌, ◌+◌, List, [], IfOk, OnOk};
 ghost use Rattle.script_tree.specs.Datum.{Datum};
 ghost use Rattle.script_meaning.specs.Conduct.{path_of, response_of, start};
-ghost use Rattle.script_meaning.specs.Evaluate.{print, print_value};
+ghost use Rattle.script_meaning.specs.Evaluate.{print_value};
 ghost use Rattle.script_meaning.specs.Operations.{Op as Operation};
 ghost use Rattle.script_meaning.specs.Run.{count_operation, decide, note, goes};
 ghost use Rattle.script_meaning.specs.declared.run.Mark.TheVariants.{Decided as decided};
+ghost use Rattle.script_values.specs.Outputs.{set_status_in};
 ghost use Rattle.machine.specs.Gives.{Gives, IsNoted, progress_of, spend, decide_so};
-ghost use Rattle.machine.specs.Statuses.{set_status_in};
 ghost use Rattle.machine.specs.Decided.{decided_in};
 
 use crate::account::{Account, BareMark};
 use crate::stopped::Stopped;
-use script_meaning::status::USUAL_STATUS;
 use script_tree::fault::ScriptFault;
-use script_tree::limits::{MOST_BODY_BYTES, MOST_OPERATIONS, MOST_STEPS};
+use script_tree::limits::{MOST_OPERATIONS, MOST_STEPS};
 use script_tree::path::{Decisions, End, Path};
 use script_tree::request::Response;
-use script_tree::text::Text;
 use script_tree::value::Value;
-use script_values::{bool_in, printed, status_in};
+use script_values::{Output, bool_in};
 use std::alloc::{AllocError, Global};
 use std::mem;
 
@@ -30,8 +28,7 @@ impl Account {
             steps: 0,
             operations: 0,
             trail: Vec::new(alloc),
-            status: USUAL_STATUS,
-            body: Vec::new(alloc),
+            output: Output::new(alloc),
         }
     }
 
@@ -101,19 +98,6 @@ impl Account {
         Ok(())
     }
 
-    /// Adds bytes to the body.
-    fn print(&mut self, bytes: &[u8]) -> Result<(), Stopped>
-        ensures gives { (ops : List Operation) (more : List Datum) → Gives (λ _. tt) result
-            (progress_of self.new ops more) (print bytes.now (progress_of self.old ops more)) }
-        ensures steps { self.new.steps ≡ self.old.steps }
-    {
-        if bytes.len() > MOST_BODY_BYTES || self.body.len() > MOST_BODY_BYTES - bytes.len() {
-            return Err(Stopped::Fault(ScriptFault::TooLarge));
-        }
-        self.body.extend_from_slice(bytes)?;
-        Ok(())
-    }
-
     /// Adds the text of a value to the body.
     pub(crate) fn print_value(&mut self, alloc: Global, value: &Value) -> Result<(), Stopped>
         ensures gives { (ops : List Operation) (more : List Datum) → Gives (λ _. tt) result
@@ -121,8 +105,8 @@ impl Account {
             (print_value value.now (progress_of self.old ops more)) }
         ensures steps { self.new.steps ≡ self.old.steps }
     {
-        let text = printed(alloc, value)?;
-        self.print(text.as_bytes())
+        self.output.print_value(alloc, value)?;
+        Ok(())
     }
 
     /// Sets the status that a value is.
@@ -132,7 +116,7 @@ impl Account {
             (set_status_in value.now (progress_of self.old ops more)) }
         ensures steps { self.new.steps ≡ self.old.steps }
     {
-        self.status = status_in(value)?;
+        self.output.set_status(value)?;
         Ok(())
     }
 
@@ -153,13 +137,9 @@ impl Account {
     pub(crate) fn take_response(&mut self, alloc: Global) -> Response
         ensures response { (ops : List Operation) (more : List Datum)
             → result ≡ response_of (progress_of self.old ops more) }
-        ensures rest { self.new ≡ record self.old { body = self.new.body } }
+        ensures rest { self.new ≡ record self.old { output = self.new.output } }
     {
-        let body = mem::replace(&mut self.body, Vec::new(alloc));
-        Response {
-            status: self.status,
-            body: Text::from_vec(body),
-        }
+        mem::replace(&mut self.output, Output::new(alloc)).into_response()
     }
 }
 

@@ -77,7 +77,7 @@ impl<'c> Stack<'c> {
     {
         match self.cells.pop() {
             Some(cell) => Ok(cell),
-            None => Err(Stopped::Fault(ScriptFault::WrongKind)),
+            None => Err(Stopped::Fault(ScriptFault::OutOfSteps)),
         }
     }
 

@@ -17,10 +17,12 @@ use Rattle.multi_bodies.specs.Printing.{PrintsAll}
 
 pub one_more_piece : (i : ℕ) (ms : List Many) (m : Many) → body_at i (ms ++ m ∷ []) ≡ body_at i ms ++ bytes_of (member_value m i)
 one_more_piece i [] m = append-nil (bytes_of (member_value m i))
-one_more_piece i (k ∷ ms) m = ap (λ b. bytes_of (member_value k i) ++ b) (one_more_piece i ms m) ∙ sym (append_assoc (bytes_of (member_value k i)) (body_at i ms) (bytes_of (member_value m i)))
+one_more_piece i (k ∷ ms) m = ap (λ b. bytes_of (member_value k i) ++ b) (one_more_piece i ms m)
+    ∙ sym (append_assoc (bytes_of (member_value k i)) (body_at i ms) (bytes_of (member_value m i)))
 
 pub longer : (i : ℕ) (ms : List Many) (m : Many) (len : ℕ) → IsTextOf len (member_value m i) → length (body_at i (ms ++ m ∷ [])) ≡ length (body_at i ms) + len
-longer i ms m len t = ap length (one_more_piece i ms m) ∙ length-append (body_at i ms) (bytes_of (member_value m i)) ∙ ap (λ n. length (body_at i ms) + n) t.length'
+longer i ms m len t = ap length (one_more_piece i ms m) ∙ length-append (body_at i ms) (bytes_of (member_value m i))
+    ∙ ap (λ n. length (body_at i ms) + n) t.length'
 
 -- ---- a text that is printed
 
@@ -34,32 +36,38 @@ print_so : (d : Datum) (len : ℕ) (p : Progress) → IsTextOf len d → print_t
 print_so d len p t = ap (λ r. after (unless_fault r p) print) t.bytes
 
 -- one that has room
-pub fits : (i : ℕ) (ms : List Many) (m : Many) (len : ℕ) (p : Progress) → IsTextOf len (member_value m i) → p.body ≡ body_at i ms → length (body_at i ms) + len ≤ MOST_BODY_BYTES
+pub fits : (i : ℕ) (ms : List Many) (m : Many) (len : ℕ) (p : Progress) → IsTextOf len (member_value m i)
+    → p.body ≡ body_at i ms → length (body_at i ms) + len ≤ MOST_BODY_BYTES
     → print_text (member_value m i) p ≡ goes tt (record p { body = body_at i (ms ++ m ∷ []) })
 fits i ms m len p t is room =
     let d = member_value m i in
     let whole : p.body ++ bytes_of d ≡ body_at i (ms ++ m ∷ []) = ap (λ b. b ++ bytes_of d) is ∙ sym (one_more_piece i ms m) in
     let within : length (p.body ++ bytes_of d) ≤ MOST_BODY_BYTES = subst (λ k. k ≤ MOST_BODY_BYTES) (sym (ap length whole ∙ longer i ms m len t)) room in
     print_so d len p t
-    ∙ ap (λ b. cond b (stops (fault TooLarge) p) (goes tt (record p { body = p.body ++ bytes_of d }))) (not_over (length (p.body ++ bytes_of d)) MOST_BODY_BYTES within)
+    ∙ ap (λ b. cond b (stops (fault TooLarge) p) (goes tt (record p { body = p.body ++ bytes_of d })))
+    (not_over (length (p.body ++ bytes_of d)) MOST_BODY_BYTES within)
     ∙ ap (λ b. goes tt (record p { body = b })) whole
 
 -- one that has none
-pub too_large : (i : ℕ) (ms : List Many) (m : Many) (len : ℕ) (p : Progress) → IsTextOf len (member_value m i) → p.body ≡ body_at i ms → MOST_BODY_BYTES < length (body_at i ms) + len
+pub too_large : (i : ℕ) (ms : List Many) (m : Many) (len : ℕ) (p : Progress) → IsTextOf len (member_value m i)
+    → p.body ≡ body_at i ms → MOST_BODY_BYTES < length (body_at i ms) + len
     → print_text (member_value m i) p ≡ stops (fault TooLarge) p
 too_large i ms m len p t is over =
     let d = member_value m i in
     let whole : p.body ++ bytes_of d ≡ body_at i (ms ++ m ∷ []) = ap (λ b. b ++ bytes_of d) is ∙ sym (one_more_piece i ms m) in
     let beyond : MOST_BODY_BYTES < length (p.body ++ bytes_of d) = subst (λ k. MOST_BODY_BYTES < k) (sym (ap length whole ∙ longer i ms m len t)) over in
     print_so d len p t
-    ∙ ap (λ b. cond b (stops (fault TooLarge) p) (goes tt (record p { body = p.body ++ bytes_of d }))) (is_over (length (p.body ++ bytes_of d)) MOST_BODY_BYTES beyond)
+    ∙ ap (λ b. cond b (stops (fault TooLarge) p) (goes tt (record p { body = p.body ++ bytes_of d })))
+    (is_over (length (p.body ++ bytes_of d)) MOST_BODY_BYTES beyond)
 
 -- ---- the lengths of bodies
 
 abbrev pub largest : ℕ
 largest = 18446744073709551615
 
-pub grown_more : (k : ℕ) (m : Many) (own old new : List ℕ) (x len : ℕ) → AreGrown k largest m own old → new ≡ old ++ x ∷ [] → IsTextOf len (member_value m k) → x ≡ min (get_or own k 0 + len) largest → AreGrown (k + 1) largest m own new
+pub grown_more : (k : ℕ) (m : Many) (own old new : List ℕ) (x len : ℕ) → AreGrown k largest m own old
+    → new ≡ old ++ x ∷ [] → IsTextOf len (member_value m k) → x ≡ min (get_or own k 0 + len) largest
+    → AreGrown (k + 1) largest m own new
 grown_more k m own old new x len h is t e = (
   ap length is ∙ length-append old (x ∷ []) ∙ ap (λ n. n + 1) h.0,
   below_more (λ i. (l : ℕ) × IsTextOf l (member_value m i) × (get_or new i 0 ≡ min (get_or own i 0 + l) largest)) k
@@ -77,7 +85,8 @@ beyond a b c e h = grind (arith, nat_tests, e, h)
 
 module _ (old new : List Many) (m : Many) (common most : ℕ) (own : List ℕ) (have : HaveLengths old common own most) where
   -- where all have one text
-  pub one_text : (more : ℕ) → new ≡ old ++ m ∷ [] → ((i : ℕ) → IsTextOf more (member_value m i)) → common + more + most ≤ MOST_BODY_BYTES → HaveLengths new (common + more) own most
+  pub one_text : (more : ℕ) → new ≡ old ++ m ∷ [] → ((i : ℕ) → IsTextOf more (member_value m i))
+      → common + more + most ≤ MOST_BODY_BYTES → HaveLengths new (common + more) own most
   one_text more is t room = record {
     lengths = λ i lt.
         let len : length (body_at i new) ≡ length (body_at i old) + more = ap (λ ps. length (body_at i ps)) is ∙ longer i old m more (t i) in
@@ -87,7 +96,8 @@ module _ (old new : List Many) (m : Many) (common most : ℕ) (own : List ℕ) (
     within = room;
   }
 
-  pub one_prints : (n more : ℕ) → length own ≡ n → new ≡ old ++ m ∷ [] → ((i : ℕ) → IsTextOf more (member_value m i)) → common + more + most ≤ MOST_BODY_BYTES → PrintsAll n m old (Ok tt) new
+  pub one_prints : (n more : ℕ) → length own ≡ n → new ≡ old ++ m ∷ [] → ((i : ℕ) → IsTextOf more (member_value m i))
+      → common + more + most ≤ MOST_BODY_BYTES → PrintsAll n m old (Ok tt) new
   one_prints n more len is t room i lt p body =
       let within : i < length own = omega (arith, lt, len) in
       let was = have.lengths i within in
@@ -96,7 +106,8 @@ module _ (old new : List Many) (m : Many) (common most : ℕ) (own : List ℕ) (
       fits i old m more p (t i) body left ∙ ap (λ ps. goes tt (record p { body = body_at i ps })) (sym is)
 
   -- where each has its own
-  pub each_text : (own' : List ℕ) (least most' : ℕ) → new ≡ old ++ m ∷ [] → AreGrown (length own) largest m own own' → AreWithin least most' own' → common + most' ≤ MOST_BODY_BYTES → HaveLengths new common own' most'
+  pub each_text : (own' : List ℕ) (least most' : ℕ) → new ≡ old ++ m ∷ [] → AreGrown (length own) largest m own own'
+      → AreWithin least most' own' → common + most' ≤ MOST_BODY_BYTES → HaveLengths new common own' most'
   each_text own' least most' is g w room = record {
     lengths = λ i lt.
         let r = g.1 i (omega (arith, lt, g.0)) in
@@ -109,7 +120,9 @@ module _ (old new : List Many) (m : Many) (common most : ℕ) (own : List ℕ) (
     within = room;
   }
 
-  pub each_prints : (n : ℕ) (own' : List ℕ) (least most' : ℕ) → length own ≡ n → new ≡ old ++ m ∷ [] → AreGrown (length own) largest m own own' → AreWithin least most' own' → common + most' ≤ MOST_BODY_BYTES → PrintsAll n m old (Ok tt) new
+  pub each_prints : (n : ℕ) (own' : List ℕ) (least most' : ℕ) → length own ≡ n → new ≡ old ++ m ∷ []
+      → AreGrown (length own) largest m own own' → AreWithin least most' own' → common + most' ≤ MOST_BODY_BYTES
+      → PrintsAll n m old (Ok tt) new
   each_prints n own' least most' len is g w room i lt p body =
       let r = g.1 i (omega (arith, lt, len)) in
       let was = have.lengths i (omega (arith, lt, len)) in
@@ -120,7 +133,8 @@ module _ (old new : List Many) (m : Many) (common most : ℕ) (own : List ℕ) (
       fits i old m r.0 p r.1 body left ∙ ap (λ ps. goes tt (record p { body = body_at i ps })) (sym is)
 
   -- where none has room
-  pub none_prints : (n : ℕ) (own' : List ℕ) (least most' : ℕ) → length own ≡ n → AreGrown (length own) largest m own own' → AreWithin least most' own' → MOST_BODY_BYTES < common + least
+  pub none_prints : (n : ℕ) (own' : List ℕ) (least most' : ℕ) → length own ≡ n
+      → AreGrown (length own) largest m own own' → AreWithin least most' own' → MOST_BODY_BYTES < common + least
       → (i : ℕ) → i < n → (p : Progress) → p.body ≡ body_at i old → print_text (member_value m i) p ≡ stops (fault TooLarge) p
   none_prints n own' least most' len g w over i lt p body =
       let r = g.1 i (omega (arith, lt, len)) in

@@ -31,7 +31,9 @@ pub record IsTextOf (len : ℕ) (d : Datum) : Type 0 where
 
 -- Each of n members has a text, and its length with that is this, as far as numbers go.
 abbrev pub AreGrown : (n largest : ℕ) → Many → (old new : List ℕ) → Type 0
-AreGrown n largest m old new = (length new ≡ n) × ((i : ℕ) → i < n → (len : ℕ) × IsTextOf len (member_value m i) × (get_or new i 0 ≡ min (get_or old i 0 + len) largest))
+AreGrown n largest m old new = (length new ≡ n)
+    × ((i : ℕ) → i < n → (len : ℕ) × IsTextOf len (member_value m i)
+    × (get_or new i 0 ≡ min (get_or old i 0 + len) largest))
 
 -- Each of these numbers is within these bounds.
 abbrev pub AreWithin : (least most : ℕ) → List ℕ → Type 0

@@ -10,7 +10,10 @@ use Rattle.multi_bodies.specs.BodiesOf.{body_at}
 
 -- Each of n members prints a text after its body.
 abbrev pub PrintsAll : (n : ℕ) → Many → List Many → Result (Unit {0}) Apart → List Many → Type 0
-PrintsAll n m old (Ok x) new = (i : ℕ) → i < n → (p : Progress) → p.body ≡ body_at i old → print_text (member_value m i) p ≡ goes tt (record p { body = body_at i new })
+PrintsAll n m old (Ok x) new = (i : ℕ) → i < n → (p : Progress) → p.body ≡ body_at i old
+    → print_text (member_value m i) p ≡ goes tt (record p { body = body_at i new })
 PrintsAll n m old (Err Memory) new = Unit {0}
-PrintsAll n m old (Err (Fault f)) new = (new ≡ old) × ((i : ℕ) → i < n → (p : Progress) → p.body ≡ body_at i old → print_text (member_value m i) p ≡ stops (fault f) p)
+PrintsAll n m old (Err (Fault f)) new = (new ≡ old)
+    × ((i : ℕ) → i < n → (p : Progress) → p.body ≡ body_at i old
+    → print_text (member_value m i) p ≡ stops (fault f) p)
 PrintsAll n m old (Err Differ) new = Unit {0}

@@ -8,7 +8,7 @@ use Rattle.script_meaning.specs.Conduct.{conduct, ended}
 use Rattle.script_meaning.specs.Costs.{costs_in, costs_of}
 use Rattle.script_meaning.specs.GroupCost.{group_cost}
 use Rattle.script_meaning.specs.Evaluate.{Flow, on}
-use Rattle.script_meaning.specs.Run.{Cost, Progress, Outcome, goes, stops, after}
+use Rattle.script_meaning.specs.Run.{Cost, Progress, Ran, goes, stops, after}
 use Rattle.script_meaning.specs.declared.run.Stop.TheVariants.{Wants as wants, Fault as fault, AnswerFault as answer_fault}
 use Rattle.script_code.specs.Code.{Entry}
 use Rattle.script_code.specs.Means.{code_conduct, code_costs}
@@ -27,11 +27,13 @@ use Rattle.multi_run.specs.Runs.{exec_at, going_at}
 use Rattle.multi_run.specs.declared.run.Run as group
 use Rattle.multi_machine.specs.Lockstep.{Reaches, begun, unseen, ComesTo, LeavesProgress, HavePage, StaysInLockstep, ComesToTells}
 
-reaches_on : (f g h : ℕ → Outcome Flow) → Reaches f g → Reaches g h → Reaches f h
+reaches_on : (f g h : ℕ → Ran Flow) → Reaches f g → Reaches g h → Reaches f h
 reaches_on f g h r s = (r.0 + s.0, λ k. let e : r.0 + s.0 + k ≡ r.0 + (s.0 + k) = omega arith in ap f e ∙ r.1 (s.0 + k) ∙ s.1 k)
 
 -- with no more answers
-no_more : (qs : List Request) (code : Code) (place i : ℕ) (kept : Option (List Cost)) (answers : List Datum) (g : ℕ → Outcome Flow) → Reaches (begun qs code place i kept (answers ++ [])) g → Reaches (begun qs code place i kept answers) g
+no_more : (qs : List Request) (code : Code) (place i : ℕ) (kept : Option (List Cost)) (answers : List Datum)
+    (g : ℕ → Ran Flow) → Reaches (begun qs code place i kept (answers ++ [])) g
+    → Reaches (begun qs code place i kept answers) g
 no_more qs code place i kept answers g r = subst (λ a. Reaches (begun qs code place i kept a) g) (append-nil answers) r
 
 pub stays : StaysInLockstep
@@ -46,7 +48,10 @@ stays = record {
           costs = refl;
           reaches = λ i lt kept.
               let u = unseen kept (l.ops i) [] in
-              no_more qs code place i kept (answers i) (λ k. goes (on []) (progress_at new.state.account d.0 i u)) (reaches_on (begun qs code place i kept (answers i ++ [])) (λ k. going_at qs code i old k (progress_at old.state.account l.charges i u)) (λ k. goes (on []) (progress_at new.state.account d.0 i u)) (l.reaches i lt kept []) (d.2 i lt u));
+              no_more qs code place i kept (answers i) (λ k. goes (on []) (progress_at new.state.account d.0 i u))
+              (reaches_on (begun qs code place i kept (answers i ++ []))
+              (λ k. going_at qs code i old k (progress_at old.state.account l.charges i u))
+              (λ k. goes (on []) (progress_at new.state.account d.0 i u)) (l.reaches i lt kept []) (d.2 i lt u));
         },
       );
   faults = λ qs code place answers old new spent before after' f l runs.
@@ -59,7 +64,11 @@ stays = record {
           costs = refl;
           reaches = λ i lt kept.
               let u = unseen kept (l.ops i) [] in
-              no_more qs code place i kept (answers i) (λ k. stops (fault f) (progress_at new.state.account d.0 i u)) (reaches_on (begun qs code place i kept (answers i ++ [])) (λ k. going_at qs code i old k (progress_at old.state.account l.charges i u)) (λ k. stops (fault f) (progress_at new.state.account d.0 i u)) (l.reaches i lt kept []) (d.2 i lt u));
+              no_more qs code place i kept (answers i) (λ k. stops (fault f) (progress_at new.state.account d.0 i u))
+              (reaches_on (begun qs code place i kept (answers i ++ []))
+              (λ k. going_at qs code i old k (progress_at old.state.account l.charges i u))
+              (λ k. stops (fault f) (progress_at new.state.account d.0 i u)) (l.reaches i lt kept [])
+              (d.2 i lt u));
         },
       );
   wants' = λ qs code place answers old new spent before after' ops l runs.
@@ -72,7 +81,12 @@ stays = record {
           costs = refl;
           reaches = λ i lt kept.
               let u = unseen kept (l.ops i) [] in
-              no_more qs code place i kept (answers i) (λ k. stops (wants (get_or ops i nothing)) (progress_at new.state.account d.0 i u)) (reaches_on (begun qs code place i kept (answers i ++ [])) (λ k. going_at qs code i old k (progress_at old.state.account l.charges i u)) (λ k. stops (wants (get_or ops i nothing)) (progress_at new.state.account d.0 i u)) (l.reaches i lt kept []) (d.2 i lt u));
+              no_more qs code place i kept (answers i)
+              (λ k. stops (wants (get_or ops i nothing)) (progress_at new.state.account d.0 i u))
+              (reaches_on (begun qs code place i kept (answers i ++ []))
+              (λ k. going_at qs code i old k (progress_at old.state.account l.charges i u))
+              (λ k. stops (wants (get_or ops i nothing)) (progress_at new.state.account d.0 i u))
+              (l.reaches i lt kept []) (d.2 i lt u));
         },
       );
   answered = λ qs code place answers old mid new spent before after' ops m l runs h.
@@ -116,9 +130,11 @@ stays = record {
       );
 }
 
-module _ (program : Program) (qs : List Request) (code : Code) (entry : Entry) (answers : ℕ → List Datum) (outcome : ℕ → Progress → Outcome Flow) (m : group.Run) (spent : ℕ)
-    (means : IsCodeOf program code) (found : HavePage qs code entry) (o : ComesTo qs code entry.place answers outcome m spent) where
-  conducted : (i : ℕ) → i < length qs → conduct program (request_at qs i) (answers i) ≡ ended entry.number (outcome i (progress_at m.state.account o.charges i (unseen None (o.ops i) [])))
+module _ (program : Program) (qs : List Request) (code : Code) (entry : Entry) (answers : ℕ → List Datum)
+    (ran : ℕ → Progress → Ran Flow) (m : group.Run) (spent : ℕ)
+    (means : IsCodeOf program code) (found : HavePage qs code entry) (o : ComesTo qs code entry.place answers ran m spent) where
+  conducted : (i : ℕ) → i < length qs → conduct program (request_at qs i) (answers i)
+      ≡ ended entry.number (ran i (progress_at m.state.account o.charges i (unseen None (o.ops i) [])))
   conducted i lt =
       let d = means.conducts (request_at qs i) (answers i) in
       let r = o.reaches i lt None in
@@ -128,13 +144,13 @@ module _ (program : Program) (qs : List Request) (code : Code) (entry : Entry) (
       ∙ ap (λ k. ended entry.number (begun qs code entry.place i None (answers i) k)) e
       ∙ ap (ended entry.number) (r.1 d.0)
 
-  marked : LeavesProgress outcome → (i : ℕ) → i < length qs → map bare (conduct program (request_at qs i) (answers i)).trail ≡ m.state.account.trail.items
+  marked : LeavesProgress ran → (i : ℕ) → i < length qs → map bare (conduct program (request_at qs i) (answers i)).trail ≡ m.state.account.trail.items
   marked leaves i lt =
       ap (λ c. map bare c.trail) (conducted i lt)
       ∙ ap (map bare) (leaves.trail i (progress_at m.state.account o.charges i (unseen None (o.ops i) [])) entry.number)
       ∙ bare_marks m.state.account.trail.items (o.ops i)
 
-  charged : LeavesProgress outcome → (i : ℕ) → i < length qs → costs_of program (request_at qs i) (answers i) ≡ costs_at i o.charges
+  charged : LeavesProgress ran → (i : ℕ) → i < length qs → costs_of program (request_at qs i) (answers i) ≡ costs_at i o.charges
   charged leaves i lt =
       let d = means.charges (request_at qs i) (answers i) in
       let r = o.reaches i lt (Some []) in
@@ -146,14 +162,14 @@ module _ (program : Program) (qs : List Request) (code : Code) (entry : Entry) (
       ∙ leaves.costs i (progress_at m.state.account o.charges i (unseen (Some []) (o.ops i) []))
       ∙ append-nil (costs_at i o.charges)
 
-  counted : LeavesProgress outcome → 0 < length qs → spent ≡ group_cost (costs_of_all 0 (length qs) (λ i. costs_of program (request_at qs i) (answers i)))
+  counted : LeavesProgress ran → 0 < length qs → spent ≡ group_cost (costs_of_all 0 (length qs) (λ i. costs_of program (request_at qs i) (answers i)))
   counted leaves some =
       o.costs ∙ total_is.is (length qs) o.charges some
       ∙ ap group_cost (sym (all_alike 0 (length qs) (λ i. costs_of program (request_at qs i) (answers i)) (λ i. costs_at i o.charges) (λ i lt. charged leaves i (omega (arith, lt)))))
 
 pub tells : ComesToTells
 tells = record {
-  conducts = λ program qs code entry answers outcome m spent means found o. conducted program qs code entry answers outcome m spent means found o;
-  marks = λ program qs code entry answers outcome m spent means found leaves o. marked program qs code entry answers outcome m spent means found o leaves;
-  costs = λ program qs code entry answers outcome m spent means found leaves o. counted program qs code entry answers outcome m spent means found o leaves;
+  conducts = λ program qs code entry answers ran m spent means found o. conducted program qs code entry answers ran m spent means found o;
+  marks = λ program qs code entry answers ran m spent means found leaves o. marked program qs code entry answers ran m spent means found o leaves;
+  costs = λ program qs code entry answers ran m spent means found leaves o. counted program qs code entry answers ran m spent means found o leaves;
 }

@@ -13,7 +13,7 @@ use Rattle.script_meaning.specs.Conduct.{conduct, ended, no_page, path_of}
 use Rattle.script_meaning.specs.Costs.{costs_of}
 use Rattle.script_meaning.specs.Evaluate.{Flow, on}
 use Rattle.script_meaning.specs.GroupCost.{cost_of, group_cost}
-use Rattle.script_meaning.specs.Run.{Cost, Progress, Outcome, goes, stops}
+use Rattle.script_meaning.specs.Run.{Cost, Progress, Ran, goes, stops}
 use Rattle.script_meaning.specs.declared.run.Stop.TheVariants.{Wants as wants, Fault as fault, AnswerFault as answer_fault}
 use Rattle.script_code.specs.Code.{Entry}
 use Rattle.script_code.specs.Means.{code_conduct, code_costs}
@@ -106,45 +106,53 @@ told_alike qs code place told told' m spent same l = record {
   ops = l.ops;
   costs = l.costs;
   reaches = λ i lt kept more.
-      subst (λ a. Reaches (begun qs code place i kept (a ++ more)) (λ k. going_at qs code i m k (progress_at m.state.account l.charges i (unseen kept (l.ops i) more)))) (sym (same i lt)) (l.reaches i lt kept more);
+      subst (λ a. Reaches (begun qs code place i kept (a ++ more))
+      (λ k. going_at qs code i m k (progress_at m.state.account l.charges i (unseen kept (l.ops i) more))))
+      (sym (same i lt)) (l.reaches i lt kept more);
 }
 
-come_alike : (qs : List Request) (code : Code) (place : ℕ) (told told' : ℕ → List Datum) (outcome : ℕ → Progress → Outcome Flow) (m : group.Run) (spent : ℕ)
-    → ((i : ℕ) → i < length qs → told' i ≡ told i) → ComesTo qs code place told outcome m spent
-    → ComesTo qs code place told' outcome m spent
-come_alike qs code place told told' outcome m spent same o = record {
+come_alike : (qs : List Request) (code : Code) (place : ℕ) (told told' : ℕ → List Datum) (ran : ℕ → Progress → Ran Flow) (m : group.Run) (spent : ℕ)
+    → ((i : ℕ) → i < length qs → told' i ≡ told i) → ComesTo qs code place told ran m spent
+    → ComesTo qs code place told' ran m spent
+come_alike qs code place told told' ran m spent same o = record {
   charges = o.charges;
   ops = o.ops;
   costs = o.costs;
   reaches = λ i lt kept.
-      subst (λ a. Reaches (begun qs code place i kept a) (λ k. outcome i (progress_at m.state.account o.charges i (unseen kept (o.ops i) [])))) (sym (same i lt)) (o.reaches i lt kept);
+      subst (λ a. Reaches (begun qs code place i kept a)
+      (λ k. ran i (progress_at m.state.account o.charges i (unseen kept (o.ops i) [])))) (sym (same i lt))
+      (o.reaches i lt kept);
 }
 
 -- ---- where the runs of all are over
 
--- Each member's outcome is told by an end.
-abbrev IsToldBy : (outcome : ℕ → Progress → Outcome Flow) → Account → Ended → Type 0
-IsToldBy outcome a e = (i number : ℕ) (cs : Charges) (ops : List Op)
-    → (ended number (outcome i (progress_at a cs i (unseen None ops [])))).ending ≡ meant.Ends (response_at i e) (path_of number (progress_at a cs i (unseen None ops [])) e.end)
+-- What each member came to is told by an end.
+abbrev IsToldBy : (ran : ℕ → Progress → Ran Flow) → Account → Ended → Type 0
+IsToldBy ran a e = (i number : ℕ) (cs : Charges) (ops : List Op)
+    → (ended number (ran i (progress_at a cs i (unseen None ops [])))).ending
+    ≡ meant.Ends (response_at i e) (path_of number (progress_at a cs i (unseen None ops [])) e.end)
 
-module _ (program : Program) (qs : List Request) (code : Code) (entry : Entry) (told : ℕ → List Datum) (means : IsCodeOf program code) (some : 0 < length qs) (found : HavePage qs code entry) where
+module _ (program : Program) (qs : List Request) (code : Code) (entry : Entry) (told : ℕ → List Datum)
+    (means : IsCodeOf program code) (some : 0 < length qs) (found : HavePage qs code entry) where
   numbered : (i : ℕ) → i < length qs → page_at program qs i ≡ Some entry.number
   numbered i lt = sym (means.numbers (request_at qs i).path) ∙ ap (option_map (λ entry. entry.number)) (found i lt)
 
-  all_end : (outcome : ℕ → Progress → Outcome Flow) (m : group.Run) (spent : ℕ) (e : Ended)
-      → LeavesProgress outcome → ComesTo qs code entry.place told outcome m spent → m.state.account.steps ≡ e.steps → IsToldBy outcome m.state.account e → AllEnd program qs told spent e
-  all_end outcome m spent e leaves o steps is = record {
+  all_end : (ran : ℕ → Progress → Ran Flow) (m : group.Run) (spent : ℕ) (e : Ended)
+      → LeavesProgress ran → ComesTo qs code entry.place told ran m spent → m.state.account.steps ≡ e.steps
+      → IsToldBy ran m.state.account e → AllEnd program qs told spent e
+  all_end ran m spent e leaves o steps is = record {
     ends' = λ i lt. record {
       path = path_of entry.number (progress_at m.state.account o.charges i (unseen None (o.ops i) [])) e.end;
       ending =
-          ap (λ c. c.ending) (tells.conducts program qs code entry told outcome m spent means found o i lt)
+          ap (λ c. c.ending) (tells.conducts program qs code entry told ran m spent means found o i lt)
           ∙ is i entry.number o.charges (o.ops i);
       steps = steps;
       end = refl;
     };
-    marks = λ i j lt lt'. tells.marks program qs code entry told outcome m spent means found leaves o i lt ∙ sym (tells.marks program qs code entry told outcome m spent means found leaves o j lt');
+    marks = λ i j lt lt'. tells.marks program qs code entry told ran m spent means found leaves o i lt
+        ∙ sym (tells.marks program qs code entry told ran m spent means found leaves o j lt');
     pages = λ i j lt lt'. numbered i lt ∙ sym (numbered j lt');
-    costs = tells.costs program qs code entry told outcome m spent means found leaves o some;
+    costs = tells.costs program qs code entry told ran m spent means found leaves o some;
   }
 
 leaves_over : LeavesProgress (λ i p. goes (on []) p)
@@ -162,7 +170,8 @@ leaves_refused = record { costs = λ i p. refl; trail = λ i p number. refl }
 rises_to : (before after' now : ℕ) → Rises before after' before now → now ≡ after'
 rises_to before after' now rises = omega (arith, rises)
 
-module _ (program : Program) (qs : List Request) (code : Code) (told : ℕ → List Datum) (old new : group.Run) (before after' : ℕ) (s : StandsAfter program qs code told old before) where
+module _ (program : Program) (qs : List Request) (code : Code) (told : ℕ → List Datum) (old new : group.Run)
+    (before after' : ℕ) (s : StandsAfter program qs code told old before) where
   pub over_ends : Runs before after' qs code old (Ok went.Over) new
       → AllEnd program qs told after' (normal_end new)
   over_ends runs =
@@ -178,12 +187,14 @@ module _ (program : Program) (qs : List Request) (code : Code) (told : ℕ → L
       subst (λ k. AllEnd program qs told k e) (rises_to before after' r.0 r.1)
       (all_end program qs code s.entry told s.means s.some s.page (λ i p. stops (fault f) p) new r.0 e (leaves_fault f) r.2 refl (λ i number cs ops. refl))
 
-  pub all_want : (w : Waiting) → w.code.now ≡ code → w.group ≡ qs → w.run ≡ new → Runs before after' qs code old (Ok (went.Wants w.ops)) new → AllWant program qs told after' w
+  pub all_want : (w : Waiting) → w.code.now ≡ code → w.group ≡ qs → w.run ≡ new
+      → Runs before after' qs code old (Ok (went.Wants w.ops)) new → AllWant program qs told after' w
   all_want w is_code is_group is_run runs =
       let r = stays.wants' qs code s.entry.place told old new before before after' w.ops s.lockstep runs in
       record {
         requests = is_group;
-        wants' = λ i lt. ap (λ c. c.ending) (tells.conducts program qs code s.entry told (λ j p. stops (wants (get_or w.ops j nothing)) p) new r.0 s.means s.page r.2 i lt);
+        wants' = λ i lt. ap (λ c. c.ending) (tells.conducts program qs code s.entry told
+            (λ j p. stops (wants (get_or w.ops j nothing)) p) new r.0 s.means s.page r.2 i lt);
         was = old;
         earlier = before;
         before = before;
@@ -201,7 +212,9 @@ module _ (program : Program) (qs : List Request) (code : Code) (told : ℕ → L
 same_rise : (before after' earlier spent now : ℕ) → Rises before after' earlier spent → Rises before after' earlier now → now ≡ spent
 same_rise before after' earlier spent now one other = omega (arith, one, other)
 
-module _ (program : Program) (qs : List Request) (told told' : ℕ → List Datum) (spent : ℕ) (w : Waiting) (m : Many) (new : group.Run) (a : AllWant program qs told spent w) (same : (i : ℕ) → i < length qs → told' i ≡ told i ++ member_value m i ∷ []) where
+module _ (program : Program) (qs : List Request) (told told' : ℕ → List Datum) (spent : ℕ) (w : Waiting) (m : Many)
+    (new : group.Run) (a : AllWant program qs told spent w)
+    (same : (i : ℕ) → i < length qs → told' i ≡ told i ++ member_value m i ∷ []) where
   pub stands_answered : AllAnswered (length qs) m w.run (Ok true) new → StandsAfter program qs w.code.now told' new spent
   stands_answered h =
       let s = a.stood in
@@ -213,7 +226,8 @@ module _ (program : Program) (qs : List Request) (told told' : ℕ → List Datu
         page = s.page;
         lockstep =
             told_alike qs w.code.now s.entry.place (λ i. told i ++ member_value m i ∷ []) told' new spent same
-            (subst (λ k. InLockstep qs w.code.now s.entry.place (λ i. told i ++ member_value m i ∷ []) new k) (same_rise a.before a.after' a.earlier spent r.0 a.rises r.1) r.2);
+            (subst (λ k. InLockstep qs w.code.now s.entry.place (λ i. told i ++ member_value m i ∷ []) new k)
+            (same_rise a.before a.after' a.earlier spent r.0 a.rises r.1) r.2);
       }
 
   pub refused_ends : AllAnswered (length qs) m w.run (Ok false) new → AllEnd program qs told' spent (fault_end new end.AnswerFault TooLarge)
@@ -223,4 +237,5 @@ module _ (program : Program) (qs : List Request) (told told' : ℕ → List Datu
       let r = stays.refused qs w.code.now s.entry.place told a.was w.run new a.earlier a.before a.after' w.ops m s.lockstep a.runs h in
       let o = come_alike qs w.code.now s.entry.place (λ i. told i ++ member_value m i ∷ []) told' (λ i p. stops answer_fault p) new r.0 same r.2 in
       subst (λ k. AllEnd program qs told' k e) (same_rise a.before a.after' a.earlier spent r.0 a.rises r.1)
-      (all_end program qs w.code.now s.entry told' s.means s.some s.page (λ i p. stops answer_fault p) new r.0 e leaves_refused o refl (λ i number cs ops. refl))
+      (all_end program qs w.code.now s.entry told' s.means s.some s.page
+      (λ i p. stops answer_fault p) new r.0 e leaves_refused o refl (λ i number cs ops. refl))

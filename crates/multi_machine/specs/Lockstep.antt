@@ -9,7 +9,7 @@ use Rattle.script_meaning.specs.Conduct.{conduct, ended, start}
 use Rattle.script_meaning.specs.Costs.{keeping, kept_in, costs_in, costs_of}
 use Rattle.script_meaning.specs.Evaluate.{Flow, on}
 use Rattle.script_meaning.specs.GroupCost.{group_cost}
-use Rattle.script_meaning.specs.Run.{Cost, Progress, Outcome, goes, stops}
+use Rattle.script_meaning.specs.Run.{Cost, Progress, Ran, goes, stops}
 use Rattle.script_meaning.specs.declared.run.Stop.TheVariants.{Wants as wants, Fault as fault, AnswerFault as answer_fault}
 use Rattle.script_code.specs.Code.{Entry}
 use Rattle.script_code.specs.Translated.{IsCodeOf, pages_of}
@@ -26,11 +26,11 @@ use Rattle.multi_run.specs.Runs.{Runs, exec_at, going_at}
 use Rattle.multi_run.specs.declared.run.Run as group
 
 -- one run of instructions leads to another: after some number of them it does what the other does
-abbrev pub Reaches : (ℕ → Outcome Flow) → (ℕ → Outcome Flow) → Type 0
+abbrev pub Reaches : (ℕ → Ran Flow) → (ℕ → Ran Flow) → Type 0
 Reaches here there = (n : ℕ) × ((k : ℕ) → here (n + k) ≡ there k)
 
 -- a member's own run from the page's place, which keeps its costs or doesn't, within so many instructions
-abbrev pub begun : List Request → Code → (place : ℕ) → ℕ → Option (List Cost) → List Datum → ℕ → Outcome Flow
+abbrev pub begun : List Request → Code → (place : ℕ) → ℕ → Option (List Cost) → List Datum → ℕ → Ran Flow
 begun qs code place i kept answers k = exec_at qs code i k [] place [] [] (keeping kept (start answers))
 
 -- what the group doesn't keep of a member
@@ -44,15 +44,16 @@ pub record InLockstep (qs : List Request) (code : Code) (place : ℕ) (answers :
   pub ops : ℕ → List Op
   pub costs : spent ≡ total (length qs) charges
   pub reaches : (i : ℕ) → i < length qs → (kept : Option (List Cost)) (more : List Datum)
-      → Reaches (begun qs code place i kept (answers i ++ more)) (λ k. going_at qs code i m k (progress_at m.state.account charges i (unseen kept (ops i) more)))
+      → Reaches (begun qs code place i kept (answers i ++ more))
+      (λ k. going_at qs code i m k (progress_at m.state.account charges i (unseen kept (ops i) more)))
 
 -- After its own answers each member's run comes to this; by the costs, so many nodes were to be evaluated.
-pub record ComesTo (qs : List Request) (code : Code) (place : ℕ) (answers : ℕ → List Datum) (outcome : ℕ → Progress → Outcome Flow) (m : group.Run) (spent : ℕ) : Type 0 where
+pub record ComesTo (qs : List Request) (code : Code) (place : ℕ) (answers : ℕ → List Datum) (ran : ℕ → Progress → Ran Flow) (m : group.Run) (spent : ℕ) : Type 0 where
   pub charges : Charges
   pub ops : ℕ → List Op
   pub costs : spent ≡ total (length qs) charges
   pub reaches : (i : ℕ) → i < length qs → (kept : Option (List Cost))
-      → Reaches (begun qs code place i kept (answers i)) (λ k. outcome i (progress_at m.state.account charges i (unseen kept (ops i) [])))
+      → Reaches (begun qs code place i kept (answers i)) (λ k. ran i (progress_at m.state.account charges i (unseen kept (ops i) [])))
 
 -- the count rises from this to that by what was spent since
 abbrev pub Rises : (before after' : ℕ) → (spent now : ℕ) → Type 0
@@ -70,18 +71,20 @@ pub record StaysInLockstep : Type 0 where
       → InLockstep qs code place answers old spent → Runs before after' qs code old (Ok (Wants ops)) new
       → (now : ℕ) × Rises before after' spent now × ComesTo qs code place answers (λ i p. stops (wants (get_or ops i nothing)) p) new now
   -- with the answers to the operations that were wanted
-  pub answered : (qs : List Request) (code : Code) (place : ℕ) (answers : ℕ → List Datum) (old mid new : group.Run) (spent before after' : ℕ) (ops : List Op) (m : Many)
+  pub answered : (qs : List Request) (code : Code) (place : ℕ) (answers : ℕ → List Datum) (old mid new : group.Run)
+      (spent before after' : ℕ) (ops : List Op) (m : Many)
       → InLockstep qs code place answers old spent → Runs before after' qs code old (Ok (Wants ops)) mid → AllAnswered (length qs) m mid (Ok true) new
       → (now : ℕ) × Rises before after' spent now × InLockstep qs code place (λ i. answers i ++ member_value m i ∷ []) new now
   -- with answers of which none is within the limits of a value
-  pub refused : (qs : List Request) (code : Code) (place : ℕ) (answers : ℕ → List Datum) (old mid new : group.Run) (spent before after' : ℕ) (ops : List Op) (m : Many)
+  pub refused : (qs : List Request) (code : Code) (place : ℕ) (answers : ℕ → List Datum) (old mid new : group.Run)
+      (spent before after' : ℕ) (ops : List Op) (m : Many)
       → InLockstep qs code place answers old spent → Runs before after' qs code old (Ok (Wants ops)) mid → AllAnswered (length qs) m mid (Ok false) new
       → (now : ℕ) × Rises before after' spent now × ComesTo qs code place (λ i. answers i ++ member_value m i ∷ []) (λ i p. stops answer_fault p) new now
 
 -- A run comes to its progress, whatever else it comes to.
-pub record LeavesProgress (outcome : ℕ → Progress → Outcome Flow) : Type 0 where
-  pub costs : (i : ℕ) (p : Progress) → costs_in (outcome i p) ≡ kept_in p.costs
-  pub trail : (i : ℕ) (p : Progress) (number : ℕ) → (ended number (outcome i p)).trail ≡ p.trail
+pub record LeavesProgress (ran : ℕ → Progress → Ran Flow) : Type 0 where
+  pub costs : (i : ℕ) (p : Progress) → costs_in (ran i p) ≡ kept_in p.costs
+  pub trail : (i : ℕ) (p : Progress) (number : ℕ) → (ended number (ran i p)).trail ≡ p.trail
 
 -- all members have this page
 abbrev pub HavePage : List Request → Code → Entry → Type 0
@@ -89,12 +92,16 @@ HavePage qs code entry = (i : ℕ) → i < length qs → pages_of code (request_
 
 -- What all members come to tells what each does, its marks, and that so many nodes were evaluated as the group costs.
 pub record ComesToTells : Type 0 where
-  pub conducts : (program : Program) (qs : List Request) (code : Code) (entry : Entry) (answers : ℕ → List Datum) (outcome : ℕ → Progress → Outcome Flow) (m : group.Run) (spent : ℕ)
-      → IsCodeOf program code → HavePage qs code entry → (o : ComesTo qs code entry.place answers outcome m spent)
-      → (i : ℕ) → i < length qs → conduct program (request_at qs i) (answers i) ≡ ended entry.number (outcome i (progress_at m.state.account o.charges i (unseen None (o.ops i) [])))
-  pub marks : (program : Program) (qs : List Request) (code : Code) (entry : Entry) (answers : ℕ → List Datum) (outcome : ℕ → Progress → Outcome Flow) (m : group.Run) (spent : ℕ)
-      → IsCodeOf program code → HavePage qs code entry → LeavesProgress outcome → ComesTo qs code entry.place answers outcome m spent
+  pub conducts : (program : Program) (qs : List Request) (code : Code) (entry : Entry) (answers : ℕ → List Datum)
+      (ran : ℕ → Progress → Ran Flow) (m : group.Run) (spent : ℕ)
+      → IsCodeOf program code → HavePage qs code entry → (o : ComesTo qs code entry.place answers ran m spent)
+      → (i : ℕ) → i < length qs → conduct program (request_at qs i) (answers i)
+      ≡ ended entry.number (ran i (progress_at m.state.account o.charges i (unseen None (o.ops i) [])))
+  pub marks : (program : Program) (qs : List Request) (code : Code) (entry : Entry) (answers : ℕ → List Datum)
+      (ran : ℕ → Progress → Ran Flow) (m : group.Run) (spent : ℕ)
+      → IsCodeOf program code → HavePage qs code entry → LeavesProgress ran → ComesTo qs code entry.place answers ran m spent
       → (i : ℕ) → i < length qs → map bare (conduct program (request_at qs i) (answers i)).trail ≡ m.state.account.trail.items
-  pub costs : (program : Program) (qs : List Request) (code : Code) (entry : Entry) (answers : ℕ → List Datum) (outcome : ℕ → Progress → Outcome Flow) (m : group.Run) (spent : ℕ)
-      → IsCodeOf program code → HavePage qs code entry → LeavesProgress outcome → ComesTo qs code entry.place answers outcome m spent
+  pub costs : (program : Program) (qs : List Request) (code : Code) (entry : Entry) (answers : ℕ → List Datum)
+      (ran : ℕ → Progress → Ran Flow) (m : group.Run) (spent : ℕ)
+      → IsCodeOf program code → HavePage qs code entry → LeavesProgress ran → ComesTo qs code entry.place answers ran m spent
       → 0 < length qs → spent ≡ group_cost (costs_of_all 0 (length qs) (λ i. costs_of program (request_at qs i) (answers i)))

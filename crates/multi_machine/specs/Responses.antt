@@ -1,11 +1,10 @@
 -- The responses of members at the end of their runs.
-use Rattle.std.specs.Prelude.{ℕ, [], ◌∷◌, ◌++◌, codes}
+use Rattle.std.specs.Prelude.{ℕ}
 use Rattle.script_tree.specs.declared.fault.ScriptFault.{ScriptFault}
 use Rattle.script_tree.specs.declared.path.End.{End}
 use Rattle.script_tree.specs.declared.path.End.TheVariants.{Normal}
 use Rattle.script_tree.specs.declared.request.Response.{Response}
-use Rattle.script_meaning.specs.Conduct.{fault_response}
-use Rattle.script_meaning.specs.declared.status.TheConstants.{NO_PAGE_STATUS}
+use Rattle.script_meaning.specs.Conduct.{fault_response, no_page_response}
 use Rattle.multivalue.specs.Many.{member_value}
 use Rattle.multi_bodies.specs.BodiesOf.{body_at}
 use Rattle.multi_state.specs.Progress.{status_number}
@@ -13,10 +12,6 @@ use Rattle.multi_machine.specs.declared.ending.Ended.{Ended}
 use Rattle.multi_machine.specs.declared.ending.Responses.{Responses}
 use Rattle.multi_machine.specs.declared.ending.Responses.TheVariants.{NoPage, Fault, Left}
 use Rattle.multi_run.specs.declared.run.Run as group
-
--- the response to a path that no page has
-abbrev pub no_page_response : Response
-no_page_response = record { status = NO_PAGE_STATUS; body = codes "no page" ++ 10 ∷ [] }
 
 -- a member's, of these
 abbrev pub response_in : ℕ → Responses → Response

@@ -1,18 +1,16 @@
 ghost use Rattle.std.specs.Prelude.{◌≡◌, IfOk};
-ghost use Rattle.script_meaning.specs.Conduct.{fault_response};
 ghost use Rattle.multivalue.specs.Many.{member_value};
 ghost use Rattle.multi_state.specs.Progress.{status_number};
-ghost use Rattle.multi_machine.specs.Responses.{fault_end, no_page_response, normal_end, response_at};
+ghost use Rattle.multi_machine.specs.Responses.{fault_end, normal_end, response_at};
 
 use multi_bodies::Bodies;
 use multi_run::Run;
 use multi_state::{Account, State};
 use multivalue::Multi;
-use script_meaning::status::{FAULT_STATUS, NO_PAGE_STATUS};
+use script_meaning::responses::{fault_response, no_page_response};
 use script_tree::fault::ScriptFault;
 use script_tree::path::End;
 use script_tree::request::Response;
-use script_tree::text::Text;
 use script_values::status_in;
 use std::alloc::{AllocError, Global};
 
@@ -107,24 +105,4 @@ fn status_of(statuses: &Multi, member: usize) -> Result<u16, AllocError>
         Ok(status) => Ok(status),
         Err(_fault) => Err(AllocError),
     }
-}
-
-/// The response to a path that no page has.
-fn no_page_response(alloc: Global) -> Result<Response, AllocError>
-    ensures { IfOk result (λ response. response ≡ no_page_response) }
-{
-    Ok(Response {
-        status: NO_PAGE_STATUS,
-        body: Text::from_vec(b"no page\n".to_vec(alloc)?),
-    })
-}
-
-fn fault_response(alloc: Global, fault: ScriptFault) -> Result<Response, AllocError>
-    ensures { IfOk result (λ response. response ≡ fault_response fault) }
-{
-    let line = format!(in alloc; "{fault}\n")?;
-    Ok(Response {
-        status: FAULT_STATUS,
-        body: Text::from_vec(line.into_bytes()),
-    })
 }

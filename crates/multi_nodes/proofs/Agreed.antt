@@ -73,7 +73,8 @@ requests_each q (r ∷ qs) h (suc i) lt = requests_each q qs (and_parts (same_re
 pub requests_alike : (qs : List Request) → alike_in qs ≡ true → (i : ℕ) → i < length qs → request_at qs i ≡ request_at qs 0
 requests_alike qs h i lt = sym (request_same (request_at qs 0) (request_at qs i) (requests_each (request_at qs 0) qs h i lt))
 
-by_request : (qs : List Request) (alike takes : Bool) (p : Primitive) (ds : List Datum) (i : ℕ) → i < length qs → alike_in qs ≡ alike → takes_request p ≡ takes → (alike || not takes) ≡ true
+by_request : (qs : List Request) (alike takes : Bool) (p : Primitive) (ds : List Datum) (i : ℕ) → i < length qs
+    → alike_in qs ≡ alike → takes_request p ≡ takes → (alike || not takes) ≡ true
     → evaluated (request_at qs i) p ds ≡ evaluated (request_at qs 0) p ds
 by_request qs true takes p ds i lt same is h = ap (λ q. evaluated q p ds) (requests_alike qs same i lt)
 by_request qs false false p ds i lt same is h = node_alike (request_at qs i) (request_at qs 0) p ds is
@@ -82,4 +83,5 @@ by_request qs false true p ds i lt same is h = cc
 pub agreed : (qs : List Request) (p : Primitive) (ms : List Many) → agree qs p ms ≡ true → (i : ℕ) → i < length qs → answer_at qs p ms i ≡ answer_at qs p ms 0
 agreed qs p ms h i lt =
     let parts = and_parts (list_all (is_shared (length qs)) ms) (alike_in qs || not (takes_request p)) h in
-    ap (λ ds. evaluated (request_at qs i) p ds) (operands_shared (length qs) ms i parts.0 lt) ∙ by_request qs (alike_in qs) (takes_request p) p (members_at 0 ms) i lt refl refl parts.1
+    ap (λ ds. evaluated (request_at qs i) p ds) (operands_shared (length qs) ms i parts.0 lt)
+    ∙ by_request qs (alike_in qs) (takes_request p) p (members_at 0 ms) i lt refl refl parts.1

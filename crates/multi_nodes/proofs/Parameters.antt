@@ -19,4 +19,6 @@ one_place f (x ∷ a) [] i u v h k = absurd (omega (arith, k))
 one_place f (x ∷ a) (y ∷ b) zero u v h k = refl
 one_place f (x ∷ a) (y ∷ b) (suc i) u v h k =
     let e : suc (i + 1) ≡ suc i + 1 = omega arith in
-    subst (λ j. each f (drop i a) (drop i b) ≡ (f (get_or a i u) (get_or b i v) && each f (drop j (x ∷ a)) (drop j (y ∷ b)))) e (one_place f a b i u v (omega (arith, h)) (omega (arith, k)))
+    subst (λ j. each f (drop i a) (drop i b)
+    ≡ (f (get_or a i u) (get_or b i v) && each f (drop j (x ∷ a)) (drop j (y ∷ b)))) e
+    (one_place f a b i u v (omega (arith, h)) (omega (arith, k)))

@@ -23,7 +23,8 @@ costs_length k (suc n) c = ap suc (costs_length (suc k) n c)
 
 all_from : (p : Cost → Bool) (k n : ℕ) (c : ℕ → Cost) → ((i : ℕ) → i < k + n → p (c i) ≡ true) → list_all p (costs_from k n c) ≡ true
 all_from p k zero c h = refl
-all_from p k (suc n) c h = and_from (p (c k)) (list_all p (costs_from (suc k) n c)) (h k (omega arith)) (all_from p (suc k) n c (λ i lt. h i (omega (arith, lt))))
+all_from p k (suc n) c h = and_from (p (c k)) (list_all p (costs_from (suc k) n c)) (h k (omega arith))
+    (all_from p (suc k) n c (λ i lt. h i (omega (arith, lt))))
 
 each_from : (p : Cost → Bool) (k n : ℕ) (c : ℕ → Cost) → list_all p (costs_from k n c) ≡ true → (j : ℕ) → j < n → p (c (k + j)) ≡ true
 each_from p k zero c h j lt = absurd (omega (arith, lt))
@@ -50,11 +51,14 @@ all_agree : (n : ℕ) (ms : List Many) → ((i : ℕ) → i < n → each same_da
 all_agree n [] h = refl
 all_agree n (m ∷ ms) h =
     let parts : (i : ℕ) → i < n → _ = λ i lt. and_parts (same_datum (member_value m 0) (member_value m i)) (each same_datum (members_at 0 ms) (members_at i ms)) (h i lt) in
-    and_from (is_shared n m) (list_all (is_shared n) ms) (each_below n (λ i. same_datum (member_value m 0) (member_value m i)) (λ i lt. (parts i lt).0)) (all_agree n ms (λ i lt. (parts i lt).1))
+    and_from (is_shared n m) (list_all (is_shared n) ms)
+    (each_below n (λ i. same_datum (member_value m 0) (member_value m i)) (λ i lt. (parts i lt).0))
+    (all_agree n ms (λ i lt. (parts i lt).1))
 
 requests_from : (q : Request) (qs : List Request) → ((i : ℕ) → i < length qs → same_request q (request_at qs i) ≡ true) → list_all (same_request q) qs ≡ true
 requests_from q [] h = refl
-requests_from q (r ∷ qs) h = and_from (same_request q r) (list_all (same_request q) qs) (h 0 (omega arith)) (requests_from q qs (λ i lt. h (suc i) (omega (arith, lt))))
+requests_from q (r ∷ qs) h = and_from (same_request q r) (list_all (same_request q) qs) (h 0 (omega arith))
+    (requests_from q qs (λ i lt. h (suc i) (omega (arith, lt))))
 
 -- ---- the price
 
@@ -73,14 +77,19 @@ module _ (qs : List Request) (ms : List Many) where
   charged_same true h g i lt = λ z. cost_by true (requests_alike qs (or_false (alike_in qs) g) i lt z) (operands_shared (length qs) ms i h lt z)
   charged_same false h g i lt = λ z. cost_by false (request_at qs 0) (operands_shared (length qs) ms i h lt z)
 
-  agree_from : (b : Bool) → ((i : ℕ) → i < length qs → same_cost (costs_by b 0) (costs_by b i) ≡ true) → (list_all (is_shared (length qs)) ms && (alike_in qs || not b)) ≡ true
+  agree_from : (b : Bool) → ((i : ℕ) → i < length qs → same_cost (costs_by b 0) (costs_by b i) ≡ true)
+      → (list_all (is_shared (length qs)) ms && (alike_in qs || not b)) ≡ true
   unfolding costs_by
   agree_from true h =
       let parts : (i : ℕ) → i < length qs → _ = λ i lt. and_parts (same_request (request_at qs 0) (request_at qs i)) (each same_datum (members_at 0 ms) (members_at i ms)) (h i lt) in
-      and_from (list_all (is_shared (length qs)) ms) (alike_in qs || false) (all_agree (length qs) ms (λ i lt. (parts i lt).1)) (or_more (alike_in qs) (requests_from (request_at qs 0) qs (λ i lt. (parts i lt).0)))
+      and_from (list_all (is_shared (length qs)) ms) (alike_in qs || false)
+      (all_agree (length qs) ms (λ i lt. (parts i lt).1))
+      (or_more (alike_in qs) (requests_from (request_at qs 0) qs (λ i lt. (parts i lt).0)))
   agree_from false h = and_from (list_all (is_shared (length qs)) ms) (alike_in qs || true) (all_agree (length qs) ms h) (or_true (alike_in qs))
 
-  by_agreement : (b : Bool) → 0 < length qs → (a : Bool) → (list_all (is_shared (length qs)) ms && (alike_in qs || not b)) ≡ a → evaluations_if a (length qs) ≡ price (length qs) (costs_by b)
+  by_agreement : (b : Bool) → 0 < length qs → (a : Bool)
+      → (list_all (is_shared (length qs)) ms && (alike_in qs || not b)) ≡ a
+      → evaluations_if a (length qs) ≡ price (length qs) (costs_by b)
   by_agreement b some true h =
       let p = and_parts (list_all (is_shared (length qs)) ms) (alike_in qs || not b) h in
       sym (one (length qs) some (all_from (same_cost (costs_by b 0)) 0 (length qs) (costs_by b) (λ i lt. ap (same_cost (costs_by b 0)) (charged_same b p.0 p.1 i (omega (arith, lt))) ∙ itself b)))
@@ -100,6 +109,7 @@ module _ (qs : List Request) (ms : List Many) where
       many zero s e = absurd (omega (arith, s))
       many (suc k) s e = rw e (costs_length 0 (suc k) (costs_by b))
 
-pub price_is : (qs : List Request) (ms : List Many) (p : Primitive) → 0 < length qs → evaluations_if (agree qs p ms) (length qs) ≡ price (length qs) (cost_at qs p ms)
+pub price_is : (qs : List Request) (ms : List Many) (p : Primitive) → 0 < length qs
+    → evaluations_if (agree qs p ms) (length qs) ≡ price (length qs) (cost_at qs p ms)
 unfolding costs_by
 price_is qs ms p some = by_agreement qs ms (takes_request p) some (agree qs p ms) refl

@@ -43,28 +43,41 @@ one_frame_more i fs f = ap (map (frame_at i)) (reverse-append fs (f ∷ []))
 
 -- ---- a decision
 
-module _ (before after' : ℕ) (qs : List Request) (functions : List ℕ) (instruction : Instruction) (p : Primitive) (ms : List Many) (old new : group.Run) (rest : Next → ℕ → Bool → Run Flow)
+module _ (before after' : ℕ) (qs : List Request) (functions : List ℕ) (instruction : Instruction) (p : Primitive)
+    (ms : List Many) (old new : group.Run) (rest : Next → ℕ → Bool → Run Flow)
     (is : (next : Next) (i : ℕ) (r : Progress) → acts_at qs functions instruction next i old r ≡ after ((node_at qs p ms i >>= noted) r) (rest next i)) where
-  pub decided : (b : Bool) (mid : Account) → new.state.account ≡ mid → AllDecide before after' qs p ms old.state.account (Ok b) mid → ((next : Next) (i : ℕ) → i < length qs → rest next i b ≡ goes_on (next_at next i new) i new.state)
+  pub decided : (b : Bool) (mid : Account) → new.state.account ≡ mid
+      → AllDecide before after' qs p ms old.state.account (Ok b) mid
+      → ((next : Next) (i : ℕ) → i < length qs → rest next i b ≡ goes_on (next_at next i new) i new.state)
       → Acts before after' qs functions instruction old (Ok On) new
   decided b mid same h goes' =
-      then_all (length qs) before after' (λ i. node_at qs p ms i >>= noted) (λ next i. acts_at qs functions instruction next i old) rest is (λ i. b) old.state.account mid new.state.account (Ok On) (λ next i w. ran_at w next i new) h
+      then_all (length qs) before after' (λ i. node_at qs p ms i >>= noted)
+      (λ next i. acts_at qs functions instruction next i old) rest is
+      (λ i. b) old.state.account mid new.state.account (Ok On) (λ next i w. ran_at w next i new) h
       (λ cs i lt u next z. goes' next i lt z (progress_at (sym same z) cs i u))
 
-  pub decide_halts : (e : Apart) → AllDecide before after' qs p ms old.state.account (Err e) new.state.account → Acts before after' qs functions instruction old (Err e) new
+  pub decide_halts : (e : Apart) → AllDecide before after' qs p ms old.state.account (Err e) new.state.account
+      → Acts before after' qs functions instruction old (Err e) new
   decide_halts e h =
-      halt_all (length qs) before after' (λ i. node_at qs p ms i >>= noted) (λ next i. acts_at qs functions instruction next i old) rest is e old.state.account new.state.account (λ i. give) (λ next i w. ran_at w next i new) h
+      halt_all (length qs) before after' (λ i. node_at qs p ms i >>= noted)
+      (λ next i. acts_at qs functions instruction next i old) rest is e old.state.account new.state.account
+      (λ i. give) (λ next i w. ran_at w next i new) h
 
 -- where it goes on
 pub passed : (next : Next) (i : ℕ) (old new : group.Run) (count : ℕ) → new.frames ≡ old.frames → new.state ≡ old.state → new.place ≡ old.place + 1 + count
-    → next (frames_at i old.frames.items) (old.place + 1 + count) (stack_at i old.state.stack) (members_at i old.state.slots.items) ≡ goes_on (next_at next i new) i new.state
-passed next i old new count frames state place = λ z. next (frames_at i (sym frames z).items) (sym place z) (stack_at i (sym state z).stack) (members_at i (sym state z).slots.items)
+    → next (frames_at i old.frames.items) (old.place + 1 + count) (stack_at i old.state.stack)
+    (members_at i old.state.slots.items) ≡ goes_on (next_at next i new) i new.state
+passed next i old new count frames state place =
+    λ z. next (frames_at i (sym frames z).items) (sym place z) (stack_at i (sym state z).stack)
+    (members_at i (sym state z).slots.items)
 
 pub passed_one : (next : Next) (i : ℕ) (old new : group.Run) → new.frames ≡ old.frames → new.state ≡ old.state → new.place ≡ old.place + 1 + 0
-    → next (frames_at i old.frames.items) (old.place + 1) (stack_at i old.state.stack) (members_at i old.state.slots.items) ≡ goes_on (next_at next i new) i new.state
+    → next (frames_at i old.frames.items) (old.place + 1) (stack_at i old.state.stack)
+    (members_at i old.state.slots.items) ≡ goes_on (next_at next i new) i new.state
 passed_one next i old new frames state place =
     let e : old.place + 1 ≡ old.place + 1 + 0 = omega arith in
-    (λ z. next (frames_at i old.frames.items) (e z) (stack_at i old.state.stack) (members_at i old.state.slots.items)) ∙ passed next i old new 0 frames state place
+    (λ z. next (frames_at i old.frames.items) (e z) (stack_at i old.state.stack) (members_at i old.state.slots.items))
+    ∙ passed next i old new 0 frames state place
 
 -- ---- instructions
 
@@ -74,8 +87,11 @@ module _ (qs : List Request) (functions : List ℕ) (old : group.Run) (st : Stat
   to next i place ds = next (frames_at i old.frames.items) place ds (members_at i st.slots.items)
 
   from_stack : (instruction : Instruction) (next : Next) (i : ℕ) (r : Progress) (ds : List Datum) → stack_at i old.state.stack ≡ ds
-      → acts_at qs functions instruction next i old r ≡ step (request_at qs i) functions (Some instruction) next (frames_at i old.frames.items) old.place ds (members_at i st.slots.items) r
-  from_stack instruction next i r ds e = λ z. step (request_at qs i) functions (Some instruction) next (frames_at i old.frames.items) old.place (e z) (members_at i (slots z).items) r
+      → acts_at qs functions instruction next i old r
+      ≡ step (request_at qs i) functions (Some instruction) next (frames_at i old.frames.items) old.place ds
+      (members_at i st.slots.items) r
+  from_stack instruction next i r ds e = λ z. step (request_at qs i) functions (Some instruction) next
+      (frames_at i old.frames.items) old.place (e z) (members_at i (slots z).items) r
 
   module _ (m : Many) (e : (i : ℕ) → stack_at i old.state.stack ≡ member_value m i ∷ stack_at i st.stack) where
     abbrev pub whole : ℕ → List Datum
@@ -117,7 +133,9 @@ module _ (qs : List Request) (functions : List ℕ) (old : group.Run) (st : Stat
         from_stack (code.Again n) next i r (whole i) (e i)
         ∙ (λ z. means_nodes.again n (request_at qs i) functions next (frames_at i old.frames.items) old.place (whole i) (members_at i st.slots.items) z r)
 
-    pub return_is : (next : Next) (i : ℕ) (r : Progress) → acts_at qs functions code.Return next i old r ≡ after (node_at qs node.Pass (m ∷ []) i r) (back_to next (frames_at i old.frames.items))
+    pub return_is : (next : Next) (i : ℕ) (r : Progress)
+        → acts_at qs functions code.Return next i old r
+        ≡ after (node_at qs node.Pass (m ∷ []) i r) (back_to next (frames_at i old.frames.items))
     return_is next i r =
         from_stack code.Return next i r (whole i) (e i)
         ∙ (λ z. means_nodes.return (request_at qs i) functions next (frames_at i old.frames.items) old.place (whole i) (members_at i st.slots.items) z r)
@@ -127,15 +145,20 @@ module _ (qs : List Request) (functions : List ℕ) (old : group.Run) (st : Stat
 
   abbrev pub turn_rest : (m : Many) (k n : ℕ) → Next → ℕ → Bool → Run Flow
   turn_rest m k n next i b =
-      if b then next (frames_at i old.frames.items) (old.place - n) (without (k + 1) (member_value m i) ∷ member_value m i ∷ stack_at i st.stack) (members_at i st.slots.items ++ member_at k (member_value m i) ∷ [])
+      if b then next (frames_at i old.frames.items) (old.place - n)
+      (without (k + 1) (member_value m i) ∷ member_value m i ∷ stack_at i st.stack)
+      (members_at i st.slots.items ++ member_at k (member_value m i) ∷ [])
       else to next i (old.place + 1) (stack_at i st.stack)
 
-  pub turn_is : (m : Many) (k : ℕ) → ((i : ℕ) → stack_at i old.state.stack ≡ without k (member_value m i) ∷ member_value m i ∷ stack_at i st.stack) → (n : ℕ) (next : Next) (i : ℕ) (r : Progress)
+  pub turn_is : (m : Many) (k : ℕ) → ((i : ℕ)
+      → stack_at i old.state.stack ≡ without k (member_value m i) ∷ member_value m i ∷ stack_at i st.stack)
+      → (n : ℕ) (next : Next) (i : ℕ) (r : Progress)
       → acts_at qs functions (code.Turn n) next i old r
       ≡ after ((node_at qs (node.Member k) (m ∷ []) i >>= noted) r) (turn_rest m k n next i)
   turn_is m k e n next i r =
       from_stack (code.Turn n) next i r (without k (member_value m i) ∷ member_value m i ∷ stack_at i st.stack) (e i)
-      ∙ (λ z. means_nodes.turn k (member_value m i) n (request_at qs i) functions next (frames_at i old.frames.items) old.place (stack_at i st.stack) (members_at i st.slots.items) z r)
+      ∙ (λ z. means_nodes.turn k (member_value m i) n (request_at qs i) functions next
+      (frames_at i old.frames.items) old.place (stack_at i st.stack) (members_at i st.slots.items) z r)
 
 -- ---- members of a list
 
@@ -152,7 +175,8 @@ without_none (v.list ds) = ap v.list (members_again ds)
 
 -- an instruction that no member is charged for
 pub freely : (n : ℕ) (qs : List Request) (functions : List ℕ) (instruction : Instruction) (old new : group.Run) → new.state.account ≡ old.state.account
-    → ((next : Next) (i : ℕ) → acts_at qs functions instruction next i old ≡ goes_on (next_at next i new) i new.state) → Acts n n qs functions instruction old (Ok On) new
+    → ((next : Next) (i : ℕ) → acts_at qs functions instruction next i old ≡ goes_on (next_at next i new) i new.state)
+    → Acts n n qs functions instruction old (Ok On) new
 freely n qs functions instruction old new same is = λ cs. (cs, refl, λ i lt u next z. is next i z (progress_at (sym same z) cs i u))
 
 -- ---- a function that is entered
@@ -160,58 +184,89 @@ freely n qs functions instruction old new same is = λ cs. (cs, refl, λ i lt u 
 pub as_many_frames : (i : ℕ) (fs : List Frame) → length (frames_at i fs) ≡ length fs
 as_many_frames i fs = length-map (reverse fs) (frame_at i) ∙ length-reverse fs
 
-pub entered : (functions : List ℕ) (function start : ℕ) (ms : List Many) (old new : group.Run) (f : Frame) → slice_get functions function ≡ Some start → (length old.frames.items == MOST_CALL_DEPTH) ≡ false
+pub entered : (functions : List ℕ) (function start : ℕ) (ms : List Many) (old new : group.Run) (f : Frame)
+    → slice_get functions function ≡ Some start → (length old.frames.items == MOST_CALL_DEPTH) ≡ false
     → f.place ≡ old.place + 1 → f.stack ≡ old.state.stack → f.slots ≡ old.state.slots → new.frames.items ≡ old.frames.items ++ f ∷ [] → new.place ≡ start
-    → ((i : ℕ) → stack_at i new.state.stack ≡ []) → new.state.slots.items ≡ ms → (next : Next) (i : ℕ) → entered_at functions function ms next i old ≡ goes_on (next_at next i new) i new.state
+    → ((i : ℕ) → stack_at i new.state.stack ≡ []) → new.state.slots.items ≡ ms → (next : Next) (i : ℕ)
+    → entered_at functions function ms next i old ≡ goes_on (next_at next i new) i new.state
 entered functions function start ms old new f found free place stack slots pushed begun empty values next i =
     let fs = frames_at i old.frames.items in
     let frame : meant.Frame = record { place = old.place + 1; stack = stack_at i old.state.stack; slots = members_at i old.state.slots.items } in
     let same : frame_at i f ≡ frame = λ z. record { place = place z; stack = stack_at i (stack z); slots = members_at i (slots z).items } in
     let calls : frames_at i new.frames.items ≡ frame ∷ fs = ap (frames_at i) pushed ∙ one_frame_more i old.frames.items f ∙ ap (λ g. g ∷ fs) same in
     ap (λ o. enter next fs o frame (members_at i ms)) found
-    ∙ ap (λ b. cond b (fails TooDeep) (next (frame ∷ fs) start [] (members_at i ms))) (ap (λ n. n == MOST_CALL_DEPTH) (as_many_frames i old.frames.items) ∙ free)
+    ∙ ap (λ b. cond b (fails TooDeep) (next (frame ∷ fs) start [] (members_at i ms)))
+    (ap (λ n. n == MOST_CALL_DEPTH) (as_many_frames i old.frames.items) ∙ free)
     ∙ (λ z. next (sym calls z) (sym begun z) (sym (empty i) z) (members_at i (sym values z)))
 
 -- ---- a node, and what is done with its value
 
-module _ (before after' : ℕ) (qs : List Request) (functions : List ℕ) (instruction : Instruction) (p : Primitive) (ms : List Many) (old new : group.Run) (rest : Next → ℕ → Datum → Run Flow)
+module _ (before after' : ℕ) (qs : List Request) (functions : List ℕ) (instruction : Instruction) (p : Primitive)
+    (ms : List Many) (old new : group.Run) (rest : Next → ℕ → Datum → Run Flow)
     (is : (next : Next) (i : ℕ) (r : Progress) → acts_at qs functions instruction next i old r ≡ after (node_at qs p ms i r) (rest next i)) where
-  pub value_goes : (m : Many) (mid : Account) (w : Went) → new.state.account ≡ mid → ((next : Next) (i : ℕ) → rest next i (member_value m i) ≡ ran_at w next i new) → ValuesDo before after' qs p ms old.state.account (Ok m) mid
+  pub value_goes : (m : Many) (mid : Account) (w : Went) → new.state.account ≡ mid
+      → ((next : Next) (i : ℕ) → rest next i (member_value m i) ≡ ran_at w next i new)
+      → ValuesDo before after' qs p ms old.state.account (Ok m) mid
       → Acts before after' qs functions instruction old (Ok w) new
   value_goes m mid w same goes' h =
-      then_all (length qs) before after' (node_at qs p ms) (λ next i. acts_at qs functions instruction next i old) rest is (member_value m) old.state.account mid new.state.account (Ok w) (λ next i w. ran_at w next i new) h
+      then_all (length qs) before after' (node_at qs p ms)
+      (λ next i. acts_at qs functions instruction next i old) rest is
+      (member_value m) old.state.account mid new.state.account (Ok w) (λ next i w. ran_at w next i new) h
       (λ cs i lt u next z. goes' next i z (progress_at (sym same z) cs i u))
 
-  pub value_halts : (e : Apart) → ValuesDo before after' qs p ms old.state.account (Err e) new.state.account → Acts before after' qs functions instruction old (Err e) new
+  pub value_halts : (e : Apart) → ValuesDo before after' qs p ms old.state.account (Err e) new.state.account
+      → Acts before after' qs functions instruction old (Err e) new
   value_halts e h =
-      halt_all (length qs) before after' (node_at qs p ms) (λ next i. acts_at qs functions instruction next i old) rest is e old.state.account new.state.account (λ i m. give (member_value m i)) (λ next i w. ran_at w next i new) h
+      halt_all (length qs) before after' (node_at qs p ms)
+      (λ next i. acts_at qs functions instruction next i old) rest is e old.state.account new.state.account
+      (λ i m. give (member_value m i)) (λ next i w. ran_at w next i new) h
 
 -- a call, after its node
-pub call_goes : (before after' : ℕ) (qs : List Request) (functions : List ℕ) (function n : ℕ) (ms : List Many) (old mid new : group.Run) (m : Many) (result : Result Went Apart)
-    → ((next : Next) (i : ℕ) (r : Progress) → acts_at qs functions (code.Call function n) next i old r ≡ after (node_at qs node.Call ms i r) (λ _. entered_at functions function ms next i mid))
-    → ValuesDo before after' qs node.Call ms old.state.account (Ok m) mid.state.account → Enters functions function ms mid result new → Acts before after' qs functions (code.Call function n) old result new
+pub call_goes : (before after' : ℕ) (qs : List Request) (functions : List ℕ) (function n : ℕ) (ms : List Many)
+    (old mid new : group.Run) (m : Many) (result : Result Went Apart)
+    → ((next : Next) (i : ℕ) (r : Progress) → acts_at qs functions (code.Call function n) next i old r
+    ≡ after (node_at qs node.Call ms i r) (λ _. entered_at functions function ms next i mid))
+    → ValuesDo before after' qs node.Call ms old.state.account (Ok m) mid.state.account
+    → Enters functions function ms mid result new
+    → Acts before after' qs functions (code.Call function n) old result new
 call_goes before after' qs functions function n ms old mid new m result is h e =
-    then_all (length qs) before after' (node_at qs node.Call ms) (λ next i. acts_at qs functions (code.Call function n) next i old) (λ next i d. entered_at functions function ms next i mid) is (member_value m) old.state.account mid.state.account new.state.account result (λ next i w. ran_at w next i new) h (by result e)
+    then_all (length qs) before after' (node_at qs node.Call ms)
+    (λ next i. acts_at qs functions (code.Call function n) next i old)
+    (λ next i d. entered_at functions function ms next i mid) is
+    (member_value m) old.state.account mid.state.account new.state.account result
+    (λ next i w. ran_at w next i new) h (by result e)
   where
     by : (result : Result Went Apart) → Enters functions function ms mid result new
-        → AllGo (length qs) result (λ cs i u. (next : Next) → Gives (λ w. ran_at w next i new) result (progress_at new.state.account cs i u) (entered_at functions function ms next i mid (progress_at mid.state.account cs i u)))
+        → AllGo (length qs) result (λ cs i u. (next : Next)
+        → Gives (λ w. ran_at w next i new) result (progress_at new.state.account cs i u)
+        (entered_at functions function ms next i mid (progress_at mid.state.account cs i u)))
     by (Ok w) e = λ cs i lt u next z. e.0 next i z (progress_at (sym e.1 z) cs i u)
     by (Err Memory) e = tt
     by (Err (Fault f)) e = λ cs i lt u next z. e.0 next i z (progress_at (sym e.1 z) cs i u)
     by (Err Differ) e = absurd e
 
-pub call_is : (qs : List Request) (functions : List ℕ) (function n : ℕ) (ms : List Many) (old mid : group.Run) → mid.frames ≡ old.frames → mid.place ≡ old.place → mid.state.slots ≡ old.state.slots
+pub call_is : (qs : List Request) (functions : List ℕ) (function n : ℕ) (ms : List Many) (old mid : group.Run)
+    → mid.frames ≡ old.frames → mid.place ≡ old.place → mid.state.slots ≡ old.state.slots
     → ((i : ℕ) → topmost n (stack_at i old.state.stack) [] ≡ members_at i ms) → ((i : ℕ) → drop n (stack_at i old.state.stack) ≡ stack_at i mid.state.stack)
-    → (next : Next) (i : ℕ) (r : Progress) → acts_at qs functions (code.Call function n) next i old r ≡ after (node_at qs node.Call ms i r) (λ _. entered_at functions function ms next i mid)
+    → (next : Next) (i : ℕ) (r : Progress) → acts_at qs functions (code.Call function n) next i old r
+    ≡ after (node_at qs node.Call ms i r) (λ _. entered_at functions function ms next i mid)
 call_is qs functions function n ms old mid frames place slots values left next i r =
     let q = request_at qs i in
-    (λ z. means_nodes.call function n q functions next (frames_at i old.frames.items) old.place (stack_at i old.state.stack) (members_at i old.state.slots.items) z r)
-    ∙ (λ z. after (node_run (taking (values i z)) (evaluated q node.Call (values i z)) r) (λ _. enter next (frames_at i (sym frames z).items) (slice_get functions function) (record { place = sym place z + 1; stack = left i z; slots = members_at i (sym slots z).items }) (values i z)))
+    (λ z. means_nodes.call function n q functions next (frames_at i old.frames.items) old.place
+    (stack_at i old.state.stack) (members_at i old.state.slots.items) z r)
+    ∙ (λ z. after (node_run (taking (values i z)) (evaluated q node.Call (values i z)) r)
+    (λ _. enter next (frames_at i (sym frames z).items) (slice_get functions function)
+    (record { place = sym place z + 1; stack = left i z; slots = members_at i (sym slots z).items }) (values i z)))
 
 -- the next turn, with the member that it has
-pub next_turn : (next : Next) (i n k passed' : ℕ) (old : group.Run) (st : State) (new : group.Run) (m x : Many) → new.frames ≡ old.frames → new.place ≡ old.place - n → passed' ≡ k + 1
-    → ((i : ℕ) → stack_at i new.state.stack ≡ without passed' (member_value m i) ∷ member_value m i ∷ stack_at i st.stack) → new.state.slots.items ≡ st.slots.items ++ x ∷ [] → member_value x i ≡ member_at k (member_value m i)
-    → next (frames_at i old.frames.items) (old.place - n) (without (k + 1) (member_value m i) ∷ member_value m i ∷ stack_at i st.stack) (members_at i st.slots.items ++ member_at k (member_value m i) ∷ [])
+pub next_turn : (next : Next) (i n k passed' : ℕ) (old : group.Run) (st : State) (new : group.Run) (m x : Many)
+    → new.frames ≡ old.frames → new.place ≡ old.place - n → passed' ≡ k + 1
+    → ((i : ℕ) → stack_at i new.state.stack ≡ without passed'
+    (member_value m i) ∷ member_value m i ∷ stack_at i st.stack) → new.state.slots.items ≡ st.slots.items ++ x ∷ []
+    → member_value x i ≡ member_at k (member_value m i)
+    → next (frames_at i old.frames.items) (old.place - n)
+    (without (k + 1) (member_value m i) ∷ member_value m i ∷ stack_at i st.stack)
+    (members_at i st.slots.items ++ member_at k (member_value m i) ∷ [])
     ≡ goes_on (next_at next i new) i new.state
 next_turn next i n k passed' old st new m x frames place passing stack slots is =
     let values : members_at i new.state.slots.items ≡ members_at i st.slots.items ++ member_at k (member_value m i) ∷ [] =

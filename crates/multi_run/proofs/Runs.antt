@@ -23,12 +23,17 @@ use Rattle.multi_run.specs.Runs.{Runs, exec_at, going_at, rank}
 use Rattle.multi_run.specs.declared.run.Run as group
 
 -- an instruction after which the next one is done
-pub does_acts : (before after' : ℕ) (qs : List Request) (functions : List ℕ) (instruction : Instruction) (old mid : group.Run) (s : State) (result : Result Went Apart) → mid.frames ≡ old.frames → mid.place ≡ old.place + 1 → mid.state ≡ old.state
+pub does_acts : (before after' : ℕ) (qs : List Request) (functions : List ℕ) (instruction : Instruction)
+    (old mid : group.Run) (s : State) (result : Result Went Apart) → mid.frames ≡ old.frames
+    → mid.place ≡ old.place + 1 → mid.state ≡ old.state
     → Does before after' qs instruction mid.state result s → Acts before after' qs functions instruction old result (record mid { state = s })
 does_acts before after' qs functions instruction old mid s result frames place state h =
     do_to (length qs) before after' result
-    (λ cs ds i u. (a : Around) → Gives (λ w. went_at w (onward a) i s) result (progress_at s.account ds i u) (does_at qs instruction a i mid.state (progress_at mid.state.account cs i u)))
-    (λ cs ds i u. (next : Next) → Gives (λ w. ran_at w next i (record mid { state = s })) result (progress_at s.account ds i u) (acts_at qs functions instruction next i old (progress_at old.state.account cs i u)))
+    (λ cs ds i u. (a : Around) → Gives (λ w. went_at w (onward a) i s) result (progress_at s.account ds i u)
+    (does_at qs instruction a i mid.state (progress_at mid.state.account cs i u)))
+    (λ cs ds i u. (next : Next) → Gives (λ w. ran_at w next i (record mid { state = s })) result
+    (progress_at s.account ds i u) (acts_at qs functions instruction next i old
+    (progress_at old.state.account cs i u)))
     (λ cs ds i lt u g next.
     let a : Around = record { functions = functions; next = next; frames = frames_at i old.frames.items; place = old.place } in
     subst (λ o. Gives (λ w. ran_at w next i (record mid { state = s })) result (progress_at s.account ds i u) o)
@@ -38,7 +43,8 @@ does_acts before after' qs functions instruction old mid s result frames place s
     h
 
 -- the end of a page
-pub halt_acts : (n : ℕ) (qs : List Request) (functions : List ℕ) (instruction : Instruction) (m : group.Run) → instruction ≡ Halt → Acts n n qs functions instruction m (Ok Over) m
+pub halt_acts : (n : ℕ) (qs : List Request) (functions : List ℕ) (instruction : Instruction) (m : group.Run)
+    → instruction ≡ Halt → Acts n n qs functions instruction m (Ok Over) m
 halt_acts n qs functions instruction m is = λ cs. (cs, refl, λ i lt u next. ap (λ x. acts_at qs functions x next i m (progress_at m.state.account cs i u)) is)
 
 -- nothing is done so far
@@ -47,7 +53,10 @@ none_done n qs code m = λ cs. (cs, refl, λ i lt u. (0, λ k. let e : 0 + k ≡
 
 module _ (before mid' after' : ℕ) (qs : List Request) (code : Code) (old mid new : group.Run) (before_it : Runs before mid' qs code old (Ok On) mid) where
   -- one instruction more
-  pub one_done : (instruction : Instruction) (result : Result Went Apart) → slice_get code.instructions.items mid.place ≡ Some instruction → Acts mid' after' qs code.functions.items instruction mid result new → Runs before after' qs code old result new
+  pub one_done : (instruction : Instruction) (result : Result Went Apart)
+      → slice_get code.instructions.items mid.place ≡ Some instruction
+      → Acts mid' after' qs code.functions.items instruction mid result new
+      → Runs before after' qs code old result new
   one_done instruction (Ok w) at h = λ cs. let r = before_it cs in let t = h r.0 in (
     t.0,
     omega (arith, r.1, t.1),
@@ -57,7 +66,9 @@ module _ (before mid' after' : ℕ) (qs : List Request) (code : Code) (old mid n
           λ k.
               let e : s.0 + 1 + k ≡ s.0 + suc k = omega arith in
               ap (λ j. going_at qs code i old j (progress_at old.state.account cs i u)) e ∙ s.1 (suc k)
-              ∙ ap (λ o. step (request_at qs i) code.functions.items o (exec_at qs code i k) (frames_at i mid.frames.items) mid.place (stack_at i mid.state.stack) (members_at i mid.state.slots.items) (progress_at mid.state.account r.0 i u)) at
+              ∙ ap (λ o. step (request_at qs i) code.functions.items o (exec_at qs code i k)
+              (frames_at i mid.frames.items) mid.place (stack_at i mid.state.stack)
+              (members_at i mid.state.slots.items) (progress_at mid.state.account r.0 i u)) at
               ∙ t.2 i lt u (exec_at qs code i k),
         ),
   )
@@ -71,7 +82,9 @@ module _ (before mid' after' : ℕ) (qs : List Request) (code : Code) (old mid n
           λ k.
               let e : s.0 + 1 + k ≡ s.0 + suc k = omega arith in
               ap (λ j. going_at qs code i old j (progress_at old.state.account cs i u)) e ∙ s.1 (suc k)
-              ∙ ap (λ o. step (request_at qs i) code.functions.items o (exec_at qs code i k) (frames_at i mid.frames.items) mid.place (stack_at i mid.state.stack) (members_at i mid.state.slots.items) (progress_at mid.state.account r.0 i u)) at
+              ∙ ap (λ o. step (request_at qs i) code.functions.items o (exec_at qs code i k)
+              (frames_at i mid.frames.items) mid.place (stack_at i mid.state.stack)
+              (members_at i mid.state.slots.items) (progress_at mid.state.account r.0 i u)) at
               ∙ t.2 i lt u (exec_at qs code i k),
         ),
   )

@@ -43,7 +43,8 @@ acts_at qs functions instruction next i m = goes_on (next_at (step (request_at q
 abbrev pub Acts : (before after' : ℕ) → List Request → (functions : List ℕ) → Instruction → group.Run → Result Went Apart → group.Run → Type 0
 Acts before after' qs functions instruction old result new =
     AllDo (length qs) before after' result (λ cs ds i u. (next : Next)
-    → Gives (λ w. ran_at w next i new) result (progress_at new.state.account ds i u) (acts_at qs functions instruction next i old (progress_at old.state.account cs i u)))
+    → Gives (λ w. ran_at w next i new) result (progress_at new.state.account ds i u)
+    (acts_at qs functions instruction next i old (progress_at old.state.account cs i u)))
 
 -- ---- calls
 
@@ -55,13 +56,19 @@ pub record GoesBack (m : Many) (old : group.Run) (w : Went) (new : group.Run) : 
 -- a member's call
 abbrev pub entered_at : (functions : List ℕ) → (function : ℕ) → List Many → Next → ℕ → group.Run → Run Flow
 entered_at functions function ms next i m =
-    enter next (frames_at i m.frames.items) (slice_get functions function) (record { place = m.place + 1; stack = stack_at i m.state.stack; slots = members_at i m.state.slots.items }) (members_at i ms)
+    enter next (frames_at i m.frames.items) (slice_get functions function)
+    (record { place = m.place + 1; stack = stack_at i m.state.stack; slots = members_at i m.state.slots.items })
+    (members_at i ms)
 
 -- Each member enters this function with these arguments.
 abbrev pub Enters : (functions : List ℕ) → (function : ℕ) → List Many → group.Run → Result Went Apart → group.Run → Type 0
-Enters functions function ms old (Ok w) new = ((next : Next) (i : ℕ) → entered_at functions function ms next i old ≡ ran_at w next i new) × (new.state.account ≡ old.state.account)
+Enters functions function ms old (Ok w) new =
+    ((next : Next) (i : ℕ) → entered_at functions function ms next i old ≡ ran_at w next i new)
+    × (new.state.account ≡ old.state.account)
 Enters functions function ms old (Err Memory) new = Unit {0}
-Enters functions function ms old (Err (Fault f)) new = ((next : Next) (i : ℕ) → entered_at functions function ms next i old ≡ fails f) × (new.state.account ≡ old.state.account)
+Enters functions function ms old (Err (Fault f)) new =
+    ((next : Next) (i : ℕ) → entered_at functions function ms next i old ≡ fails f)
+    × (new.state.account ≡ old.state.account)
 Enters functions function ms old (Err Differ) new = ⊥
 
 -- ---- the end of a run

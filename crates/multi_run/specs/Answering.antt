@@ -17,8 +17,10 @@ use Rattle.multi_run.specs.declared.run.Run as group
 -- limits of a value.
 abbrev pub AllAnswered : ℕ → Many → group.Run → Result Bool Apart → group.Run → Type 0
 AllAnswered n m old (Ok true) new = (cs : Charges) (i : ℕ) → i < n → (u : Unseen) (op : Op) (next : Next)
-    → after (take_answer op (progress_at old.state.account cs i (record u { more = member_value m i ∷ u.more }))) (λ d. next_at next i old (d ∷ stack_at i old.state.stack) (members_at i old.state.slots.items))
+    → after (take_answer op (progress_at old.state.account cs i (record u { more = member_value m i ∷ u.more })))
+    (λ d. next_at next i old (d ∷ stack_at i old.state.stack) (members_at i old.state.slots.items))
     ≡ goes_on (next_at next i new) i new.state (progress_at new.state.account cs i (record u { ops = op ∷ u.ops }))
 AllAnswered n m old (Ok false) new = (cs : Charges) (i : ℕ) → i < n → (u : Unseen) (op : Op)
-    → take_answer op (progress_at old.state.account cs i (record u { more = member_value m i ∷ u.more })) ≡ stops answer_fault (progress_at new.state.account cs i (record u { ops = op ∷ u.ops }))
+    → take_answer op (progress_at old.state.account cs i (record u { more = member_value m i ∷ u.more }))
+    ≡ stops answer_fault (progress_at new.state.account cs i (record u { ops = op ∷ u.ops }))
 AllAnswered n m old (Err e) new = Unit {0}

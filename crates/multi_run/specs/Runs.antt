@@ -27,7 +27,9 @@ going_at qs code i m k = goes_on (next_at (exec_at qs code i k) i m) i m.state
 abbrev pub Runs : (before after' : ℕ) → List Request → Code → group.Run → Result Went Apart → group.Run → Type 0
 Runs before after' qs code old result new =
     AllDo (length qs) before after' result (λ cs ds i u.
-    (n : ℕ) × ((k : ℕ) → Gives (λ w. ran_at w (exec_at qs code i k) i new) result (progress_at new.state.account ds i u) (going_at qs code i old (n + k) (progress_at old.state.account cs i u))))
+    (n : ℕ) × ((k : ℕ) → Gives (λ w. ran_at w (exec_at qs code i k) i new) result
+    (progress_at new.state.account ds i u) (going_at qs code i old (n + k)
+    (progress_at old.state.account cs i u))))
 
 -- It is over, or an operation is wanted.
 abbrev pub HasStopped : Went → Type 0

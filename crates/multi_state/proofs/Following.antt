@@ -4,7 +4,7 @@ use Rattle.script_tree.specs.Datum.{Datum}
 use Rattle.script_tree.specs.Requests.{Request}
 use Rattle.script_tree.specs.declared.operation.Op.{Op}
 use Rattle.script_meaning.specs.Evaluate.{Flow}
-use Rattle.script_meaning.specs.Run.{Progress, Outcome, Run, give, goes, stops, after}
+use Rattle.script_meaning.specs.Run.{Progress, Ran, Run, give, goes, stops, after}
 use Rattle.script_code.specs.declared.instruction.Instruction.{Instruction}
 use Rattle.script_nodes.specs.declared.primitive.Primitive.{Primitive}
 use Rattle.multivalue.specs.Many.{Many, member_value}
@@ -24,7 +24,9 @@ use Rattle.multi_state.specs.declared.went.Went.TheVariants.{On, Wants}
 
 -- ---- a part, and what comes of it, whatever is around
 
-module _ {J A : Type 0} (n before after' : ℕ) (part : ℕ → Run A) (whole : J → ℕ → Run Flow) (rest : J → ℕ → A → Run Flow) (is : (j : J) (i : ℕ) (r : Progress) → whole j i r ≡ after (part i r) (rest j i)) where
+module _ {J A : Type 0} (n before after' : ℕ) (part : ℕ → Run A) (whole : J → ℕ → Run Flow)
+    (rest : J → ℕ → A → Run Flow) (is : (j : J) (i : ℕ) (r : Progress)
+    → whole j i r ≡ after (part i r) (rest j i)) where
   -- the part gives each member its value, and the rest spends nothing
   pub then_all : {X : Type 0} (value : ℕ → A) (old mid new : Account) (result : Result X Apart) (seen : J → ℕ → X → Run Flow)
       → Comes n before after' (λ cs ds i u. part i (progress_at old cs i u) ≡ goes (value i) (progress_at mid ds i u))
@@ -59,29 +61,39 @@ module _ (before after' : ℕ) (qs : List Request) (p : Primitive) (ms : List Ma
       (member_value m) old.account new.account new.account (Ok On) (λ then' i w. went_at w then' i new) h
       (λ cs i lt u then' z. then' (sym (stack i) z) (members_at i (sym slots z).items) (progress_at new.account cs i u))
 
-  pub put_wants : (ops : List Op) → new.stack ≡ old.stack → new.slots ≡ old.slots → NodesDo before after' qs p ms old.account (Ok (Wanted ops)) new.account → Puts before after' qs p ms old (Ok (Wants ops)) new
+  pub put_wants : (ops : List Op) → new.stack ≡ old.stack → new.slots ≡ old.slots
+      → NodesDo before after' qs p ms old.account (Ok (Wanted ops)) new.account
+      → Puts before after' qs p ms old (Ok (Wants ops)) new
   put_wants ops stack slots h = λ cs. let r = h cs in (
     r.0,
     r.1,
     λ i lt u then'.
         ap (λ o. after o (on_stack then' i)) (r.2 i lt u)
-        ∙ (λ z. after (given_at i (Wanted ops) (progress_at new.account r.0 i u)) (λ d. then' (d ∷ stack_at i (sym stack z)) (members_at i (sym slots z).items))),
+        ∙ (λ z. after (given_at i (Wanted ops) (progress_at new.account r.0 i u))
+        (λ d. then' (d ∷ stack_at i (sym stack z)) (members_at i (sym slots z).items))),
   )
 
   pub put_halts : (e : Apart) → NodesDo before after' qs p ms old.account (Err e) new.account → Puts before after' qs p ms old (Err e) new
   put_halts e h =
-      halt_all (length qs) before after' (node_at qs p ms) (λ then' i r. after (node_at qs p ms i r) (on_stack then' i)) on_stack (λ j i r. refl) e old.account new.account given_at (λ then' i w. went_at w then' i new) h
+      halt_all (length qs) before after' (node_at qs p ms)
+      (λ then' i r. after (node_at qs p ms i r) (on_stack then' i)) on_stack
+      (λ j i r. refl) e old.account new.account given_at (λ then' i w. went_at w then' i new) h
 
 -- ---- an instruction
 
 -- one that is a node with its value on the stack
-pub puts_does : (before after' : ℕ) (qs : List Request) (instruction : Instruction) (p : Primitive) (ms : List Many) (old mid new : State) (result : Result Went Apart) → mid.account ≡ old.account
-    → ((a : Around) (i : ℕ) (r : Progress) → does_at qs instruction a i old r ≡ after (node_at qs p ms i r) (λ d. onward a (d ∷ stack_at i mid.stack) (members_at i mid.slots.items)))
+pub puts_does : (before after' : ℕ) (qs : List Request) (instruction : Instruction) (p : Primitive) (ms : List Many)
+    (old mid new : State) (result : Result Went Apart) → mid.account ≡ old.account
+    → ((a : Around) (i : ℕ) (r : Progress) → does_at qs instruction a i old r
+    ≡ after (node_at qs p ms i r) (λ d. onward a (d ∷ stack_at i mid.stack) (members_at i mid.slots.items)))
     → Puts before after' qs p ms mid result new → Does before after' qs instruction old result new
 puts_does before after' qs instruction p ms old mid new result same is h =
     do_to (length qs) before after' result
-    (λ cs ds i u. (then' : Then) → Gives (λ w. went_at w then' i new) result (progress_at new.account ds i u) (after (node_at qs p ms i (progress_at mid.account cs i u)) (λ d. then' (d ∷ stack_at i mid.stack) (members_at i mid.slots.items))))
-    (λ cs ds i u. (a : Around) → Gives (λ w. went_at w (onward a) i new) result (progress_at new.account ds i u) (does_at qs instruction a i old (progress_at old.account cs i u)))
+    (λ cs ds i u. (then' : Then) → Gives (λ w. went_at w then' i new) result (progress_at new.account ds i u)
+    (after (node_at qs p ms i (progress_at mid.account cs i u))
+    (λ d. then' (d ∷ stack_at i mid.stack) (members_at i mid.slots.items))))
+    (λ cs ds i u. (a : Around) → Gives (λ w. went_at w (onward a) i new) result (progress_at new.account ds i u)
+    (does_at qs instruction a i old (progress_at old.account cs i u)))
     (λ cs ds i lt u g a.
     subst (λ o. Gives (λ w. went_at w (onward a) i new) result (progress_at new.account ds i u) o)
     (ap (λ b. after (node_at qs p ms i (progress_at b cs i u)) (λ d. onward a (d ∷ stack_at i mid.stack) (members_at i mid.slots.items))) same ∙ sym (is a i (progress_at old.account cs i u)))
@@ -90,44 +102,66 @@ puts_does before after' qs instruction p ms old mid new result same is h =
 
 -- ---- an instruction that keeps its value elsewhere
 
-module _ (before after' : ℕ) (qs : List Request) (instruction : Instruction) (p : Primitive) (ms : List Many) (old new : State) (rest : Around → ℕ → Datum → Run Flow)
+module _ (before after' : ℕ) (qs : List Request) (instruction : Instruction) (p : Primitive) (ms : List Many)
+    (old new : State) (rest : Around → ℕ → Datum → Run Flow)
     (is : (a : Around) (i : ℕ) (r : Progress) → does_at qs instruction a i old r ≡ after (node_at qs p ms i r) (rest a i)) where
   -- it spends nothing more
-  pub value_does : (m : Many) (mid : Account) → new.account ≡ mid → ((a : Around) (i : ℕ) → rest a i (member_value m i) ≡ goes_on (onward a) i new) → ValuesDo before after' qs p ms old.account (Ok m) mid
+  pub value_does : (m : Many) (mid : Account) → new.account ≡ mid
+      → ((a : Around) (i : ℕ) → rest a i (member_value m i) ≡ goes_on (onward a) i new)
+      → ValuesDo before after' qs p ms old.account (Ok m) mid
       → Does before after' qs instruction old (Ok On) new
   value_does m mid same goes' h =
-      then_all (length qs) before after' (node_at qs p ms) (λ a i. does_at qs instruction a i old) rest is (member_value m) old.account mid new.account (Ok On) (λ a i w. went_at w (onward a) i new) h
+      then_all (length qs) before after' (node_at qs p ms) (λ a i. does_at qs instruction a i old) rest is
+      (member_value m) old.account mid new.account (Ok On) (λ a i w. went_at w (onward a) i new) h
       (λ cs i lt u a z. goes' a i z (progress_at (sym same z) cs i u))
 
   pub value_halts : (e : Apart) → ValuesDo before after' qs p ms old.account (Err e) new.account → Does before after' qs instruction old (Err e) new
   value_halts e h =
-      halt_all (length qs) before after' (node_at qs p ms) (λ a i. does_at qs instruction a i old) rest is e old.account new.account (λ i m. give (member_value m i)) (λ a i w. went_at w (onward a) i new) h
+      halt_all (length qs) before after' (node_at qs p ms)
+      (λ a i. does_at qs instruction a i old) rest is e old.account new.account (λ i m. give (member_value m i))
+      (λ a i w. went_at w (onward a) i new) h
 
   -- it does more with the value, which spends nothing
-  pub value_then : (m : Many) (mid : Account) (more : Datum → Run (Unit {0})) → ((a : Around) (i : ℕ) → rest a i (member_value m i) ≡ (λ r. after (more (member_value m i) r) (λ _. goes_on (onward a) i new)))
+  pub value_then : (m : Many) (mid : Account) (more : Datum → Run (Unit {0}))
+      → ((a : Around) (i : ℕ) → rest a i (member_value m i)
+      ≡ (λ r. after (more (member_value m i) r) (λ _. goes_on (onward a) i new)))
       → ValuesDo before after' qs p ms old.account (Ok m) mid
-      → AllGo {X = Unit {0}} (length qs) (Ok tt) (λ cs i u. Gives give (Ok tt) (progress_at new.account cs i u) (more (member_value m i) (progress_at mid cs i u))) → Does before after' qs instruction old (Ok On) new
+      → AllGo {X = Unit {0}} (length qs) (Ok tt)
+      (λ cs i u. Gives give (Ok tt) (progress_at new.account cs i u)
+      (more (member_value m i) (progress_at mid cs i u))) → Does before after' qs instruction old (Ok On) new
   value_then m mid more goes' h g =
-      then_all (length qs) before after' (node_at qs p ms) (λ a i. does_at qs instruction a i old) rest is (member_value m) old.account mid new.account (Ok On) (λ a i w. went_at w (onward a) i new) h
+      then_all (length qs) before after' (node_at qs p ms) (λ a i. does_at qs instruction a i old) rest is
+      (member_value m) old.account mid new.account (Ok On) (λ a i w. went_at w (onward a) i new) h
       (λ cs i lt u a. (λ z. goes' a i z (progress_at mid cs i u)) ∙ ap (λ o. after o (λ _. goes_on (onward a) i new)) (g cs i lt u))
 
-  pub value_stops : (m : Many) (mid : Account) (more : Datum → Run (Unit {0})) (e : Apart) → ((a : Around) (i : ℕ) → rest a i (member_value m i) ≡ (λ r. after (more (member_value m i) r) (λ _. goes_on (onward a) i new)))
+  pub value_stops : (m : Many) (mid : Account) (more : Datum → Run (Unit {0})) (e : Apart)
+      → ((a : Around) (i : ℕ) → rest a i (member_value m i)
+      ≡ (λ r. after (more (member_value m i) r) (λ _. goes_on (onward a) i new)))
       → ValuesDo before after' qs p ms old.account (Ok m) mid
-      → AllGo {X = Unit {0}} (length qs) (Err e) (λ cs i u. Gives give (Err e) (progress_at new.account cs i u) (more (member_value m i) (progress_at mid cs i u))) → Does before after' qs instruction old (Err e) new
+      → AllGo {X = Unit {0}} (length qs) (Err e)
+      (λ cs i u. Gives give (Err e) (progress_at new.account cs i u)
+      (more (member_value m i) (progress_at mid cs i u))) → Does before after' qs instruction old (Err e) new
   value_stops m mid more e goes' h g =
-      then_all (length qs) before after' (node_at qs p ms) (λ a i. does_at qs instruction a i old) rest is (member_value m) old.account mid new.account (Err e) (λ a i w. went_at w (onward a) i new) h (by e g)
+      then_all (length qs) before after' (node_at qs p ms) (λ a i. does_at qs instruction a i old) rest is
+      (member_value m) old.account mid new.account (Err e) (λ a i w. went_at w (onward a) i new) h (by e g)
     where
-      by : (e : Apart) → AllGo {X = Unit {0}} (length qs) (Err e) (λ cs i u. Gives give (Err e) (progress_at new.account cs i u) (more (member_value m i) (progress_at mid cs i u)))
-          → AllGo {X = Went} (length qs) (Err e) (λ cs i u. (a : Around) → Gives (λ w. went_at w (onward a) i new) (Err e) (progress_at new.account cs i u) (rest a i (member_value m i) (progress_at mid cs i u)))
+      by : (e : Apart) → AllGo {X = Unit {0}} (length qs) (Err e)
+          (λ cs i u. Gives give (Err e) (progress_at new.account cs i u)
+          (more (member_value m i) (progress_at mid cs i u)))
+          → AllGo {X = Went} (length qs) (Err e) (λ cs i u. (a : Around)
+          → Gives (λ w. went_at w (onward a) i new) (Err e) (progress_at new.account cs i u)
+          (rest a i (member_value m i) (progress_at mid cs i u)))
       by Memory g = tt
       by (Fault f) g = λ cs i lt u a. (λ z. goes' a i z (progress_at mid cs i u)) ∙ ap (λ o. after o (λ _. goes_on (onward a) i new)) (g cs i lt u)
       by Differ g = tt
 
 -- one part behind two others
-pub after_both : {A B C : Type 0} (o : Outcome A) (f : A → Run B) (g : B → Run C) → after (after o f) g ≡ after o (λ a p. after (f a p) g)
+pub after_both : {A B C : Type 0} (o : Ran A) (f : A → Run B) (g : B → Run C) → after (after o f) g ≡ after o (λ a p. after (f a p) g)
 after_both (goes a p) f g = refl
 after_both (stops e p) f g = refl
 
 -- an instruction that no member is charged for
-pub freely : (n : ℕ) (qs : List Request) (instruction : Instruction) (old new : State) → new.account ≡ old.account → ((a : Around) (i : ℕ) → does_at qs instruction a i old ≡ goes_on (onward a) i new) → Does n n qs instruction old (Ok On) new
+pub freely : (n : ℕ) (qs : List Request) (instruction : Instruction) (old new : State) → new.account ≡ old.account
+    → ((a : Around) (i : ℕ) → does_at qs instruction a i old ≡ goes_on (onward a) i new)
+    → Does n n qs instruction old (Ok On) new
 freely n qs instruction old new same is = λ cs. (cs, refl, λ i lt u a z. is a i z (progress_at (sym same z) cs i u))

@@ -10,10 +10,12 @@ use Rattle.multi_state.specs.declared.account.BareMark.{BareMark}
 use Rattle.multi_state.specs.declared.account.BareMark.TheVariants as left
 
 pub one_decided : (ts : List BareMark) (ops : List Op) (b : Bool) → marks_of (ts ++ left.Decided b ∷ []) ops ≡ marks_of ts ops ++ decided b ∷ []
-one_decided ts ops b = ap (λ r. reverse (marks_back r ops)) (reverse-append ts (left.Decided b ∷ [])) ∙ reverse-append (decided b ∷ []) (marks_back (reverse ts) ops)
+one_decided ts ops b = ap (λ r. reverse (marks_back r ops)) (reverse-append ts (left.Decided b ∷ []))
+    ∙ reverse-append (decided b ∷ []) (marks_back (reverse ts) ops)
 
 pub one_issued : (ts : List BareMark) (ops : List Op) (op : Op) → marks_of (ts ++ left.Issued ∷ []) (op ∷ ops) ≡ marks_of ts ops ++ issued op ∷ []
-one_issued ts ops op = ap (λ r. reverse (marks_back r (op ∷ ops))) (reverse-append ts (left.Issued ∷ [])) ∙ reverse-append (issued op ∷ []) (marks_back (reverse ts) ops)
+one_issued ts ops op = ap (λ r. reverse (marks_back r (op ∷ ops))) (reverse-append ts (left.Issued ∷ []))
+    ∙ reverse-append (issued op ∷ []) (marks_back (reverse ts) ops)
 
 map_both : (xs ys : List Mark) → map bare (xs ++ ys) ≡ map bare xs ++ map bare ys
 map_both [] ys = refl
@@ -22,7 +24,8 @@ map_both (x ∷ xs) ys = ap (λ zs. bare x ∷ zs) (map_both xs ys)
 map_back : (xs : List Mark) → map bare (reverse xs) ≡ reverse (map bare xs)
 map_back [] = refl
 map_back (x ∷ xs) =
-    ap (map bare) (reverse-append (x ∷ []) xs) ∙ map_both (reverse xs) (x ∷ []) ∙ ap (λ zs. zs ++ bare x ∷ []) (map_back xs) ∙ sym (reverse-append (bare x ∷ []) (map bare xs))
+    ap (map bare) (reverse-append (x ∷ []) xs) ∙ map_both (reverse xs) (x ∷ [])
+    ∙ ap (λ zs. zs ++ bare x ∷ []) (map_back xs) ∙ sym (reverse-append (bare x ∷ []) (map bare xs))
 
 bare_back : (ts : List BareMark) (ops : List Op) → map bare (marks_back ts ops) ≡ ts
 bare_back [] ops = refl

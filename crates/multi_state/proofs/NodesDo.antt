@@ -40,7 +40,8 @@ abbrev pub one_issued : Progress → Option (List Cost) → Progress
 one_issued p costs = record p { operations = p.operations + 1; costs = costs }
 
 pub issues : (a : Account) (c : ℕ → Cost) (cs : Charges) (i : ℕ) (u : Unseen) (op : Op) → (a.operations == MOST_OPERATIONS) ≡ false
-    → gone_on (Ok (Operation op)) (progress_at a (c ∷ cs) i u) ≡ take_answer op (one_issued (progress_at a (c ∷ cs) i u) (extended (issuing ∷ costs_at i cs) u.kept))
+    → gone_on (Ok (Operation op)) (progress_at a (c ∷ cs) i u)
+    ≡ take_answer op (one_issued (progress_at a (c ∷ cs) i u) (extended (issuing ∷ costs_at i cs) u.kept))
 issues a c cs i u op e =
     ap (λ b. after (cond b (stops (fault TooManyOperations) (progress_at a (c ∷ cs) i u)) (goes tt (one_issued (progress_at a (c ∷ cs) i u) (last_issuing (progress_at a (c ∷ cs) i u).costs)))) (λ _. take_answer op)) e
     ∙ ap (λ k. take_answer op (one_issued (progress_at a (c ∷ cs) i u) k)) (relabelled (c i) (costs_at i cs) u.kept)
@@ -62,11 +63,14 @@ at_most a b l h = grind (arith, nat_tests, l, h)
 
 -- where all have the same fault, or nothing together
 pub node_halts : (before after' : ℕ) (qs : List Request) (p : Primitive) (ms : List Many) (old new : Account) (e : Apart)
-    → Spends old new true → Have (length qs) (answer_at qs p ms) (Err e) → Counts before after' (price (length qs) (cost_at qs p ms)) (length qs) (Err e) → NodesDo before after' qs p ms old (Err e) new
+    → Spends old new true → Have (length qs) (answer_at qs p ms) (Err e)
+    → Counts before after' (price (length qs) (cost_at qs p ms)) (length qs) (Err e)
+    → NodesDo before after' qs p ms old (Err e) new
 node_halts before after' qs p ms old new Memory spends have counts = tt
 node_halts before after' qs p ms old new (Fault f) spends have counts = λ cs. (
   cost_at qs p ms ∷ cs,
   omega (arith, counts),
-  λ i lt u. on_charged (cost_at qs p ms i) (answer_at qs p ms i) (Err f) (progress_at old cs i u) (progress_at new (cost_at qs p ms ∷ cs) i u) (spends.1 (cost_at qs p ms) cs i u) (have i lt),
+  λ i lt u. on_charged (cost_at qs p ms i) (answer_at qs p ms i) (Err f) (progress_at old cs i u)
+      (progress_at new (cost_at qs p ms ∷ cs) i u) (spends.1 (cost_at qs p ms) cs i u) (have i lt),
 )
 node_halts before after' qs p ms old new Differ spends have counts = tt

@@ -1,7 +1,7 @@
 -- One part of a run after another, done by all members.
 use Rattle.std.proofs.Common.{◌≡◌, ◌<◌, ℕ, Ok, Err, Result, ap, ◌∙◌}
 use Rattle.script_tree.specs.declared.fault.ScriptFault.{ScriptFault}
-use Rattle.script_meaning.specs.Run.{Progress, Outcome, stops, Run}
+use Rattle.script_meaning.specs.Run.{Progress, Ran, stops, Run}
 use Rattle.script_meaning.specs.declared.run.Stop.TheVariants.{Fault as fault}
 use Rattle.multivalue.specs.declared.apart.Apart.{Apart}
 use Rattle.multivalue.specs.declared.apart.Apart.TheVariants.{Memory, Fault, Differ}
@@ -10,11 +10,15 @@ use Rattle.multi_state.specs.Progress.{Charges, Unseen, progress_at}
 use Rattle.multi_state.specs.declared.account.Account.{Account}
 
 -- what holds of each member has a consequence
-pub comes_to : (n before after' : ℕ) (P Q : Charges → Charges → ℕ → Unseen → Type 0) → ((cs ds : Charges) (i : ℕ) → i < n → (u : Unseen) → P cs ds i u → Q cs ds i u) → Comes n before after' P → Comes n before after' Q
+pub comes_to : (n before after' : ℕ) (P Q : Charges → Charges → ℕ → Unseen → Type 0)
+    → ((cs ds : Charges) (i : ℕ) → i < n → (u : Unseen) → P cs ds i u → Q cs ds i u) → Comes n before after' P
+    → Comes n before after' Q
 comes_to n before after' P Q f h cs = let r = h cs in (r.0, r.1, λ i lt u. f cs r.0 i lt u (r.2 i lt u))
 
 -- the same, of what was returned
-pub do_to : {X : Type 0} (n before after' : ℕ) (result : Result X Apart) (P Q : Charges → Charges → ℕ → Unseen → Type 0) → ((cs ds : Charges) (i : ℕ) → i < n → (u : Unseen) → P cs ds i u → Q cs ds i u)
+pub do_to : {X : Type 0} (n before after' : ℕ) (result : Result X Apart)
+    (P Q : Charges → Charges → ℕ → Unseen → Type 0)
+    → ((cs ds : Charges) (i : ℕ) → i < n → (u : Unseen) → P cs ds i u → Q cs ds i u)
     → AllDo n before after' result P → AllDo n before after' result Q
 do_to n before after' (Ok x) P Q f h = comes_to n before after' P Q f h
 do_to n before after' (Err Memory) P Q f h = tt
@@ -22,10 +26,10 @@ do_to n before after' (Err (Fault k)) P Q f h = comes_to n before after' P Q f h
 do_to n before after' (Err Differ) P Q f h = tt
 
 -- the rest of a run, which a fault doesn't reach
-abbrev pub PassesFaults : {A B : Type 0} → (Outcome A → Outcome B) → Type 0
+abbrev pub PassesFaults : {A B : Type 0} → (Ran A → Ran B) → Type 0
 PassesFaults F = (f : ScriptFault) (p : Progress) → F (stops (fault f) p) ≡ stops (fault f) p
 
-module _ {X Y A B : Type 0} (n before after' : ℕ) (part : ℕ → Run A) (F : ℕ → Outcome A → Outcome B) (seen : ℕ → X → Run A) (then' : ℕ → Y → Run B) where
+module _ {X Y A B : Type 0} (n before after' : ℕ) (part : ℕ → Run A) (F : ℕ → Ran A → Ran B) (seen : ℕ → X → Run A) (then' : ℕ → Y → Run B) where
   -- where all halt in the first part
   pub halted : (e : Apart) (old new : Account) → ((i : ℕ) → PassesFaults (F i))
       → AllDo {X = X} n before after' (Err e) (λ cs ds i u. Gives (seen i) (Err e) (progress_at new ds i u) (part i (progress_at old cs i u)))

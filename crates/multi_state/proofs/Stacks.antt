@@ -24,7 +24,9 @@ one_fewer : (count : ℕ) (taken : List Many) (m : Many) → length taken < coun
 one_fewer count taken m fewer = omega (arith, length-append taken (m ∷ []))
 
 -- The topmost of those that are left is taken too.
-pub takes_one : (i count : ℕ) (all : List Datum) (taken more : List Many) (was left : List Datum) (m : Many) → length taken < count → more ≡ taken ++ m ∷ [] → was ≡ member_value m i ∷ left → IsTaking i count all taken was → IsTaking i count all more left
+pub takes_one : (i count : ℕ) (all : List Datum) (taken more : List Many) (was left : List Datum) (m : Many)
+    → length taken < count → more ≡ taken ++ m ∷ [] → was ≡ member_value m i ∷ left → IsTaking i count all taken was
+    → IsTaking i count all more left
 takes_one i count all taken more was left m fewer pushed popped is =
     let others = one_fewer count taken m fewer in
     let len : count - length more ≡ count - length (taken ++ m ∷ []) = ap (λ ms. count - length ms) pushed in
@@ -37,7 +39,9 @@ takes_one i count all taken more was left m fewer pushed popped is =
     }
 
 -- So many are taken.
-pub takes_all : (i count : ℕ) (all : List Datum) (taken : List Many) (left : List Datum) → count ≤ length taken → IsTaking i count all taken left → (topmost count all [] ≡ members_at i (reverse taken)) × (drop count all ≡ left)
+pub takes_all : (i count : ℕ) (all : List Datum) (taken : List Many) (left : List Datum) → count ≤ length taken
+    → IsTaking i count all taken left → (topmost count all [] ≡ members_at i (reverse taken))
+    × (drop count all ≡ left)
 takes_all i count all taken left enough is =
     let none : count - length taken ≡ 0 = omega (arith, enough) in
     (sym is.topmost' ∙ ap (λ n. topmost n left (members_at i (reverse taken))) none, sym is.left' ∙ ap (λ n. drop n left) none)

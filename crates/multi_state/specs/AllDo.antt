@@ -2,7 +2,7 @@
 use Rattle.std.specs.Prelude.{◌≡◌, ◌<◌, ◌+◌, ℕ, Bool, List, length, get_or, Result, Ok, Err}
 use Rattle.script_tree.specs.Datum.{Datum}
 use Rattle.script_tree.specs.Requests.{Request}
-use Rattle.script_meaning.specs.Run.{Progress, Outcome, stops, Run, give, take_answer, ◌>>=◌}
+use Rattle.script_meaning.specs.Run.{Progress, Ran, stops, Run, give, take_answer, ◌>>=◌}
 use Rattle.script_meaning.specs.declared.run.Stop.TheVariants.{Fault as fault}
 use Rattle.script_nodes.specs.Evaluated.{node_run}
 use Rattle.script_nodes.specs.NodeLaws.{noted}
@@ -20,9 +20,9 @@ use Rattle.multi_state.specs.declared.given.Given.TheVariants.{Values, Wants}
 
 -- ---- one member
 
--- Its outcome is this with what was returned, or it stops at the fault. Where there was no memory, and where members
+-- It came to this with what was returned, or it stops at the fault. Where there was no memory, and where members
 -- differ, nothing is said.
-abbrev pub Gives : {X A : Type 0} → (seen : X → Run A) → Result X Apart → Progress → Outcome A → Type 0
+abbrev pub Gives : {X A : Type 0} → (seen : X → Run A) → Result X Apart → Progress → Ran A → Type 0
 Gives seen (Ok x) p o = o ≡ seen x p
 Gives seen (Err Memory) p o = Unit {0}
 Gives seen (Err (Fault f)) p o = o ≡ stops (fault f) p
@@ -67,7 +67,8 @@ NodesDo before after' qs p ms old result new =
 -- Each member does a node that is no operation, and has this value.
 abbrev pub ValuesDo : (before after' : ℕ) → List Request → Primitive → List Many → Account → Result Many Apart → Account → Type 0
 ValuesDo before after' qs p ms old result new =
-    AllDo (length qs) before after' result (λ cs ds i u. Gives (λ m. give (member_value m i)) result (progress_at new ds i u) (node_at qs p ms i (progress_at old cs i u)))
+    AllDo (length qs) before after' result (λ cs ds i u. Gives (λ m. give (member_value m i)) result
+    (progress_at new ds i u) (node_at qs p ms i (progress_at old cs i u)))
 
 -- Each member decides by the value of a node, and all decide so.
 abbrev pub AllDecide : (before after' : ℕ) → List Request → Primitive → List Many → Account → Result Bool Apart → Account → Type 0

@@ -54,10 +54,14 @@ does_at qs instruction a i s = goes_on (step (request_at qs i) a.functions (Some
 -- Each member does the instruction, whatever comes next.
 abbrev pub Does : (before after' : ℕ) → List Request → Instruction → State → Result Went Apart → State → Type 0
 Does before after' qs instruction old result new =
-    AllDo (length qs) before after' result (λ cs ds i u. (a : Around) → Gives (λ w. went_at w (onward a) i new) result (progress_at new.account ds i u) (does_at qs instruction a i old (progress_at old.account cs i u)))
+    AllDo (length qs) before after' result (λ cs ds i u. (a : Around)
+    → Gives (λ w. went_at w (onward a) i new) result (progress_at new.account ds i u)
+    (does_at qs instruction a i old (progress_at old.account cs i u)))
 
 -- Each member does a node, and has its value on the stack then.
 abbrev pub Puts : (before after' : ℕ) → List Request → Primitive → List Many → State → Result Went Apart → State → Type 0
 Puts before after' qs p ms old result new =
     AllDo (length qs) before after' result (λ cs ds i u. (then' : Then)
-    → Gives (λ w. went_at w then' i new) result (progress_at new.account ds i u) (after (node_at qs p ms i (progress_at old.account cs i u)) (λ d. then' (d ∷ stack_at i old.stack) (members_at i old.slots.items))))
+    → Gives (λ w. went_at w then' i new) result (progress_at new.account ds i u)
+    (after (node_at qs p ms i (progress_at old.account cs i u))
+    (λ d. then' (d ∷ stack_at i old.stack) (members_at i old.slots.items))))

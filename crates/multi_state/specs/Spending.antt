@@ -19,8 +19,10 @@ use Rattle.multi_state.specs.declared.account.Account.{Account}
 -- A step of each member is spent on what it takes, or there is none left.
 abbrev pub Spends : Account → Account → Bool → Type 0
 Spends old new true =
-    (new.steps ≡ old.steps + 1) × ((c : ℕ → Cost) (cs : Charges) (i : ℕ) (u : Unseen) → charge (c i) (progress_at old cs i u) ≡ goes tt (progress_at new (c ∷ cs) i u))
-Spends old new false = (c : ℕ → Cost) (cs : Charges) (i : ℕ) (u : Unseen) → charge (c i) (progress_at old cs i u) ≡ stops (fault OutOfSteps) (progress_at new cs i u)
+    (new.steps ≡ old.steps + 1) × ((c : ℕ → Cost) (cs : Charges) (i : ℕ) (u : Unseen)
+    → charge (c i) (progress_at old cs i u) ≡ goes tt (progress_at new (c ∷ cs) i u))
+Spends old new false = (c : ℕ → Cost) (cs : Charges) (i : ℕ) (u : Unseen)
+    → charge (c i) (progress_at old cs i u) ≡ stops (fault OutOfSteps) (progress_at new cs i u)
 
 -- The value of a decision leaves its mark.
 abbrev pub NotesAll : (n : ℕ) → Many → Account → Result Bool Apart → Account → Type 0
@@ -45,4 +47,5 @@ HaveStatuses n m = (i : ℕ) → i < n → (status : ℕ) × (status_in (member_
 
 -- Each member's progress is that of a run that begins.
 abbrev pub IsStart : Account → Type 0
-IsStart a = (kept : Option (List Cost)) (i : ℕ) (answers : List Datum) → progress_at a [] i (record { kept = kept; ops = []; more = answers }) ≡ keeping kept (start answers)
+IsStart a = (kept : Option (List Cost)) (i : ℕ) (answers : List Datum)
+    → progress_at a [] i (record { kept = kept; ops = []; more = answers }) ≡ keeping kept (start answers)

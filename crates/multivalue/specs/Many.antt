@@ -56,20 +56,25 @@ HoldsAll ds m = (i : ℕ) → i < length ds → member_value m i ≡ get_or ds i
 
 -- ---- how a proof stores it
 
+-- the values as they are stored: whether there is one of all, and the values
 abbrev to_pair : Many → Bool × List Datum
 to_pair (all d) = (true, d ∷ [])
 to_pair (each ds) = (false, ds)
 
+-- the values that are stored in these parts
 abbrev from_parts : Bool → List Datum → Many
 from_parts true ds = all (get_or ds 0 null)
 from_parts false ds = each ds
 
+-- the values that are stored so
 abbrev from_pair : Bool × List Datum → Many
 from_pair p = from_parts p.0 p.1
 
+-- Values that are stored come back.
 pub there_and_back : (m : Many) → from_pair (to_pair m) ≡ m
 there_and_back (all d) = refl
 there_and_back (each ds) = refl
 
+-- how the values of members are stored
 abbrev pub coded_many : Coded Many
 coded_many = code_by (Bool × List Datum) (coded× coded_bool coded_data) to_pair from_pair there_and_back

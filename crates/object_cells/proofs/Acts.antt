@@ -26,7 +26,8 @@ write_acts choice name d old new changes x =
 
 -- ---- stores
 
-pub get_acts : (choice : Choice) (stores : HeldByName) (store key : List ℕ) → or_null (held_in stores store key) ≡ (acted (Get key) choice (many (held_in stores store))).1
+pub get_acts : (choice : Choice) (stores : HeldByName) (store key : List ℕ)
+    → or_null (held_in stores store key) ≡ (acted (Get key) choice (many (held_in stores store))).1
 unfolding acted
 get_acts choice stores store key = refl
 
@@ -34,7 +35,8 @@ get_acts choice stores store key = refl
 changed_cell : (store key : List ℕ) (d : Option Datum) (old new : HeldByName) → ChangesIn store key d old new
     → (s : List ℕ) → many (held_in new s) ≡ (if bytes_eq store s then many (with_key key d (held_in old store)) else many (held_in old s))
 changed_cell store key d old new changes s = (λ i. many (λ k. changes.held s k i)) ∙ inside (bytes_eq store s) where
-  inside : (b : Bool) → many (λ k. if b then with_key key d (held_in old store) k else held_in old s k) ≡ (if b then many (with_key key d (held_in old store)) else many (held_in old s))
+  inside : (b : Bool) → many (λ k. if b then with_key key d (held_in old store) k else held_in old s k)
+      ≡ (if b then many (with_key key d (held_in old store)) else many (held_in old s))
   inside true = refl
   inside false = refl
 

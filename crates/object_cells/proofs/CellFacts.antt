@@ -21,7 +21,9 @@ pub one_key : (x y : List ℕ) → is_eq (slice_cmp nat_cmp x y) ≡ true → x 
 one_key x y p = (bytes_eq-Decides x y).0 (sym (is_eq-slice_cmp x y) ∙ p)
 
 -- what a map says after one key has something else
-pub changed : (key : List ℕ) (d : Option Datum) (m n : BTreeMap (List ℕ) Datum) → ((q : List ℕ) → get (slice_cmp nat_cmp) n q ≡ cond (is_eq (slice_cmp nat_cmp key q)) d (get (slice_cmp nat_cmp) m q)) → Changes key d m.entries n.entries
+pub changed : (key : List ℕ) (d : Option Datum) (m n : BTreeMap (List ℕ) Datum)
+    → ((q : List ℕ) → get (slice_cmp nat_cmp) n q
+    ≡ cond (is_eq (slice_cmp nat_cmp key q)) d (get (slice_cmp nat_cmp) m q)) → Changes key d m.entries n.entries
 changed key d m n u k = u k ∙ ap (λ b. cond b d (held m.entries k)) (is_eq-slice_cmp key k ∙ bytes_eq-sym key k)
 
 -- what a key has is an entry after a change to one
@@ -31,7 +33,8 @@ still_entries key d old new changes entry holds k = subst (IsEntry k) (sym (chan
   at_key true same = subst (λ x. IsEntry x d) (sym (same refl)) entry
   at_key false same = holds k
 
-first_or_rest : (b : Bool) (k : List ℕ) (e : List ℕ × Datum) (o : Option Datum) → (b ≡ true → k ≡ e.0) → IsEntry e.0 (Some e.1) → IsEntry k o → IsEntry k (cond b (Some e.1) o)
+first_or_rest : (b : Bool) (k : List ℕ) (e : List ℕ × Datum) (o : Option Datum) → (b ≡ true → k ≡ e.0)
+    → IsEntry e.0 (Some e.1) → IsEntry k o → IsEntry k (cond b (Some e.1) o)
 first_or_rest true k e o same here there = subst (λ x. IsEntry x (Some e.1)) (sym (same refl)) here
 first_or_rest false k e o same here there = there
 
@@ -39,7 +42,9 @@ first_or_rest false k e o same here there = there
 pub held_entries : (cells : Held) → AreEntries cells → HoldsEntries cells
 held_entries [] each k = tt
 held_entries (e ∷ es) each k =
-    first_or_rest (is_eq (slice_cmp nat_cmp k e.0)) k e (held es k) (one_key k e.0) (All-head (λ x. IsEntry x.0 (Some x.1)) e es each) (held_entries es (All-tail (λ x. IsEntry x.0 (Some x.1)) e es each) k)
+    first_or_rest (is_eq (slice_cmp nat_cmp k e.0)) k e (held es k) (one_key k e.0)
+    (All-head (λ x. IsEntry x.0 (Some x.1)) e es each)
+    (held_entries es (All-tail (λ x. IsEntry x.0 (Some x.1)) e es each) k)
 
 -- and the other way round
 pub each_entry : (cells : Held) → HoldsEntries cells → All (λ e. held cells e.0 ≡ Some e.1) cells → AreEntries cells

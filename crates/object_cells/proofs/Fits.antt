@@ -29,7 +29,8 @@ pub empty_hold : (stores : HeldByName) → AreEmpty stores → HoldEntries store
 empty_hold stores empty s k = subst (IsEntry k) (sym (empty s k)) tt
 
 -- what a change leaves
-pub still_hold : (store key : List ℕ) (d : Option Datum) (old new : HeldByName) → ChangesIn store key d old new → IsEntry key d → HoldEntries old → HoldEntries new
+pub still_hold : (store key : List ℕ) (d : Option Datum) (old new : HeldByName) → ChangesIn store key d old new
+    → IsEntry key d → HoldEntries old → HoldEntries new
 still_hold store key d old new changes entry holds s k = subst (IsEntry k) (sym (changes.held s k)) (at_store (bytes_eq store s)) where
   at_key : (b : Bool) → (b ≡ true → k ≡ key) → IsEntry k (cond b d (held_in old store k))
   at_key true is = subst (λ x. IsEntry x d) (sym (is refl)) entry

@@ -22,10 +22,15 @@ use Rattle.object_cells.proofs.CellFacts.{bytes_eq-sym}
 abbrev pub Replaces : List ℕ → Held → HeldByName → HeldByName → Type 0
 Replaces name cells old new = (s : List ℕ) → store_of new s ≡ cond (bytes_eq name s) (Some cells) (store_of old s)
 
-pub replaced : (name : List ℕ) (cells : Held) (m n : BTreeMap (List ℕ) Held) → ((q : List ℕ) → get (slice_cmp nat_cmp) n q ≡ cond (is_eq (slice_cmp nat_cmp name q)) (Some cells) (get (slice_cmp nat_cmp) m q)) → Replaces name cells m.entries n.entries
+pub replaced : (name : List ℕ) (cells : Held) (m n : BTreeMap (List ℕ) Held)
+    → ((q : List ℕ) → get (slice_cmp nat_cmp) n q
+    ≡ cond (is_eq (slice_cmp nat_cmp name q)) (Some cells) (get (slice_cmp nat_cmp) m q))
+    → Replaces name cells m.entries n.entries
 replaced name cells m n u s = u s ∙ ap (λ b. cond b (Some cells) (store_of m.entries s)) (is_eq-slice_cmp name s)
 
-pub changes_in : (name key : List ℕ) (d : Option Datum) (old new : HeldByName) (before after : Held) → store_of old name ≡ Some before → Changes key d before after → Replaces name after old new → ChangesIn name key d old new
+pub changes_in : (name key : List ℕ) (d : Option Datum) (old new : HeldByName) (before after : Held)
+    → store_of old name ≡ Some before → Changes key d before after → Replaces name after old new
+    → ChangesIn name key d old new
 changes_in name key d old new before after there changes replaces = record {
   same = λ s. ap is_some (replaces s) ∙ still_there s (bytes_eq name s) ((bytes_eq-Decides name s).0);
   held = λ s k. ap (λ o. held (unwrap_or o []) k) (replaces s) ∙ at_store s k (bytes_eq name s);
@@ -34,7 +39,8 @@ changes_in name key d old new before after there changes replaces = record {
   still_there s true is = sym (ap (has_store old) (sym (is refl)) ∙ ap is_some there)
   still_there s false is = refl
 
-  at_store : (s k : List ℕ) (b : Bool) → held (unwrap_or (cond b (Some after) (store_of old s)) []) k ≡ cond b (with_key key d (held_in old name) k) (held_in old s k)
+  at_store : (s k : List ℕ) (b : Bool) → held (unwrap_or (cond b (Some after) (store_of old s)) []) k
+      ≡ cond b (with_key key d (held_in old name) k) (held_in old s k)
   at_store s k true = changes k ∙ ap (λ o. with_key key d (held (unwrap_or o [])) k) (sym there)
   at_store s k false = refl
 
@@ -50,7 +56,8 @@ still_nothing : (b : Bool) (o : Option Held) (k : List ℕ) → held (unwrap_or 
 still_nothing true o k e = refl
 still_nothing false o k e = e
 
-pub declared_too : (d : Declaration) (at : ℕ) (name : Name) (text : List ℕ) (old new : HeldByName) → d ≡ Store at name → text ≡ name.text → Replaces text [] old new → IsDeclaredToo d old new
+pub declared_too : (d : Declaration) (at : ℕ) (name : Name) (text : List ℕ) (old new : HeldByName) → d ≡ Store at name
+    → text ≡ name.text → Replaces text [] old new → IsDeclaredToo d old new
 declared_too d at name text old new is same replaces = record {
   there = λ s. ap is_some (replaces s) ∙ with_declared text s (store_of old s)
       ∙ ap (λ t. (bytes_eq s t || false) || has_store old s) same
@@ -64,7 +71,8 @@ or_moves true false c = refl
 or_moves false b c = refl
 
 -- what is declared from a declaration on
-pub declared_next : (d : Declaration) (ds : List Declaration) (s : List ℕ) (b : Bool) → (declares_store ds s || (declares_store (d ∷ []) s || b)) ≡ (declares_store (d ∷ ds) s || b)
+pub declared_next : (d : Declaration) (ds : List Declaration) (s : List ℕ) (b : Bool)
+    → (declares_store ds s || (declares_store (d ∷ []) s || b)) ≡ (declares_store (d ∷ ds) s || b)
 declared_next (Store at name) ds s b = or_moves (bytes_eq s name.text) (declares_store ds s) b
 declared_next (Table at name columns) ds s b = refl
 declared_next (Function at name parameters body) ds s b = refl

@@ -24,6 +24,7 @@ coded_by_name = coded_list (coded× (coded_list coded_ℕ) coded_held)
 abbrev pub store_of : HeldByName → List ℕ → Option Held
 store_of stores s = lookup (is_at (slice_cmp nat_cmp s)) stores
 
+-- there is a store of this name
 abbrev pub has_store : HeldByName → List ℕ → Bool
 has_store stores s = is_some (store_of stores s)
 

@@ -1,5 +1,5 @@
 -- What the calls of the parts change and give is what the operations are defined to.
-use Rattle.std.proofs.Common.{◌≡◌, ◌∙◌, ℕ, ℤ, List, Bool, true, false, cond, Some, None, Result, Ok, Err, IfOk, OnErr, refl, sym, ap, subst}
+use Rattle.std.proofs.Common.{◌≡◌, ◌∙◌, ℕ, ℤ, List, Bool, true, false, cond, Some, None, Result, Ok, Err, IfOk, OnOk, OnErr, refl, sym, ap, subst}
 use Rattle.std.specs.declared.vec.Vec.{Vec}
 use Rattle.script_tree.specs.Datum.{Datum, null, number}
 use Rattle.script_tree.specs.Objects.{Cell, one, many, rows, reading, none, acted, plausible, is_reading, is_roll, or_null, holding, is_same}
@@ -12,17 +12,16 @@ use Rattle.script_tree.specs.declared.operation.Object.{Object}
 use Rattle.script_tree.specs.declared.operation.Object.TheVariants.{Register, Store, Tables, Clock, Dice}
 use Rattle.script_tree.specs.declared.transaction.Statement.{Statement}
 use Rattle.script_tree.specs.Fit.{AreTables}
-use Rattle.script_fit.specs.FitsTransaction.{FitsRow, FitsTransaction}
-use Rattle.script_fit.proofs.Transacted.{transacted}
+use Rattle.script_fit.specs.FitsTransaction.{FitsRow}
 use Rattle.script_fit.proofs.Stay.{same_object}
 use Rattle.object_cells.specs.Cells.{Held, held, Changes}
 use Rattle.object_cells.specs.Stores.{HeldByName, held_in, ChangesIn}
 use Rattle.object_cells.proofs.Acts.{write_acts, put_acts, remove_acts}
 use Rattle.object_tables.specs.TableSets.{TableSet}
-use Rattle.object_tables.specs.Answered.{Gives}
-use Rattle.object_tables.specs.Outcomes.{IsInserted}
+use Rattle.object_tables.specs.Answered.{AnswersTimes}
+use Rattle.object_tables.specs.TransactionEnds.{IsInserted}
 use Rattle.object_tables.proofs.Keeping.{row_inserted}
-use Rattle.object_set.specs.Applied.{Does, DoesTimes, HasSame, FitsSet, answer_now, op_of, takes, told}
+use Rattle.object_set.specs.Applied.{Does, DoesTimes, HasSame, IsOpOf, answer_now, op_of, takes, told}
 use Rattle.object_set.specs.ObjectSets.{HeldObjects, held_objects, objects_of}
 
 -- the same stores and tables are there where nothing changed
@@ -30,7 +29,8 @@ same_itself : (h : HeldObjects) → HasSame h h
 same_itself h = record { stores = λ s. refl; widths = refl }
 
 -- an object that holds what it did
-unchanged : (object : Object) (cell : Cell) (h : HeldObjects) → cell ≡ objects_of h object → (o : Object) → objects_of h o ≡ holding object cell (objects_of h) o
+unchanged : (object : Object) (cell : Cell) (h : HeldObjects) → cell ≡ objects_of h object → (o : Object)
+    → objects_of h o ≡ holding object cell (objects_of h) o
 unchanged object cell h e o = by (is_same object o) refl
   where
     by : (b : Bool) → is_same object o ≡ b → objects_of h o ≡ cond b cell (objects_of h o)
@@ -44,7 +44,8 @@ leaves object act choice h answer a e = record { answered = a; left = unchanged 
 
 -- ---- registers
 
-pub read_does : (name : List ℕ) (choice : Choice) (h : HeldObjects) (answer : Datum) → answer ≡ or_null (held h.registers name) → Does (op_of (Register name) Read) choice h h answer
+pub read_does : (name : List ℕ) (choice : Choice) (h : HeldObjects) (answer : Datum)
+    → answer ≡ or_null (held h.registers name) → Does (op_of (Register name) Read) choice h h answer
 unfolding acted
 read_does name choice h answer e = leaves (Register name) Read choice h answer e refl
 
@@ -67,11 +68,13 @@ read_each name choice h (Err x) e = tt
 
 -- ---- stores
 
-pub get_does : (store key : List ℕ) (choice : Choice) (h : HeldObjects) (answer : Datum) → answer ≡ or_null (held_in h.stores store key) → Does (op_of (Store store) (Get key)) choice h h answer
+pub get_does : (store key : List ℕ) (choice : Choice) (h : HeldObjects) (answer : Datum)
+    → answer ≡ or_null (held_in h.stores store key) → Does (op_of (Store store) (Get key)) choice h h answer
 unfolding acted
 get_does store key choice h answer e = leaves (Store store) (Get key) choice h answer e refl
 
-pub get_each : {E : Type 0} (store key : List ℕ) (choice : Choice) (h : HeldObjects) (r : Result Datum E) → IfOk r (λ d. d ≡ or_null (held_in h.stores store key))
+pub get_each : {E : Type 0} (store key : List ℕ) (choice : Choice) (h : HeldObjects) (r : Result Datum E)
+    → IfOk r (λ d. d ≡ or_null (held_in h.stores store key))
     → IfOk r (Does (op_of (Store store) (Get key)) choice h h)
 get_each store key choice h (Ok d) e = get_does store key choice h d e
 get_each store key choice h (Err x) e = tt
@@ -81,7 +84,8 @@ pub put_does : (store key : List ℕ) (d : Datum) (choice : Choice) (old : HeldO
 unfolding acted
 put_does store key d choice old new changes = record { answered = refl; left = left; same = record { stores = changes.same; widths = refl } }
   where
-    left : (o : Object) → objects_of (held_objects old.registers new old.tables old.clock) o ≡ holding (Store store) (acted (Put key d) choice (many (held_in old.stores store))).0 (objects_of old) o
+    left : (o : Object) → objects_of (held_objects old.registers new old.tables old.clock) o
+        ≡ holding (Store store) (acted (Put key d) choice (many (held_in old.stores store))).0 (objects_of old) o
     left (Register x) = refl
     left (Store s) = put_acts choice store key d old.stores new changes s
     left Tables = refl
@@ -93,7 +97,8 @@ pub remove_does : (store key : List ℕ) (choice : Choice) (old : HeldObjects) (
 unfolding acted
 remove_does store key choice old new changes = record { answered = refl; left = left; same = record { stores = changes.same; widths = refl } }
   where
-    left : (o : Object) → objects_of (held_objects old.registers new old.tables old.clock) o ≡ holding (Store store) (acted (Remove key) choice (many (held_in old.stores store))).0 (objects_of old) o
+    left : (o : Object) → objects_of (held_objects old.registers new old.tables old.clock) o
+        ≡ holding (Store store) (acted (Remove key) choice (many (held_in old.stores store))).0 (objects_of old) o
     left (Register x) = refl
     left (Store s) = remove_acts choice store key old.stores new changes s
     left Tables = refl
@@ -102,7 +107,8 @@ remove_does store key choice old new changes = record { answered = refl; left = 
 
 -- ---- tables
 
-pub transact_does : (ss : List Statement) (choice : Choice) (old : HeldObjects) (new : TableSet) (answer : Datum) → after_transaction ss old.tables.tables ≡ (new.tables, answer) → new.widths ≡ old.tables.widths
+pub transact_does : (ss : List Statement) (choice : Choice) (old : HeldObjects) (new : TableSet) (answer : Datum)
+    → after_transaction ss old.tables.tables ≡ (new.tables, answer) → new.widths ≡ old.tables.widths
     → Does (op_of Tables (Transact ss)) choice old (held_objects old.registers old.stores new old.clock) answer
 unfolding acted
 transact_does ss choice old new answer e w = record {
@@ -111,7 +117,8 @@ transact_does ss choice old new answer e w = record {
   same = record { stores = λ s. refl; widths = w };
 }
   where
-    left : (x : Object) → objects_of (held_objects old.registers old.stores new old.clock) x ≡ holding Tables (rows (after_transaction ss old.tables.tables).0) (objects_of old) x
+    left : (x : Object) → objects_of (held_objects old.registers old.stores new old.clock) x
+        ≡ holding Tables (rows (after_transaction ss old.tables.tables).0) (objects_of old) x
     left (Register x) = refl
     left (Store s) = refl
     left Tables = ap (λ (r : List Table × Datum). rows r.0) (sym e)
@@ -119,7 +126,7 @@ transact_does ss choice old new answer e w = record {
     left Dice = refl
 
 pub transact_times : {A E : Type 0} (count : ℕ) (ss : List Statement) (choice : Choice) (old : HeldObjects) (new : TableSet) (r : Result (Vec Datum A) E)
-    → IfOk r (Gives count ss old.tables.tables new.tables) → new.widths ≡ old.tables.widths
+    → IfOk r (AnswersTimes count ss old.tables.tables new.tables) → new.widths ≡ old.tables.widths
     → IfOk r (DoesTimes count (op_of Tables (Transact ss)) choice old (held_objects old.registers old.stores new old.clock))
 transact_times count ss choice old new (Ok answers) gives w =
     let answer = (after_transaction ss old.tables.tables).1 in
@@ -177,7 +184,7 @@ changes_answer object (Transact ss) choice h c = absurd c
 changes_answer object Now choice h c = absurd c
 changes_answer object (Roll bound) choice h c = absurd c
 
-pub now_told : (object : Object) (choice : Choice) (h : HeldObjects) → FitsSet h (op_of object Now) → told choice ≡ answer_now object Now choice h
+pub now_told : (object : Object) (choice : Choice) (h : HeldObjects) → IsOpOf h (op_of object Now) → told choice ≡ answer_now object Now choice h
 unfolding acted
 now_told (Register x) choice h f = absurd f
 now_told (Store s) choice h f = absurd f.1
@@ -186,7 +193,8 @@ now_told Clock Nothing h f = refl
 now_told Clock (Number n) h f = refl
 now_told Dice choice h f = absurd f
 
-pub roll_told : (object : Object) (bound : ℤ) (choice : Choice) (h : HeldObjects) → FitsSet h (op_of object (Roll bound)) → told choice ≡ answer_now object (Roll bound) choice h
+pub roll_told : (object : Object) (bound : ℤ) (choice : Choice) (h : HeldObjects)
+    → IsOpOf h (op_of object (Roll bound)) → told choice ≡ answer_now object (Roll bound) choice h
 unfolding acted
 roll_told (Register x) bound choice h f = absurd f
 roll_told (Store s) bound choice h f = absurd f.1
@@ -196,7 +204,7 @@ roll_told Dice bound Nothing h f = refl
 roll_told Dice bound (Number n) h f = refl
 
 -- only tables are asked for a transaction
-pub transact_object : (object : Object) (ss : List Statement) (h : HeldObjects) → FitsSet h (op_of object (Transact ss)) → object ≡ Tables
+pub transact_object : (object : Object) (ss : List Statement) (h : HeldObjects) → IsOpOf h (op_of object (Transact ss)) → object ≡ Tables
 transact_object (Register x) ss h f = absurd f
 transact_object (Store s) ss h f = absurd f.1
 transact_object Tables ss h f = refl
@@ -230,16 +238,12 @@ pub dice_take : (bound : ℤ) (choice : Choice) (h : HeldObjects) → takes (op_
 unfolding plausible
 dice_take bound choice h = refl
 
--- tables that fit stay so
-pub still_tables : (ss : List Statement) (old new : TableSet) → AreTables old.widths old.tables → FitsTransaction old.widths ss → (after_transaction ss old.tables).0 ≡ new.tables
-    → new.widths ≡ old.widths → AreTables new.widths new.tables
-still_tables ss old new a f e w =
-    subst (λ v. AreTables v new.tables) (sym w) (subst (AreTables old.widths) e (transacted old.widths ss old.tables a f))
-
-pub tables_kept : {A E : Type 0} (count : ℕ) (ss : List Statement) (old new : TableSet) (r : Result (Vec Datum A) E) → AreTables old.widths old.tables → FitsTransaction old.widths ss
-    → IfOk r (Gives count ss old.tables new.tables) → new.widths ≡ old.widths → OnErr r (new ≡ old) → AreTables new.widths new.tables
-tables_kept count ss old new (Ok answers) a f d w e = still_tables ss old new a f d.left w
-tables_kept count ss old new (Err x) a f d w e = rw e a
+-- tables are kept where a call that changes them tells so
+pub tables_kept : {A E : Type 0} (old new : TableSet) (r : Result A E) → AreTables old.widths old.tables
+    → OnOk r (AreTables new.widths new.tables) → OnErr r (new ≡ old)
+    → AreTables new.widths new.tables
+tables_kept old new (Ok x) a fit e = fit
+tables_kept old new (Err x) a fit e = rw e a
 
 pub row_kept : {E : Type 0} (t : ℕ) (row : Row) (old new : TableSet) (r : Result Bool E) → AreTables old.widths old.tables → FitsRow old.widths t row
     → IfOk r (IsInserted t row old.tables new.tables) → new.widths ≡ old.widths → OnErr r (new ≡ old) → AreTables new.widths new.tables

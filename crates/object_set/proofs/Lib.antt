@@ -1,3 +1,4 @@
 pub mod Acting
 pub mod Kept
+pub mod OfPrograms
 pub mod Sets

@@ -10,13 +10,18 @@ use Rattle.script_tree.specs.declared.operation.Choice.{Choice}
 use Rattle.script_tree.specs.declared.operation.Choice.TheVariants.{Nothing, Number}
 use Rattle.script_tree.specs.declared.operation.Object.{Object}
 use Rattle.script_tree.specs.declared.operation.Op.{Op}
+use Rattle.script_fit.specs.ActOf.{IsActOf}
 use Rattle.script_fit.specs.FitsOperation.{FitsAct}
 use Rattle.script_fit.specs.Laws.{objects_after}
 use Rattle.object_cells.specs.Stores.{has_store}
 use Rattle.object_set.specs.ObjectSets.{HeldObjects, objects_of}
 use Rattle.object_set.specs.declared.set.Refused.{Refused}
 
--- The operation is one that objects of these stores and tables are asked for.
+-- The operation is one of objects with these stores and tables. The sizes of its values aren't asked about.
+abbrev pub IsOpOf : HeldObjects → Op → Type 0
+IsOpOf h op = IsActOf (has_store h.stores) h.tables.widths op.object op.act
+
+-- It is, has a statement where it is a transaction, and its values are within the limits.
 abbrev pub FitsSet : HeldObjects → Op → Type 0
 FitsSet h op = FitsAct (has_store h.stores) h.tables.widths op.object op.act
 
@@ -25,6 +30,7 @@ pub record HasSame (old new : HeldObjects) : Type 0 where
   pub stores : (s : List ℕ) → has_store new.stores s ≡ has_store old.stores s
   pub widths : new.tables.widths ≡ old.tables.widths
 
+-- the operation that is this act on this object
 abbrev pub op_of : Object → Act → Op
 op_of object act = record { object = object; act = act }
 

@@ -1,4 +1,5 @@
 pub mod Applied
 pub mod ObjectSets
 pub mod ObjectSetView
+pub mod OfProgram
 pub mod Stored

@@ -9,6 +9,7 @@ use Rattle.object_cells.specs.Cells.{Held, held, coded_held, HoldsEntries}
 use Rattle.object_cells.specs.Stores.{HeldByName, held_in, coded_by_name, AreDeclared, AreEmpty, HoldEntries}
 use Rattle.object_tables.specs.TableSets.{TableSet, coded_table_set, no_rows}
 
+-- What registers, stores and tables hold, and what the clock read last.
 pub record HeldObjects : Type 0 where
   pub registers : Held
   pub stores : HeldByName
@@ -16,6 +17,7 @@ pub record HeldObjects : Type 0 where
   -- the clock's last reading
   pub clock : ℤ
 
+-- the set of these
 abbrev pub held_objects : Held → HeldByName → TableSet → ℤ → HeldObjects
 held_objects registers stores tables clock = record { registers = registers; stores = stores; tables = tables; clock = clock }
 

@@ -4,15 +4,17 @@ use Rattle.script_tree.specs.Datum.{Datum}
 use Rattle.script_tree.specs.Transactions.{Row}
 use Rattle.object_cells.specs.Cells.{Changes}
 use Rattle.object_cells.specs.Stores.{ChangesIn}
-use Rattle.object_tables.specs.Outcomes.{IsInserted}
+use Rattle.object_tables.specs.TransactionEnds.{IsInserted}
 use Rattle.object_set.specs.ObjectSets.{HeldObjects}
 
+-- A register has this value now, and all else is as it was.
 pub record PutsRegister (name : List ℕ) (d : Datum) (old new : HeldObjects) : Type 0 where
   pub register : Changes name (Some d) old.registers new.registers
   pub stores : new.stores ≡ old.stores
   pub tables : new.tables ≡ old.tables
   pub clock : new.clock ≡ old.clock
 
+-- A key of a store has this value now, and all else is as it was.
 pub record PutsCell (store key : List ℕ) (d : Datum) (old new : HeldObjects) : Type 0 where
   pub cell : ChangesIn store key (Some d) old.stores new.stores
   pub registers : new.registers ≡ old.registers

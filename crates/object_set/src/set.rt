@@ -8,11 +8,12 @@ ghost use Rattle.script_tree.specs.declared.operation.Choice.{Choice as AnyChoic
 ghost use Rattle.script_tree.specs.declared.operation.Choice.TheVariants.{Number};
 ghost use Rattle.script_tree.specs.declared.operation.Act.TheVariants.{Read, Get, Now, Roll};
 ghost use Rattle.script_tree.specs.declared.operation.Object.TheVariants.{Register as AnyRegister, Store as AnyStore, Tables as AllTables, Clock as TheClock, Dice as TheDice};
-ghost use Rattle.script_fit.specs.FitsOperation.{FitsRegister, FitsStore, FitsTables, FitsClock, FitsDice};
+ghost use Rattle.script_fit.specs.ActOf.{IsRegisterAct, IsStoreAct, IsTablesAct};
+ghost use Rattle.script_fit.specs.FitsOperation.{FitsClock, FitsDice};
 ghost use Rattle.script_fit.specs.FitsTransaction.{FitsRow};
 ghost use Rattle.object_cells.specs.Cells.{held};
 ghost use Rattle.object_cells.specs.Stores.{has_store, held_in, store_of};
-ghost use Rattle.object_set.specs.Applied.{FitsSet, Does, DoesTimes, IsApplied, IsAppliedTimes, answer_now, op_of, takes, told};
+ghost use Rattle.object_set.specs.Applied.{IsOpOf, Does, DoesTimes, IsApplied, IsAppliedTimes, answer_now, op_of, takes, told};
 ghost use Rattle.object_set.specs.ObjectSets.{IsSetOf, IsEmptySet, objects_of};
 ghost use Rattle.object_set.specs.Stored.{PutsRegister, PutsCell, InsertsRow};
 
@@ -149,9 +150,10 @@ impl ObjectSet {
     }
 
     /// Does an operation with its choice, and gives its answer. A choice that the object doesn't take
-    /// is refused.
+    /// is refused. A value over the limits of a script isn't stored: that is answered as want of
+    /// memory.
     pub fn apply(&mut self, op: &Op, choice: Choice) -> Result<Value, OrMemory<Refused>>
-        requires { FitsSet self.old op.now }
+        requires { IsOpOf self.old op.now }
         ensures { IsApplied op.now choice self.old self.new result }
     {
         if !self.takes(op, choice) {
@@ -174,7 +176,7 @@ impl ObjectSet {
         choice: Choice,
         count: usize,
     ) -> Result<Vec<Value>, OrMemory<Refused>>
-        requires { FitsSet self.old op.now }
+        requires { IsOpOf self.old op.now }
         ensures { IsAppliedTimes count op.now choice self.old self.new result }
     {
         if !self.takes(op, choice) {
@@ -205,7 +207,7 @@ impl ObjectSet {
         answer: Value,
         count: usize,
     ) -> Result<Vec<Value>, OrMemory<Refused>>
-        requires fits { FitsSet self.old op.now }
+        requires fits { IsOpOf self.old op.now }
         requires known { answer ≡ answer_now op.now.object op.now.act choice self.old }
         ensures { IsAppliedTimes count op.now choice self.old self.new result }
     {
@@ -217,7 +219,7 @@ impl ObjectSet {
     /// What a register holds.
     #[tactic(auto, unfolding(script_tree::specs::Objects::acted))]
     fn read(&self, object: &Object) -> Result<Value, AllocError>
-        requires { FitsSet self.now (op_of object.now Read) }
+        requires { IsOpOf self.now (op_of object.now Read) }
         ensures { (choice : AnyChoice) →
             IfOk result (λ d. d ≡ answer_now object.now Read choice self.now) }
     {
@@ -230,7 +232,7 @@ impl ObjectSet {
     /// What stands under a key of a store.
     #[tactic(auto, unfolding(script_tree::specs::Objects::acted))]
     fn get(&self, object: &Object, key: &Text) -> Result<Value, AllocError>
-        requires { FitsSet self.now (op_of object.now (Get key.now)) }
+        requires { IsOpOf self.now (op_of object.now (Get key.now)) }
         ensures { (choice : AnyChoice) →
             IfOk result (λ d. d ≡ answer_now object.now (Get key.now) choice self.now) }
     {
@@ -243,7 +245,7 @@ impl ObjectSet {
     /// Whether the object takes the choice.
     #[tactic(auto, unfolding(script_tree::specs::Objects::plausible))]
     pub fn takes(&self, op: &Op, choice: Choice) -> bool
-        requires { FitsSet self.now op.now }
+        requires { IsOpOf self.now op.now }
         ensures { result ≡ takes op.now choice self.now }
     {
         match &op.act {
@@ -259,7 +261,7 @@ impl ObjectSet {
     }
 
     fn on_register(&mut self, name: &Text, act: &Act) -> Result<Value, AllocError>
-        requires { FitsRegister name.now act.now }
+        requires { IsRegisterAct name.now act.now }
         ensures done { (choice : AnyChoice) →
             IfOk result (Does (op_of (AnyRegister name.now) act.now) choice self.old self.new) }
         ensures err { OnErr result (self.new ≡ self.old) }
@@ -267,7 +269,8 @@ impl ObjectSet {
         match act {
             Act::Read => self.registers.get(name),
             Act::Write(value) => {
-                self.registers.put(name.clone()?, value.clone()?)?;
+                self.registers
+                    .put(name.clone()?, copy_within_limits(value)?)?;
                 Ok(Value::null())
             }
             Act::Get(_)
@@ -281,7 +284,7 @@ impl ObjectSet {
 
     fn on_store(&mut self, name: &Text, act: &Act) -> Result<Value, AllocError>
         requires there { has_store self.old.stores name.now ≡ true }
-        requires fits { FitsStore act.now }
+        requires fits { IsStoreAct act.now }
         ensures done { (choice : AnyChoice) →
             IfOk result (Does (op_of (AnyStore name.now) act.now) choice self.old self.new) }
         ensures err { OnErr result (self.new ≡ self.old) }
@@ -289,7 +292,8 @@ impl ObjectSet {
         match act {
             Act::Get(key) => self.stores.get(name, key),
             Act::Put(key, value) => {
-                self.stores.put(name, key.clone()?, value.clone()?)?;
+                self.stores
+                    .put(name, key.clone()?, copy_within_limits(value)?)?;
                 Ok(Value::null())
             }
             Act::Remove(key) => {
@@ -303,7 +307,7 @@ impl ObjectSet {
     }
 
     fn on_tables(&mut self, act: &Act) -> Result<Value, AllocError>
-        requires { FitsTables self.old.tables.widths act.now }
+        requires { IsTablesAct self.old.tables.widths act.now }
         ensures done { (choice : AnyChoice) →
             IfOk result (Does (op_of AllTables act.now) choice self.old self.new) }
         ensures err { OnErr result (self.new ≡ self.old) }
@@ -325,7 +329,7 @@ impl ObjectSet {
 
     /// Runs a transaction, and gives its answer so many times.
     fn on_tables_copies(&mut self, act: &Act, count: usize) -> Result<Vec<Value>, AllocError>
-        requires { FitsTables self.old.tables.widths act.now }
+        requires { IsTablesAct self.old.tables.widths act.now }
         ensures done { (choice : AnyChoice) →
             IfOk result (DoesTimes count (op_of AllTables act.now) choice self.old self.new) }
         ensures err { OnErr result (self.new ≡ self.old) }
@@ -414,6 +418,17 @@ impl Clone for ObjectSet {
             clock: self.clock,
         })
     }
+}
+
+/// A copy of a value. That the value is over the limits of a script is answered as want of memory.
+fn copy_within_limits(value: &Value) -> Result<Value, AllocError>
+    ensures copy { IfOk result (λ copy. copy ≡ value.now) }
+    ensures within { IfOk result IsWithinLimits }
+{
+    if !value.is_within_limits() {
+        return Err(AllocError);
+    }
+    value.clone()
 }
 
 /// The number that was chosen.

@@ -11,8 +11,8 @@ use Rattle.script_tree.specs.declared.transaction.Test.{Test}
 use Rattle.script_tree.specs.declared.transaction.Change.{Change}
 use Rattle.object_tables.specs.Slots.{Slot, Slots, by_bytes, slot_at, put, replaced, rows_of, has_row, puts_for, put_for, with_puts, KeepKeys}
 use Rattle.script_tree.specs.declared.transaction.Statement.TheVariants.{Update, Delete}
-use Rattle.object_tables.specs.Outcomes.{Runs}
-use Rattle.object_tables.specs.Journal.{put_at, replaced_at, AllFiled}
+use Rattle.object_tables.specs.TransactionEnds.{Runs}
+use Rattle.object_tables.specs.UndoLog.{put_at, replaced_at, AllFiled}
 use Rattle.object_tables.proofs.Insert.{inserts, filed_put}
 use Rattle.object_tables.proofs.Places.{rows_there, rows_set, filed_at, filed_set}
 use Rattle.object_tables.proofs.Remade.{makes, rows_updated, filed_updated, rows_left, filed_left, with_puts-push}
@@ -51,7 +51,14 @@ update_done : (ts us : List Slots) (t : ℕ) (changes : List Change) (tests : Li
     → ps ≡ puts_for (λ row. Some (changed_row changes row)) tests (get_or ts t []) → us ≡ set ts t (with_puts ps (get_or ts t []))
     → map rows_of us ≡ with_nth t (updated_rows changes tests (table_at t (map rows_of ts))) (map rows_of ts)
 update_done ts us t changes tests ps o p u =
-    rw (u, p, rows_there ts t, rows_set, makes (λ row. Some (changed_row changes row)) tests (get_or ts t []) o, rows_updated changes tests (get_or ts t [])) refl
+    rw (
+      u,
+      p,
+      rows_there ts t,
+      rows_set,
+      makes (λ row. Some (changed_row changes row)) tests (get_or ts t []) o,
+      rows_updated changes tests (get_or ts t []),
+    ) refl
 
 pub update_filed : (ts us : List Slots) (t : ℕ) (changes : List Change) (tests : List Test) (ps : Slots) → KeepKeys changes → InOrder ts t → AllFiled ts
     → ps ≡ puts_for (λ row. Some (changed_row changes row)) tests (get_or ts t []) → us ≡ set ts t (with_puts ps (get_or ts t [])) → AllFiled us

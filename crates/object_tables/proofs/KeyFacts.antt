@@ -35,5 +35,6 @@ at_row k q x es e ih Greater p = rw (at_key k q x e, p) ih
 
 pub row_there : (k : List ℕ) (es : Slots) → IsStrictlySortedBy by_bytes (keys_of es) → IsFiled es → IsThere k es
 row_there k [] o f = refl
-row_there k ((q, None) ∷ es) o f = at_empty k q es (sorted_head by_bytes q (keys_of es) o) f.1 (row_there k es (sorted_tail by_bytes q (keys_of es) o) f.1) (by_bytes k q) refl
+row_there k ((q, None) ∷ es) o f = at_empty k q es (sorted_head by_bytes q (keys_of es) o) f.1
+    (row_there k es (sorted_tail by_bytes q (keys_of es) o) f.1) (by_bytes k q) refl
 row_there k ((q, Some x) ∷ es) o f = at_row k q x es f.0 (row_there k es (sorted_tail by_bytes q (keys_of es) o) f.1) (by_bytes k q) refl

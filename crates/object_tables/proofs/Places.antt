@@ -6,7 +6,7 @@ use Rattle.std.proofs.lemmas.List.{take_more, take_all, map-append}
 use Rattle.basis.specs.Lists.{with_nth}
 use Rattle.script_tree.specs.Transactions.{table_at}
 use Rattle.object_tables.specs.Slots.{Slot, Slots, by_bytes, restored, rows_of, IsFiled}
-use Rattle.object_tables.specs.Journal.{restored_at, settled_at, AllFiled, AreWhole}
+use Rattle.object_tables.specs.UndoLog.{restored_at, settled_at, AllFiled, AreWhole}
 use Rattle.object_tables.specs.TableSets.{no_rows}
 use Rattle.object_tables.proofs.PutBack.{rows_settled, filed_settled}
 
@@ -52,11 +52,13 @@ there (x ∷ ts) (suc t) es h e = there ts t es (omega arith) e
 abbrev pub empty_slots : List ℕ → List Slots
 empty_slots widths = map (λ width. []) widths
 
-pub one_more_empty : (widths : List ℕ) (i : ℕ) (ts us : List Slots) (es : Slots) → i < length widths → ts ≡ empty_slots (take i widths) → es ≡ [] → us ≡ ts ++ es ∷ []
+pub one_more_empty : (widths : List ℕ) (i : ℕ) (ts us : List Slots) (es : Slots) → i < length widths
+    → ts ≡ empty_slots (take i widths) → es ≡ [] → us ≡ ts ++ es ∷ []
     → us ≡ empty_slots (take (i + 1) widths)
 one_more_empty widths i ts us es h t e u = rw (u, t, e, take_more widths i 0 h) (sym (map-append (λ width. []) (take i widths) (get_or widths i 0 ∷ [])))
 
-pub all_empty : (widths items : List ℕ) (i : ℕ) (ts : List Slots) → ts ≡ empty_slots (take i items) → length items ≤ i → items ≡ widths → ts ≡ empty_slots widths
+pub all_empty : (widths items : List ℕ) (i : ℕ) (ts : List Slots) → ts ≡ empty_slots (take i items) → length items ≤ i
+    → items ≡ widths → ts ≡ empty_slots widths
 all_empty widths items i ts t h e = t ∙ ap empty_slots (take_all i items h ∙ e)
 
 pub filed_empty : (widths : List ℕ) → AllFiled (empty_slots widths)

@@ -18,7 +18,8 @@ use Rattle.object_tables.specs.Slots.{Slot, Slots, by_bytes, replaced, rows_of, 
 abbrev AreAbove : List ℕ → Slots → Type 0
 AreAbove k ps = AllByRecursion (λ q. by_bytes k q ≡ Less) (keys_of ps)
 
-above_put_for : (f : Row → Slot) (tests : List Test) (k q : List ℕ) (s : Slot) (ps : Slots) → by_bytes k q ≡ Less → AreAbove k ps → AreAbove k (put_for f tests q s ps)
+above_put_for : (f : Row → Slot) (tests : List Test) (k q : List ℕ) (s : Slot) (ps : Slots) → by_bytes k q ≡ Less
+    → AreAbove k ps → AreAbove k (put_for f tests q s ps)
 above_put_for f tests k q None ps p a = a
 above_put_for f tests k q (Some row) ps p a = by (meets tests row) refl
   where
@@ -42,11 +43,13 @@ one_made : (f : Row → Slot) (tests : List Test) (q : List ℕ) (s : Slot) (es 
 one_made f tests q None es ps a = past ps (q, None) es a
 one_made f tests q (Some row) es ps a = by (meets tests row) refl
   where
-    by : (b : Bool) → meets tests row ≡ b → with_puts (put_for f tests q (Some row) ps) ((q, Some row) ∷ es) ≡ (q, remade_slot f tests (Some row)) ∷ with_puts ps es
+    by : (b : Bool) → meets tests row ≡ b → with_puts (put_for f tests q (Some row) ps) ((q, Some row) ∷ es)
+        ≡ (q, remade_slot f tests (Some row)) ∷ with_puts ps es
     by true e = rw e (ap (replaced q (f row)) (past ps (q, Some row) es a) ∙ rw (tied_itself nat_list_cmp_total q) refl)
     by false e = rw e (past ps (q, Some row) es a)
 
-pub makes : (f : Row → Slot) (tests : List Test) (es : Slots) → IsStrictlySortedBy by_bytes (keys_of es) → with_puts (puts_for f tests es) es ≡ remade f tests es
+pub makes : (f : Row → Slot) (tests : List Test) (es : Slots) → IsStrictlySortedBy by_bytes (keys_of es)
+    → with_puts (puts_for f tests es) es ≡ remade f tests es
 makes f tests [] o = refl
 makes f tests (e ∷ es) o =
     one_made f tests e.0 e.1 es (puts_for f tests es) (above_puts f tests e.0 es (sorted_head by_bytes e.0 (keys_of es) o))
@@ -74,7 +77,8 @@ pub key-changed_row : (changes : List Change) (row : Row) → KeepKeys changes �
 key-changed_row [] row h = refl
 key-changed_row (c ∷ cs) row h = key-changed_row cs (with_nth c.column c.value row) h.1 ∙ key-with_nth row c.column c.value h.0
 
-pub filed_updated : (changes : List Change) (tests : List Test) (es : Slots) → KeepKeys changes → IsFiled es → IsFiled (remade (λ row. Some (changed_row changes row)) tests es)
+pub filed_updated : (changes : List Change) (tests : List Test) (es : Slots) → KeepKeys changes → IsFiled es
+    → IsFiled (remade (λ row. Some (changed_row changes row)) tests es)
 filed_updated changes tests [] h f = tt
 filed_updated changes tests ((q, None) ∷ es) h f = (tt, filed_updated changes tests es h f.1)
 filed_updated changes tests ((q, Some row) ∷ es) h f = (by (meets tests row) refl, filed_updated changes tests es h f.1)

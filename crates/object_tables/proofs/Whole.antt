@@ -9,9 +9,9 @@ use Rattle.std.specs.BTreeMap.{is_at}
 use Rattle.std.specs.List.Sorted.{IsStrictlySortedBy}
 use Rattle.std.proofs.lemmas.Map.Keys.{sorted_head, sorted_tail}
 use Rattle.script_tree.specs.Transactions.{Row}
-use Rattle.object_tables.specs.declared.journal.Undo.{Undo}
+use Rattle.object_tables.specs.declared.undo_log.Undo.{Undo}
 use Rattle.object_tables.specs.Slots.{Slot, Slots, by_bytes, slot_at, put, restored, settled, is_empty}
-use Rattle.object_tables.specs.Journal.{slots_at, put_at, restored_at, settled_at, undone, is_noted, IsWholeBut, AreWholeBut, AreWhole}
+use Rattle.object_tables.specs.UndoLog.{slots_at, put_at, restored_at, settled_at, undone, is_noted, IsWholeBut, AreWholeBut, AreWhole}
 use Rattle.object_tables.proofs.Insert.{IsBelow, below_too}
 
 -- ---- booleans
@@ -68,7 +68,8 @@ settled_past k e es p = by (is_empty (slot_at k es)) refl
     by true h = rw p (rw h refl)
     by false h = rw p (rw h refl)
 
-settled_here : (k q : List ℕ) (s : Slot) (es : Slots) (might : List ℕ → Bool) → by_bytes k q ≡ Equal → IsWholeBut might es → IsWholeBut might (settled k ((q, s) ∷ es))
+settled_here : (k q : List ℕ) (s : Slot) (es : Slots) (might : List ℕ → Bool) → by_bytes k q ≡ Equal
+    → IsWholeBut might es → IsWholeBut might (settled k ((q, s) ∷ es))
 settled_here k q None es might p h = rw p h
 settled_here k q (Some row) es might p h = rw p (refl, h)
 
@@ -89,11 +90,13 @@ after_settled k may might (e ∷ es) o f h = by (by_bytes k e.0) refl (after_set
 
 -- ---- all tables
 
-all_more : (may might : ℕ → List ℕ → Bool) (ts : List Slots) → ((t : ℕ) (q : List ℕ) → may t q ≡ true → might t q ≡ true) → AreWholeBut may ts → AreWholeBut might ts
+all_more : (may might : ℕ → List ℕ → Bool) (ts : List Slots)
+    → ((t : ℕ) (q : List ℕ) → may t q ≡ true → might t q ≡ true) → AreWholeBut may ts → AreWholeBut might ts
 all_more may might [] f h = tt
 all_more may might (es ∷ ts) f h = (more (may 0) (might 0) es (f 0) h.0, all_more (λ t. may (suc t)) (λ t. might (suc t)) ts (λ t. f (suc t)) h.1)
 
-all_before : (ts : List Slots) (t : ℕ) (k : List ℕ) (before : Option Slot) (may might : ℕ → List ℕ → Bool) → ((i : ℕ) (q : List ℕ) → may i q ≡ true → might i q ≡ true)
+all_before : (ts : List Slots) (t : ℕ) (k : List ℕ) (before : Option Slot) (may might : ℕ → List ℕ → Bool)
+    → ((i : ℕ) (q : List ℕ) → may i q ≡ true → might i q ≡ true)
     → ((q : List ℕ) → is_at (by_bytes k) q ≡ true → might t q ≡ true) → AreWholeBut may (restored_at t k before ts) → AreWholeBut might ts
 all_before [] t k before may might f g h = tt
 all_before (es ∷ ts) zero k before may might f g h =
@@ -109,8 +112,10 @@ noted_more [] may ts h = h
 noted_more (u ∷ us) may ts h =
     let here : ℕ → List ℕ → Bool = λ t k. nat_eq u.table t && is_at (by_bytes u.key) k in
     let one : AreWholeBut (λ t k. here t k || may t k) (undone us ts) =
-    all_before (undone us ts) u.table u.key u.before may (λ t k. here t k || may t k) (λ t q. or_right (here t q) (may t q)) (λ q p. rw (same_number u.table, p) refl) h in
-    all_more (λ t k. is_noted us t k || (here t k || may t k)) (λ t k. (here t k || is_noted us t k) || may t k) ts (λ t q. or_turn (here t q) (is_noted us t q) (may t q))
+    all_before (undone us ts) u.table u.key u.before may (λ t k. here t k || may t k)
+    (λ t q. or_right (here t q) (may t q)) (λ q p. rw (same_number u.table, p) refl) h in
+    all_more (λ t k. is_noted us t k || (here t k || may t k)) (λ t k. (here t k || is_noted us t k) || may t k) ts
+    (λ t q. or_turn (here t q) (is_noted us t q) (may t q))
     (noted_more us (λ t k. here t k || may t k) ts one)
 
 pub whole_noted : (us : List Undo) (ts : List Slots) → AreWhole (undone us ts) → AreWholeBut (is_noted us) ts
@@ -126,14 +131,19 @@ one_less : (t i : ℕ) → nat_eq (suc t) (suc i) ≡ nat_eq t i
 one_less t i = grind arith
 
 all_settled : (ts : List Slots) (t : ℕ) (k : List ℕ) (may might : ℕ → List ℕ → Bool) → IsStrictlySortedBy by_bytes (keys_of (slots_at t ts))
-    → ((i : ℕ) (q : List ℕ) → may i q ≡ true → ((nat_eq t i && is_at (by_bytes k) q) || might i q) ≡ true) → AreWholeBut may ts → AreWholeBut might (settled_at t k ts)
+    → ((i : ℕ) (q : List ℕ) → may i q ≡ true → ((nat_eq t i && is_at (by_bytes k) q) || might i q) ≡ true)
+    → AreWholeBut may ts → AreWholeBut might (settled_at t k ts)
 all_settled [] t k may might o f h = tt
 all_settled (es ∷ ts) zero k may might o f h =
     (after_settled k (may 0) (might 0) es o (f 0) h.0, all_more (λ i. may (suc i)) (λ i. might (suc i)) ts (λ i q m. rw (first_alone i) at (f (suc i) q m)) h.1)
-all_settled (es ∷ ts) (suc t) k may might o f h =
-    (more (may 0) (might 0) es (λ q m. rw (others_apart t) at (f 0 q m)) h.0, all_settled ts t k (λ i. may (suc i)) (λ i. might (suc i)) o (λ i q m. rw (one_less t i) at (f (suc i) q m)) h.1)
+all_settled (es ∷ ts) (suc t) k may might o f h = (
+  more (may 0) (might 0) es (λ q m. rw (others_apart t) at (f 0 q m)) h.0,
+  all_settled ts t k (λ i. may (suc i)) (λ i. might (suc i)) o
+      (λ i q m. rw (one_less t i) at (f (suc i) q m)) h.1,
+)
 
-pub noted_less : (us : List Undo) (i : ℕ) (u : Undo) (ts new : List Slots) → i < length us → u ≡ get_or us i u → IsStrictlySortedBy by_bytes (keys_of (slots_at u.table ts))
+pub noted_less : (us : List Undo) (i : ℕ) (u : Undo) (ts new : List Slots) → i < length us → u ≡ get_or us i u
+    → IsStrictlySortedBy by_bytes (keys_of (slots_at u.table ts))
     → new ≡ settled_at u.table u.key ts → AreWholeBut (is_noted (drop i us)) ts → AreWholeBut (is_noted (drop (i + 1) us)) new
 noted_less us i u ts new l e o n h =
     let split : drop i us ≡ u ∷ drop (i + 1) us = drop_more us i u l ∙ ap (λ v. v ∷ drop (i + 1) us) (sym e) in

@@ -4,14 +4,14 @@ ghost use Rattle.script_tree.specs.Datum.{list, data_of};
 ghost use Rattle.basis.specs.Lists.{with_nth};
 ghost use Rattle.script_tree.specs.Transactions.{key, table_at, with_row, row_count, updated_rows, other_rows, selected_columns, meeting_rows, after_statement};
 ghost use Rattle.object_tables.specs.Slots.{rows_of, with_puts, IsText, KeepKeys, IsRunnable};
-ghost use Rattle.object_tables.specs.Journal.{with_puts_at, AllFiled, AreWhole};
+ghost use Rattle.object_tables.specs.UndoLog.{with_puts_at, AllFiled, AreWhole};
 ghost use Rattle.object_tables.specs.Storages.{slots_in, rows_in, before, ReplacesAll, Inserts, Does, Counts, Shows};
-ghost use Rattle.object_tables.specs.Outcomes.{IsInserted};
+ghost use Rattle.object_tables.specs.TransactionEnds.{IsInserted};
 ghost use Rattle.script_tree.specs.declared.transaction.Statement.TheVariants.{Select, Update, Delete};
 
-use crate::journal::{Storage, put, put_in, replace};
 use crate::keys::key_of;
 use crate::table::{Slot, Slots};
+use crate::undo_log::{Storage, put, put_in, replace};
 use script_tree::text::Text;
 use script_tree::transaction::{Change, Statement, Test};
 use script_tree::value::{Value, Values};

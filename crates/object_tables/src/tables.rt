@@ -3,21 +3,23 @@ ghost use Rattle.script_tree.specs.Datum.{null};
 ghost use Rattle.script_tree.specs.declared.transaction.Statement.TheVariants.{Insert};
 ghost use Rattle.script_tree.specs.Transactions.{table_at, after_statement, after_statements, after_transaction};
 ghost use Rattle.object_tables.specs.Slots.{rows_of, AreRunnable};
-ghost use Rattle.object_tables.specs.Journal.{AllFiled, AreWhole};
+ghost use Rattle.object_tables.specs.UndoLog.{AllFiled, AreWhole};
 ghost use Rattle.object_tables.specs.Storages.{slots_in, rows_in, before};
 ghost use Rattle.script_tree.specs.Fit.{AreTables, table_widths};
 ghost use Rattle.script_fit.specs.FitsTransaction.{FitsRow, FitsTransaction};
-ghost use Rattle.object_tables.specs.Answered.{Gives, RunsTo, ComesTo};
+ghost use Rattle.script_fit.specs.TransactionOf.{IsTransactionOf};
+ghost use Rattle.object_tables.specs.Answered.{AnswersTimes, RunsTo, ComesTo};
 ghost use Rattle.object_tables.specs.Keys.{row_at};
 ghost use Rattle.object_tables.specs.TableSets.{no_rows};
 ghost use Rattle.std.specs.Option.{option_copied};
-ghost use Rattle.object_tables.specs.Outcomes.{IsOutcome, IsAnswer, IsInserted, IsRun, answer_of};
+ghost use Rattle.object_tables.specs.TransactionEnds.{IsTransactionEnd, IsAnswer, IsInserted, IsRun, answer_of};
 
 use crate::fitting::{fits_row, fits_transaction};
-use crate::journal::{Storage, settle, take_back};
 use crate::rows::Rows;
 use crate::statements::{self, insert_in};
+use crate::stored::store_within_limits;
 use crate::table::Slots;
+use crate::undo_log::{Storage, settle, take_back};
 use script_tree::syntax::declaration::Declaration;
 use script_tree::text::Text;
 use script_tree::transaction::{Statement, Statements};
@@ -28,19 +30,19 @@ use std::marker::Model;
 /// What a transaction came to: the answers of its statements, or the place of the first one that
 /// aborted.
 #[derive(Drop)]
-pub enum Outcome {
+pub enum TransactionEnd {
     Committed(Values),
     Aborted(usize),
 }
 
-impl Outcome {
+impl TransactionEnd {
     /// The answer of the transaction: those of its statements, or null where one aborted.
     pub fn into_answer(self) -> Value
         ensures { result ≡ answer_of self }
     {
         match self {
-            Outcome::Committed(answers) => Value::list(answers),
-            Outcome::Aborted(_) => Value::null(),
+            TransactionEnd::Committed(answers) => Value::list(answers),
+            TransactionEnd::Aborted(_) => Value::null(),
         }
     }
 }
@@ -48,7 +50,7 @@ impl Outcome {
 /// What a transaction came to, and copies of its answer.
 #[derive(Drop)]
 struct Answered {
-    outcome: Outcome,
+    outcome: TransactionEnd,
     answers: Vec<Value>,
 }
 
@@ -79,7 +81,7 @@ fn run_all(
     alloc: Global,
     storage: &mut Storage,
     statements: &[Statement],
-) -> Result<Outcome, AllocError>
+) -> Result<TransactionEnd, AllocError>
     requires fits { AreRunnable (vec_len storage.old.tables) statements.now }
     requires filed { AllFiled (slots_in storage.old) }
     ensures done { IfOk result (IsRun statements.now (rows_in storage.old) (rows_in storage.new)) }
@@ -90,19 +92,23 @@ fn run_all(
     for (i, statement) in statements.iter().enumerate() {
         match statements::run(alloc, storage, statement)? {
             Some(answer) => answers.push(answer)?,
-            None => return Ok(Outcome::Aborted(i)),
+            None => return Ok(TransactionEnd::Aborted(i)),
         }
     }
-    Ok(Outcome::Committed(Values::from_vec(answers)?))
+    Ok(TransactionEnd::Committed(Values::from_vec(answers)?))
 }
 
 /// The answer of a transaction, so many times.
-fn answers_of(alloc: Global, outcome: &Outcome, count: usize) -> Result<Vec<Value>, AllocError>
+fn answers_of(
+    alloc: Global,
+    outcome: &TransactionEnd,
+    count: usize,
+) -> Result<Vec<Value>, AllocError>
     ensures { IfOk result (λ answers. answers.items ≡ replicate count (answer_of outcome.now)) }
 {
     let answer = match outcome {
-        Outcome::Committed(answers) => Value::list(answers.clone()?),
-        Outcome::Aborted(_) => Value::null(),
+        TransactionEnd::Committed(answers) => Value::list(answers.clone()?),
+        TransactionEnd::Aborted(_) => Value::null(),
     };
     Vec::from_elem(alloc, answer, count)
 }
@@ -136,25 +142,25 @@ fn transact_on(
     requires fits { AreRunnable (vec_len storage.old.tables) statements.now }
     requires filed { AllFiled (slots_in storage.old) }
     requires whole { AreWhole (slots_in storage.old) }
-    requires journal { storage.old.journal.items ≡ [] }
+    requires undo_log { storage.old.undo_log.items ≡ [] }
     ensures done { IfOk result
         (ComesTo count statements.now (rows_in storage.old) (rows_in storage.new)) }
     ensures filed { AllFiled (slots_in storage.new) }
     ensures whole { AreWhole (slots_in storage.new) }
-    ensures journal { storage.new.journal.items ≡ [] }
+    ensures undo_log { storage.new.undo_log.items ≡ [] }
     ensures err { OnErr result (slots_in storage.new ≡ slots_in storage.old) }
 {
     let answered = run_answered(alloc, storage, statements, count);
     match &answered {
         Ok(
             Answered {
-                outcome: Outcome::Committed(_),
+                outcome: TransactionEnd::Committed(_),
                 ..
             },
         ) => settle(storage),
         Ok(
             Answered {
-                outcome: Outcome::Aborted(_),
+                outcome: TransactionEnd::Aborted(_),
                 ..
             },
         )
@@ -185,7 +191,7 @@ impl Tables {
             widths,
             storage: Storage {
                 tables,
-                journal: Vec::new(alloc),
+                undo_log: Vec::new(alloc),
             },
         })
     }
@@ -239,16 +245,19 @@ impl Tables {
     }
 
     /// Runs a transaction. Where a statement aborts, or memory is wanted, the tables stay as before.
+    /// A value over the limits of a script isn't stored: that is answered as want of memory.
     #[tactic(auto, using(crate::proofs::Runs::answered))]
     pub fn transact(
         &mut self,
         alloc: Global,
         statements: &Statements,
-    ) -> Result<Outcome, AllocError>
-        requires { FitsTransaction self.old.widths statements.now }
-        ensures done { IfOk result (IsOutcome statements.now self.old.tables self.new.tables) }
+    ) -> Result<TransactionEnd, AllocError>
+        requires { IsTransactionOf self.old.widths statements.now }
+        ensures done { IfOk result
+            (IsTransactionEnd statements.now self.old.tables self.new.tables) }
         ensures answer { IfOk result (IsAnswer statements.now self.old.tables self.new.tables) }
         ensures widths { self.new.widths ≡ self.old.widths }
+        ensures fit { OnOk result (AreTables self.new.widths self.new.tables) }
         ensures err { OnErr result (self.new ≡ self.old) }
     {
         let answered = self.answered(alloc, statements, 0)?;
@@ -263,28 +272,36 @@ impl Tables {
         statements: &Statements,
         count: usize,
     ) -> Result<Vec<Value>, AllocError>
-        requires { FitsTransaction self.old.widths statements.now }
-        ensures given { IfOk result (Gives count statements.now self.old.tables self.new.tables) }
+        requires { IsTransactionOf self.old.widths statements.now }
+        ensures given { IfOk result
+            (AnswersTimes count statements.now self.old.tables self.new.tables) }
         ensures widths { self.new.widths ≡ self.old.widths }
+        ensures fit { OnOk result (AreTables self.new.widths self.new.tables) }
         ensures err { OnErr result (self.new ≡ self.old) }
     {
         let answered = self.answered(alloc, statements, count)?;
         Ok(answered.answers)
     }
 
-    /// Runs a transaction, and makes its answer so many times.
+    /// Runs a transaction, and makes its answer so many times. That a value over the limits is to be
+    /// stored is answered as want of memory.
     fn answered(
         &mut self,
         alloc: Global,
         statements: &Statements,
         count: usize,
     ) -> Result<Answered, AllocError>
-        requires { FitsTransaction self.old.widths statements.now }
+        requires { IsTransactionOf self.old.widths statements.now }
         ensures done { IfOk result (ComesTo count statements.now self.old.tables self.new.tables) }
         ensures widths { self.new.widths ≡ self.old.widths }
+        ensures fit { OnOk result (AreTables self.new.widths self.new.tables) }
         ensures err { OnErr result (self.new ≡ self.old) }
     {
-        transact_on(alloc, &mut self.storage, statements.as_slice(), count)
+        let statements = statements.as_slice();
+        if !store_within_limits(statements) {
+            return Err(AllocError);
+        }
+        transact_on(alloc, &mut self.storage, statements, count)
     }
 }
 
@@ -296,7 +313,7 @@ impl Clone for Tables {
             widths: self.widths.clone()?,
             storage: Storage {
                 tables: self.storage.tables.clone()?,
-                journal: Vec::new(*self.storage.journal.allocator()),
+                undo_log: Vec::new(*self.storage.undo_log.allocator()),
             },
         })
     }

@@ -6,7 +6,7 @@ use replayer::replay::replay_by;
 use replayer::runner::{Next, Runner};
 use replayer::{Reason, ReplayReason};
 use schedule_format::schedule_file::ScheduleFile;
-use script_index::Index;
+use script_check::lookup::Index;
 use script_tree::request::Request;
 use script_tree::value::Value;
 use std::alloc::{AllocError, Global};

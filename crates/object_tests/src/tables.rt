@@ -1,7 +1,7 @@
 //! Tables: a transaction that commits, and one that aborts.
 
 use crate::programs::{program, text};
-use object_tables::tables::{Outcome, Tables};
+use object_tables::tables::{Tables, TransactionEnd};
 use script_tree::transaction::{Statement, Statements, Tests};
 use script_tree::value::{Value, Values};
 use std::alloc::{AllocError, Global};
@@ -52,14 +52,15 @@ pub fn row_count(tables: &Tables) -> usize {
 }
 
 /// How many answers the transaction has, where it commits.
+#[tactic(auto, using(script_fit::proofs::ActOf::transaction_fits))]
 fn transacted(alloc: Global, tables: &mut Tables, count: i64) -> Result<Option<usize>, AllocError> {
     let statements = statements(alloc, count)?;
     if !tables.fit(&statements) {
         return Err(AllocError);
     }
     match tables.transact(alloc, &statements)? {
-        Outcome::Committed(answers) => Ok(Some(answers.as_slice().len())),
-        Outcome::Aborted(_) => Ok(None),
+        TransactionEnd::Committed(answers) => Ok(Some(answers.as_slice().len())),
+        TransactionEnd::Aborted(_) => Ok(None),
     }
 }
 
@@ -77,6 +78,7 @@ fn an_abort_leaves_the_tables(rt: HostRuntime) {
 }
 
 /// How many of three answers are lists: all, where the transaction commits.
+#[tactic(auto, using(script_fit::proofs::ActOf::transaction_fits))]
 fn list_count(alloc: Global, count: i64) -> Result<usize, AllocError> {
     let mut tables = tables(alloc)?;
     let statements = statements(alloc, count)?;

@@ -51,7 +51,8 @@ pub row_more : {X : Type 0} (items : X → List (ℕ × ℕ)) (rows : List X) (r
 row_more {X} items rows r k a b place row new other at lt next more =
     ap (λ (o : Option X). option_or (elim o [ None ↦ None | Some x ↦ place_at (items x) b ]) other) (changed rows r a new lt) ∙ go (nat_eq r a) refl
   where
-    there : (b : ℕ) → option_or (place_at (items row ++ place ∷ []) b) other ≡ cond (nat_eq (length (items row) + 1) b) (Some place) (option_or (place_at (items row) b) other)
+    there : (b : ℕ) → option_or (place_at (items row ++ place ∷ []) b) other
+        ≡ cond (nat_eq (length (items row) + 1) b) (Some place) (option_or (place_at (items row) b) other)
     there zero = ap (λ t. cond t (Some place) other) (sym (suc_zero (length (items row)))) ∙ ap (λ n. cond (nat_eq n 0) (Some place) other) (let e : suc (length (items row)) ≡ length (items row) + 1 = omega arith in e)
     there (suc i) =
         ap (λ o. option_or o other) (at_suc (items row ++ place ∷ []) i ∙ appended (items row) place i)
@@ -72,7 +73,9 @@ row_more {X} items rows r k a b place row new other at lt next more =
         ap (λ xs. option_or (place_at xs b) other) more
         ∙ there b
         ∙ ap (λ n. cond (nat_eq n b) (Some place) (option_or (place_at (items row) b) other)) next
-        ∙ ap (λ (o : Option X). cond (nat_eq k b) (Some place) (option_or (elim o [ None ↦ None | Some x ↦ place_at (items x) b ]) other)) (sym (ap (slice_get rows) (sym (eqb-true r a e)) ∙ at))
+        ∙ ap (λ (o : Option X). cond (nat_eq k b) (Some place)
+        (option_or (elim o [ None ↦ None | Some x ↦ place_at (items x) b ]) other))
+        (sym (ap (slice_get rows) (sym (eqb-true r a e)) ∙ at))
 
 -- ---- the map
 
@@ -92,7 +95,8 @@ none_first None p e = refl
 none_first (Some x) p e = absurd cc
 
 -- one place more in the map, of an operation that had none
-pub map_more : (others new : BTreeMap (ℕ × ℕ) (ℕ × ℕ)) (rows : ℕ → ℕ → Option (ℕ × ℕ)) (r k a b : ℕ) (place : ℕ × ℕ) → Updates by_operation others new (r, k) (Some place)
+pub map_more : (others new : BTreeMap (ℕ × ℕ) (ℕ × ℕ)) (rows : ℕ → ℕ → Option (ℕ × ℕ)) (r k a b : ℕ) (place : ℕ × ℕ)
+    → Updates by_operation others new (r, k) (Some place)
     → option_or (rows r k) (get by_operation others (r, k)) ≡ None
     → option_or (rows a b) (get by_operation new (a, b)) ≡ cond (nat_eq r a && nat_eq k b) (Some place) (option_or (rows a b) (get by_operation others (a, b)))
 map_more others new rows r k a b place u none =
@@ -100,7 +104,8 @@ map_more others new rows r k a b place u none =
     ∙ go (nat_eq r a && nat_eq k b) refl
   where
     go : (t : Bool) → (nat_eq r a && nat_eq k b) ≡ t
-        → option_or (rows a b) (cond t (Some place) (get by_operation others (a, b))) ≡ cond t (Some place) (option_or (rows a b) (get by_operation others (a, b)))
+        → option_or (rows a b) (cond t (Some place) (get by_operation others (a, b)))
+        ≡ cond t (Some place) (option_or (rows a b) (get by_operation others (a, b)))
     go false e = refl
     go true e =
         let p = and_parts (nat_eq r a) (nat_eq k b) e in

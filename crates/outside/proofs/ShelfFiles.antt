@@ -34,23 +34,29 @@ apart_names p q apart = elim (slice_cmp nat_cmp p q) as (λ r. slice_cmp nat_cmp
 ] refl
 
 module _ {A B : Type 0} where
-  find-map : (es : List (String A × Vec ℕ B)) (q : List ℕ) → find (slice_cmp nat_cmp) q (map file_of es) ≡ option_map (λ bytes. bytes.items) (lookup (is_at (λ k. slice_cmp nat_cmp q (string_bytes k))) es)
+  find-map : (es : List (String A × Vec ℕ B)) (q : List ℕ)
+      → find (slice_cmp nat_cmp) q (map file_of es)
+      ≡ option_map (λ bytes. bytes.items) (lookup (is_at (λ k. slice_cmp nat_cmp q (string_bytes k))) es)
   find-map [] q = refl
   find-map (e ∷ es) q =
       ap (cond (eq_by_cmp (slice_cmp nat_cmp) q (string_bytes e.0)) (Some e.1.items)) (find-map es q)
       ∙ sym (option_map-cond (λ bytes. bytes.items) (is_at (λ k. slice_cmp nat_cmp q (string_bytes k)) e.0) e.1 _)
 
   -- what is under a name
-  pub get-files_of : (kept : BTreeMap (String A) (Vec ℕ B)) (name : List ℕ) → get (files_of kept) name ≡ option_map (λ bytes. bytes.items) (get_by_text kept name)
+  pub get-files_of : (kept : BTreeMap (String A) (Vec ℕ B)) (name : List ℕ)
+      → get (files_of kept) name ≡ option_map (λ bytes. bytes.items) (get_by_text kept name)
   get-files_of kept name = get-from_entries nat_list_cmp_total _ name ∙ find-map kept.entries name
 
   -- an entry that is set is a file that is put
-  pub files_of-insert : (old new : BTreeMap (String A) (Vec ℕ B)) (name : List ℕ) (bytes : Vec ℕ B) → UpdatesBy string_cmp (λ k. slice_cmp nat_cmp name (string_bytes k)) old new (Some bytes) → files_of new ≡ insert (files_of old) name bytes.items
+  pub files_of-insert : (old new : BTreeMap (String A) (Vec ℕ B)) (name : List ℕ) (bytes : Vec ℕ B)
+      → UpdatesBy string_cmp (λ k. slice_cmp nat_cmp name (string_bytes k)) old new (Some bytes)
+      → files_of new ≡ insert (files_of old) name bytes.items
   files_of-insert old new name bytes updates = same_map nat_list_cmp_total (slice_cmp-IsAntisymmetric nat_cmp-IsAntisymmetric) _ _ (λ q.
       get-files_of new q
       ∙ ap (option_map (λ bytes. bytes.items)) (btree_map_updates_text name old new (Some bytes) updates q)
       ∙ option_map-cond (λ bytes. bytes.items) (bytes_eq name q) bytes (get_by_text old q)
-      ∙ ap (λ b. cond b (Some bytes.items) (option_map (λ bytes. bytes.items) (get_by_text old q))) (sym (is_eq-slice_cmp name q) ∙ (eq_by_cmp_equiv nat_list_cmp_total).symm name q)
+      ∙ ap (λ b. cond b (Some bytes.items) (option_map (λ bytes. bytes.items) (get_by_text old q)))
+      (sym (is_eq-slice_cmp name q) ∙ (eq_by_cmp_equiv nat_list_cmp_total).symm name q)
       ∙ ap (cond (eq_by_cmp (slice_cmp nat_cmp) q name) (Some bytes.items)) (sym (get-files_of old q))
       ∙ sym (get-insert nat_list_cmp_total (files_of old) name bytes.items q))
 

@@ -25,6 +25,7 @@ visits_told visits = record {
   never_fails = is_sure visits.failing;
 }
 
+-- what a door tells
 abbrev pub door_told : MemDoor → DoorTold
 door_told door = visits_told door.visits
 

@@ -16,6 +16,7 @@ door_to_come plan = record {
   never_fails = length plan.failing.items == 0;
 }
 
+-- what a house tells
 abbrev pub house_told : MemHouse → HouseTold
 house_told house = record {
   coming = Some (map door_to_come house.coming.items);

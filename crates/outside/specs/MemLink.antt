@@ -6,6 +6,7 @@ use Rattle.outside.specs.Links.{LinkTold}
 use Rattle.outside.specs.declared.memory.failing.Failing.{Failing}
 use Rattle.outside.specs.declared.memory.link.MemLink.{MemLink}
 
+-- what a link tells
 abbrev pub link_told : MemLink → LinkTold
 link_told link = record {
   left = Some (drop link.taken link.bytes.items);

@@ -18,6 +18,7 @@ module _ {A B : Type 0} where
   abbrev pub files_of : BTreeMap (String A) (Vec ℕ B) → Files
   files_of kept = from_entries (map file_of kept.entries)
 
+-- what a shelf tells
 abbrev pub shelf_told : MemShelf → ShelfTold
 shelf_told shelf = record {
   files = Some (files_of shelf.files);

@@ -6,6 +6,7 @@ use Rattle.outside.specs.Sinks.{SinkTold}
 use Rattle.outside.specs.declared.memory.failing.Failing.{Failing}
 use Rattle.outside.specs.declared.memory.sink.MemSink.{MemSink}
 
+-- what a sink tells
 abbrev pub sink_told : MemSink → SinkTold
 sink_told sink = record {
   written = Some sink.written.items;

@@ -98,6 +98,7 @@ pub record ReadMade : Type 0 where
   pub from : ℕ
   pub count : ℕ
 
+-- the read of a name from a place on, with this result
 abbrev pub read_made : List ℕ → ℕ → Result ℕ ShelfFault → ReadMade
 read_made name from (Ok count) = record { name = name; from = from; count = count }
 read_made name from (Err fault) = record { name = name; from = from; count = 0 }

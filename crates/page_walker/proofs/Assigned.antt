@@ -5,7 +5,8 @@ use Rattle.script_tree.specs.Datum.{Datum}
 use Rattle.script_meaning.specs.Variables.{Variables, assigned}
 use Rattle.script_meaning.specs.declared.run.Variable.{Variable}
 
-pub assigned_here : (vs : Variables) (i : ℕ) (v w : Variable) (x : List ℕ) (d : Datum) → i < length vs → v ≡ get_or vs i v → w ≡ get_or vs i w → bytes_eq x w.name ≡ true
+pub assigned_here : (vs : Variables) (i : ℕ) (v w : Variable) (x : List ℕ) (d : Datum) → i < length vs
+    → v ≡ get_or vs i v → w ≡ get_or vs i w → bytes_eq x w.name ≡ true
     → set vs i (record { name = v.name; value = d }) ≡ take i vs ++ assigned (drop i vs) x d
 assigned_here [] i v w x d h e f b = absurd (omega arith)
 assigned_here (u ∷ vs) zero v w x d h e f b =

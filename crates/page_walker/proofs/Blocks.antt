@@ -5,26 +5,30 @@ use Rattle.script_tree.specs.Syntax.{Expression, Statement, Statements, while_}
 use Rattle.script_tree.specs.SyntaxLists.{statements_of}
 use Rattle.script_tree.specs.declared.fault.ScriptFault.TheVariants.{OutOfSteps}
 use Rattle.script_meaning.specs.Evaluate.{Setting, Later, Flow, on, back, eval, exec, block, then_on, scoped}
-use Rattle.script_meaning.specs.Run.{Progress, Outcome, goes, stops, after, decide}
+use Rattle.script_meaning.specs.Run.{Progress, Ran, goes, stops, after, decide}
 use Rattle.script_meaning.specs.declared.run.Stop.TheVariants.{Fault as fault}
 use Rattle.script_meaning.specs.Variables.{Variables}
 use Rattle.page_walker.specs.Frames.{later_in}
 
 -- the block from a statement on does it, and then the rest
-pub block_from : (w : Setting) (later : Later) (depth : ℕ) (ss : List Statement) (i : ℕ) (s : Statement) → i < length ss → s ≡ get_or ss i s → (vs : Variables) (p : Progress)
-    → block w later depth (statements_of (drop i ss)) vs p ≡ after (exec w later depth s vs p) (λ flow. then_on flow (block w later depth (statements_of (drop (i + 1) ss))))
+pub block_from : (w : Setting) (later : Later) (depth : ℕ) (ss : List Statement) (i : ℕ) (s : Statement)
+    → i < length ss → s ≡ get_or ss i s → (vs : Variables) (p : Progress)
+    → block w later depth (statements_of (drop i ss)) vs p
+    ≡ after (exec w later depth s vs p) (λ flow. then_on flow (block w later depth (statements_of (drop (i + 1) ss))))
 block_from w later depth ss i s h e vs p =
     let d : drop i ss ≡ s ∷ drop (i + 1) ss = rw add-one (drop-cons ss i s h ∙ ap (λ t. t ∷ drop (suc i) ss) (sym e)) in
     ap (λ l. block w later depth (statements_of l) vs p) d
 
 -- where a statement goes on, so does the block
-pub goes_on : (w : Setting) (later : Later) (depth : ℕ) (ss : List Statement) (i : ℕ) (s : Statement) → i < length ss → s ≡ get_or ss i s → (vs us : Variables) (p q : Progress) (o : Outcome Flow)
-    → exec w later depth s vs p ≡ goes (on us) q → block w later depth (statements_of (drop i ss)) vs p ≡ o → block w later depth (statements_of (drop (i + 1) ss)) us q ≡ o
+pub goes_on : (w : Setting) (later : Later) (depth : ℕ) (ss : List Statement) (i : ℕ) (s : Statement) → i < length ss
+    → s ≡ get_or ss i s → (vs us : Variables) (p q : Progress) (o : Ran Flow)
+    → exec w later depth s vs p ≡ goes (on us) q → block w later depth (statements_of (drop i ss)) vs p ≡ o
+    → block w later depth (statements_of (drop (i + 1) ss)) us q ≡ o
 goes_on w later depth ss i s h e vs us p q o x told =
     sym (block_from w later depth ss i s h e vs p ∙ ap (λ r. after r (λ flow. then_on flow (block w later depth (statements_of (drop (i + 1) ss))))) x) ∙ told
 
 -- nothing more changes nothing
-then_nothing : (o : Outcome Flow) → after o (λ flow. then_on flow (λ vs. goes (on vs))) ≡ o
+then_nothing : (o : Ran Flow) → after o (λ flow. then_on flow (λ vs. goes (on vs))) ≡ o
 then_nothing (goes (on vs) p) = refl
 then_nothing (goes (back d) p) = refl
 then_nothing (stops e p) = refl

@@ -10,7 +10,7 @@ use Rattle.script_tree.specs.SyntaxLists.{statements_of}
 use Rattle.script_tree.specs.declared.fault.ScriptFault.TheVariants.{OutOfSteps}
 use Rattle.script_tree.specs.declared.limits.TheConstants.{MOST_CALL_DEPTH}
 use Rattle.script_meaning.specs.Evaluate.{Setting, Flow, block, entered, value_of}
-use Rattle.script_meaning.specs.Run.{Progress, Outcome, stops, after, give}
+use Rattle.script_meaning.specs.Run.{Progress, Ran, stops, after, give}
 use Rattle.script_meaning.specs.declared.run.Stop.TheVariants.{Fault as fault}
 use Rattle.script_meaning.specs.Variables.{Variables, bound}
 use Rattle.page_walker.specs.Frames.{later_in, nodes_left}
@@ -45,7 +45,8 @@ module _ (w : Setting) (depth : ℕ) (f : DeclaredFunction) (ds : List Datum) (p
   none_left fuel z = rw (z, other depth d) refl
 
   -- the call does what the body does
-  pub inside : (fuel : ℕ) (vs : Variables) (o : Outcome Flow) → fuel ≢ 0 → vs ≡ bound f.parameters ds → block w (later_in w (fuel - 1)) (depth + 1) (statements_of f.body) vs p ≡ o
+  pub inside : (fuel : ℕ) (vs : Variables) (o : Ran Flow) → fuel ≢ 0 → vs ≡ bound f.parameters ds
+      → block w (later_in w (fuel - 1)) (depth + 1) (statements_of f.body) vs p ≡ o
       → entered (later_in w fuel) depth f ds p ≡ after o (λ flow. give (value_of flow))
   unfolding later_in
   inside zero vs o z b h = absurd (z refl)
@@ -54,6 +55,7 @@ module _ (w : Setting) (depth : ℕ) (f : DeclaredFunction) (ds : List Datum) (p
       let k = rw (q, b) at h in
       rw (other depth d, k) refl
 
-  pub inside_stops : (fuel : ℕ) (vs : Variables) (e : Stopped) (q : Progress) (o : Outcome Flow) → fuel ≢ 0 → vs ≡ bound f.parameters ds → block w (later_in w (fuel - 1)) (depth + 1) (statements_of f.body) vs p ≡ o
+  pub inside_stops : (fuel : ℕ) (vs : Variables) (e : Stopped) (q : Progress) (o : Ran Flow) → fuel ≢ 0
+      → vs ≡ bound f.parameters ds → block w (later_in w (fuel - 1)) (depth + 1) (statements_of f.body) vs p ≡ o
       → Stops e q o → Stops e q (entered (later_in w fuel) depth f ds p)
   inside_stops fuel vs e q o z b h s = rw (inside fuel vs o z b h) (stops_first e q o (λ flow. give (value_of flow)) s)

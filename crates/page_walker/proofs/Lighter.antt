@@ -17,12 +17,14 @@ query_lighter [] i q h p = absurd (omega arith)
 query_lighter (t ∷ qs) zero q h p = rw p (omega arith)
 query_lighter (t ∷ qs) (suc i) q h p = omega (arith, query_lighter qs i q (omega arith) p)
 
-pub condition_lighter : (cs : List Condition) (i : ℕ) (c : Condition) → i < length cs → c ≡ get_or cs i c → expression_weight c.value < condition_list_weight (map condition_of cs)
+pub condition_lighter : (cs : List Condition) (i : ℕ) (c : Condition) → i < length cs → c ≡ get_or cs i c
+    → expression_weight c.value < condition_list_weight (map condition_of cs)
 condition_lighter [] i c h p = absurd (omega arith)
 condition_lighter (t ∷ cs) zero c h p = rw p (omega arith)
 condition_lighter (t ∷ cs) (suc i) c h p = omega (arith, condition_lighter cs i c (omega arith) p)
 
-pub assignment_lighter : (as' : List Assignment) (i : ℕ) (a : Assignment) → i < length as' → a ≡ get_or as' i a → expression_weight a.value < assignment_list_weight (map assignment_of as')
+pub assignment_lighter : (as' : List Assignment) (i : ℕ) (a : Assignment) → i < length as' → a ≡ get_or as' i a
+    → expression_weight a.value < assignment_list_weight (map assignment_of as')
 assignment_lighter [] i a h p = absurd (omega arith)
 assignment_lighter (t ∷ as') zero a h p = rw p (omega arith)
 assignment_lighter (t ∷ as') (suc i) a h p = omega (arith, assignment_lighter as' i a (omega arith) p)

@@ -5,7 +5,7 @@ use Rattle.basis.proofs.Options.{some_is, none_is_not}
 use Rattle.script_tree.specs.Datum.{Datum}
 use Rattle.script_tree.specs.ExpressionWeight.{expression_weight}
 use Rattle.script_tree.specs.Syntax.{Expression, number, text, truth, null, bracket, variable, call, list, transact, unary, binary, and_, or_, index}
-use Rattle.script_meaning.specs.Run.{Progress, Run, Outcome, goes, stops, after, give, ◌>>=◌}
+use Rattle.script_meaning.specs.Run.{Progress, Run, Ran, goes, stops, after, give, ◌>>=◌}
 use Rattle.script_meaning.specs.Variables.{Variables}
 use Rattle.page_walker.specs.Frames.{value_at}
 use Rattle.page_walker.specs.Gives.{Stops}
@@ -16,15 +16,15 @@ use Rattle.page_walker.proofs.Parts.{stops_first}
 
 -- ---- runs
 
-after_after : {A B C : Type 0} (o : Outcome A) (f : A → Run B) (g : B → Run C) → after (after o f) g ≡ after o (λ a. f a >>= g)
+after_after : {A B C : Type 0} (o : Ran A) (f : A → Run B) (g : B → Run C) → after (after o f) g ≡ after o (λ a. f a >>= g)
 after_after (goes a p) f g = refl
 after_after (stops e p) f g = refl
 
-after_give : {A : Type 0} (o : Outcome A) → after o give ≡ o
+after_give : {A : Type 0} (o : Ran A) → after o give ≡ o
 after_give (goes a p) = refl
 after_give (stops e p) = refl
 
-after_same : {A B : Type 0} (o : Outcome A) (f g : A → Run B) → ((a : A) (p : Progress) → f a p ≡ g a p) → after o f ≡ after o g
+after_same : {A B : Type 0} (o : Ran A) (f g : A → Run B) → ((a : A) (p : Progress) → f a p ≡ g a p) → after o f ≡ after o g
 after_same (goes a p) f g same = same a p
 after_same (stops e p) f g same = refl
 
@@ -80,7 +80,8 @@ module _ (f : Frame) (vs : Variables) where
   from_first (index at a b) first h p = rw (← some_is h) refl
 
   -- the last that waits goes first
-  pub climbs_last : (es : List (Bor Expression)) (e : Bor Expression) (x : Datum) (p : Progress) → climbs f vs (es ++ e ∷ []) x p ≡ after (climbed f vs e.now x p) (climbs f vs es)
+  pub climbs_last : (es : List (Bor Expression)) (e : Bor Expression) (x : Datum) (p : Progress)
+      → climbs f vs (es ++ e ∷ []) x p ≡ after (climbed f vs e.now x p) (climbs f vs es)
   climbs_last [] e x p = sym (after_give (climbed f vs e.now x p))
   climbs_last (n ∷ es) e x p =
       ap (λ o. after o (climbed f vs n.now)) (climbs_last es e x p) ∙ after_after (climbed f vs e.now x p) (climbs f vs es) (climbed f vs n.now)
@@ -93,14 +94,16 @@ module _ (f : Frame) (vs : Variables) where
       ∙ sym (after_after (value_at f vs first p) (climbed f vs e.now) (climbs f vs es))
       ∙ ap (λ o. after o (climbs f vs es)) (sym (from_first e.now first h p))
 
-  module _ (items es : List (Bor Expression)) (e : Bor Expression) (here : Expression) (x : Datum) (p : Progress) (o : Outcome Datum) where
+  module _ (items es : List (Bor Expression)) (e : Bor Expression) (here : Expression) (x : Datum) (p : Progress) (o : Ran Datum) where
     -- where the last that waits stops, all stops
-    pub rest_stops : (why : Stopped) (q : Progress) → items ≡ es ++ e ∷ [] → here ≡ e.now → climbs f vs items x p ≡ o → Stops why q (climbed f vs here x p) → Stops why q o
+    pub rest_stops : (why : Stopped) (q : Progress) → items ≡ es ++ e ∷ [] → here ≡ e.now → climbs f vs items x p ≡ o
+        → Stops why q (climbed f vs here x p) → Stops why q o
     rest_stops why q is same told s =
         subst (Stops why q) (sym (ap (λ l. climbs f vs l x p) is ∙ climbs_last es e x p) ∙ told)
         (stops_first why q (climbed f vs e.now x p) (climbs f vs es) (subst (λ h. Stops why q (climbed f vs h x p)) same s))
 
     -- where it goes on, the others do the rest
-    pub rest_goes : (y : Datum) (q : Progress) → items ≡ es ++ e ∷ [] → here ≡ e.now → climbs f vs items x p ≡ o → climbed f vs here x p ≡ goes y q → climbs f vs es y q ≡ o
+    pub rest_goes : (y : Datum) (q : Progress) → items ≡ es ++ e ∷ [] → here ≡ e.now → climbs f vs items x p ≡ o
+        → climbed f vs here x p ≡ goes y q → climbs f vs es y q ≡ o
     rest_goes y q is same told s =
         ap (λ r. after r (climbs f vs es)) (sym s ∙ ap (λ h. climbed f vs h x p) same) ∙ sym (ap (λ l. climbs f vs l x p) is ∙ climbs_last es e x p) ∙ told

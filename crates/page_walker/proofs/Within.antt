@@ -16,5 +16,6 @@ is_within (Page at path body ∷ ds) f g e = is_within ds f g e
 is_within (Function at name parameters body ∷ ds) f g e = by (bytes_eq f name.text) e (λ same. is_within ds f g same) where
   by : (b : Bool) → cond b (Some (record { parameters = parameters; body = body })) (function_from f ds) ≡ Some g
       → (function_from f ds ≡ Some g → suc (block_nodes g.body) ≤ most_nodes ds) → suc (block_nodes g.body) ≤ max (suc (block_nodes body)) (most_nodes ds)
-  by true same later = subst (λ h. suc (block_nodes h.body) ≤ max (suc (block_nodes body)) (most_nodes ds)) (some_is same) (le-max_left (suc (block_nodes body)) (most_nodes ds))
+  by true same later = subst (λ h. suc (block_nodes h.body) ≤ max (suc (block_nodes body)) (most_nodes ds))
+      (some_is same) (le-max_left (suc (block_nodes body)) (most_nodes ds))
   by false same later = omega (arith, later same, le-max_right (suc (block_nodes body)) (most_nodes ds))

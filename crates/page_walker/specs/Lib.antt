@@ -5,7 +5,6 @@ pub mod Gives
 pub mod Nodes
 pub mod Rows
 pub mod RunView
-pub mod Statuses
 pub mod VariablesView
 pub mod WalkerSteps
 pub mod WalkerView

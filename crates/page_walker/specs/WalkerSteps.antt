@@ -10,6 +10,7 @@ use Rattle.page_walker.specs.Frames.{later_in}
 use Rattle.page_walker.specs.declared.ending.WalkerStep.{WalkerStep}
 use Rattle.page_walker.specs.declared.ending.WalkerStep.TheVariants as code
 
+-- the ending that a step of the walker tells
 abbrev pub ending_told : WalkerStep → Ending
 ending_told (code.Wants op) = Wants op
 ending_told (code.Ends response path) = Ends response path

@@ -1,9 +1,9 @@
 ghost use Rattle.std.specs.Prelude.{◌≡◌};
 ghost use Rattle.script_tree.specs.Declarations.{callee_in, table_in};
-ghost use Rattle.script_index.specs.Found.{table_of};
+ghost use Rattle.script_check.specs.FoundByName.{table_of};
 ghost use Rattle.page_walker.specs.Found.{callee_of, CalleeIsInProgram};
 
-use script_index::{FoundFunction, FoundTable, Index};
+use script_check::lookup::{FoundFunction, FoundTable, Index};
 use script_tree::syntax::builtin::Builtin;
 use script_tree::syntax::name::Name;
 use script_tree::text::Text;
@@ -24,7 +24,7 @@ pub fn callee_named<'a>(index: &Index<'a>, name: &Text) -> Callee<'a>
 {
     match index.function(name.as_bytes()) {
         Some(function) => Callee::Own(function),
-        None => match Builtin::named(name.as_bytes()) {
+        None => match Builtin::named(index.program().version(), name.as_bytes()) {
             Some(builtin) => Callee::Builtin(builtin),
             None => Callee::Unknown,
         },

@@ -1,17 +1,15 @@
 ghost use Rattle.std.specs.Prelude.{◌≡◌, [], IfOk};
-ghost use Rattle.script_meaning.specs.Conduct.{no_page, fault_response, ended};
+ghost use Rattle.script_meaning.specs.Conduct.{no_page, ended};
 ghost use Rattle.script_meaning.specs.Run.{stops};
 ghost use Rattle.page_walker.specs.WalkerSteps.{Tells};
 
 use crate::run::Run;
-use basis::OrMemory;
+use script_meaning::responses::{fault_response, no_page_path, no_page_response};
 use script_meaning::run::Stop;
-use script_meaning::status::{FAULT_STATUS, NO_PAGE_STATUS};
 use script_tree::fault::ScriptFault;
 use script_tree::operation::Op;
-use script_tree::path::{Decisions, End, Path};
+use script_tree::path::{End, Path};
 use script_tree::request::Response;
-use script_tree::text::Text;
 use std::alloc::{AllocError, Global};
 
 /// What a run wants next, or how it is over.
@@ -38,25 +36,6 @@ pub fn stopped(alloc: Global, page: u32, run: &Run, stop: Stop) -> Result<Walker
 pub fn no_page(alloc: Global) -> Result<WalkerStep, AllocError>
     ensures { IfOk result (Tells (no_page []).ending) }
 {
-    let response = Response {
-        status: NO_PAGE_STATUS,
-        body: Text::from_vec(b"no page\n".to_vec(alloc)?),
-    };
-    let path = Path {
-        page: None,
-        decisions: Decisions::new(alloc),
-        steps: 0,
-        end: End::Normal,
-    };
-    Ok(WalkerStep::Ends(response, path))
-}
-
-fn fault_response(alloc: Global, fault: ScriptFault) -> Result<Response, AllocError>
-    ensures { IfOk result (λ response. response ≡ fault_response fault) }
-{
-    let line = format!(in alloc; "{fault}\n")?;
-    Ok(Response {
-        status: FAULT_STATUS,
-        body: Text::from_vec(line.into_bytes()),
-    })
+    let response = no_page_response(alloc)?;
+    Ok(WalkerStep::Ends(response, no_page_path(alloc)))
 }

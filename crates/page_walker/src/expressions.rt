@@ -2,12 +2,11 @@ ghost use Rattle.std.specs.Prelude.{◌≡◌, ℕ, Bool};
 ghost use Rattle.script_tree.specs.Declarations.{own, built, unknown};
 ghost use Rattle.script_tree.specs.ExpressionView.{expression_of};
 ghost use Rattle.script_tree.specs.Syntax.{binary, and_, or_, index as indexed, call};
-ghost use Rattle.script_tree.specs.Syntax.{list as listed, transact, expression, Expressions as Several};
+ghost use Rattle.script_tree.specs.Syntax.{list as listed, transact};
 ghost use Rattle.script_tree.specs.Syntax.{Expression as Meant};
 ghost use Rattle.script_tree.specs.SyntaxLists.{expressions_of, queries_of};
-ghost use Rattle.script_meaning.specs.Evaluate.{store_name};
 ghost use Rattle.page_walker.specs.Found.{IsInProgram};
-ghost use Rattle.script_index.specs.Found.{function_of};
+ghost use Rattle.script_check.specs.FoundByName.{function_of};
 ghost use Rattle.page_walker.specs.Frames.{value_at, values_at, arguments_at, call_at, entered_at};
 ghost use Rattle.page_walker.specs.Gives.{Gives, GivesValue};
 ghost use Rattle.page_walker.specs.Rows.{first_of, climbed};
@@ -17,7 +16,8 @@ use crate::first::first_operand;
 use crate::frame::{Flow, Frame};
 use crate::run::{Run, Stopped};
 use crate::variables::Variables;
-use script_index::FoundFunction;
+use script_check::lookup::FoundFunction;
+use script_meaning::store_names::store_name;
 use script_tree::fault::ScriptFault;
 use script_tree::limits::MOST_CALL_DEPTH;
 use script_tree::syntax::builtin::Builtin;
@@ -377,37 +377,5 @@ impl Frame<'_, '_, '_> {
             values.push(self.eval(variables, run, operand)?)?;
         }
         Ok(values)
-    }
-}
-
-/// The bare name of a store that a call's arguments begin with.
-fn store_name(operands: &[Expression]) -> &[u8]
-    ensures { result.now ≡ store_name (expressions_of operands.now) }
-{
-    match operands.first() {
-        Some(first) => bare_name(&first.node),
-        None => &[],
-    }
-}
-
-fn bare_name(node: &ExpressionNode) -> &[u8]
-    ensures { (at : ℕ) (es : Several)
-        → result.now ≡ store_name (expression (expression_of at node.now) es) }
-{
-    match node {
-        ExpressionNode::Variable(name) => name.as_bytes(),
-        ExpressionNode::Number(_)
-        | ExpressionNode::Text(_)
-        | ExpressionNode::Bool(_)
-        | ExpressionNode::Null
-        | ExpressionNode::Bracket(_)
-        | ExpressionNode::Call(_, _)
-        | ExpressionNode::List(_)
-        | ExpressionNode::Transact(_)
-        | ExpressionNode::Unary(_, _)
-        | ExpressionNode::Binary(_, _, _)
-        | ExpressionNode::And(_, _)
-        | ExpressionNode::Or(_, _)
-        | ExpressionNode::Index(_, _) => &[],
     }
 }

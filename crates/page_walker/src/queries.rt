@@ -1,7 +1,7 @@
 ghost use Rattle.std.specs.Prelude.{◌≡◌, map, IfOk};
 ghost use Rattle.script_tree.specs.Declarations.{column_in};
 ghost use Rattle.script_tree.specs.ExpressionView.{query_of};
-ghost use Rattle.script_index.specs.Found.{table_of};
+ghost use Rattle.script_check.specs.FoundByName.{table_of};
 ghost use Rattle.page_walker.specs.Frames.{operands_at, all_operands_at, tests_at, changes_at};
 ghost use Rattle.page_walker.specs.Gives.{Gives};
 ghost use Rattle.script_values.specs.Queries.{unchecked_of};
@@ -10,7 +10,7 @@ use crate::declared::table;
 use crate::frame::Frame;
 use crate::run::{Run, Stopped};
 use crate::variables::Variables;
-use script_index::FoundTable;
+use script_check::lookup::FoundTable;
 use script_tree::syntax::expression::{Assignments, Conditions, Queries, Query, QueryNode};
 use script_tree::syntax::name::Names;
 use script_tree::transaction::{Change, Changes, Columns, Test, Tests};

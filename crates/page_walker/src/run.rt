@@ -4,27 +4,25 @@ ghost use Rattle.script_tree.specs.Datum.{Datum, bool};
 ghost use Rattle.script_tree.specs.Requests.{Request};
 ghost use Rattle.script_meaning.specs.BuiltinCalls.{Call};
 ghost use Rattle.script_meaning.specs.Conduct.{decisions, path_of, response_of, start};
-ghost use Rattle.script_meaning.specs.Evaluate.{print, print_value, seen, node, call_node};
+ghost use Rattle.script_meaning.specs.Evaluate.{print_value, seen, node, call_node};
 ghost use Rattle.script_meaning.specs.Evaluate.{issue_unless_fault};
 ghost use Rattle.script_meaning.specs.Operands.{OpAnswer};
 ghost use Rattle.script_meaning.specs.Operators.{Answer};
 ghost use Rattle.script_meaning.specs.Run.{Cost, charge, count_operation, issue, take_answer};
 ghost use Rattle.script_meaning.specs.Run.{decide, decide_by, note};
 ghost use Rattle.page_walker.specs.Gives.{Gives, GivesValue, stopped_by};
-ghost use Rattle.page_walker.specs.Statuses.{set_status_in};
 ghost use Rattle.script_values.specs.CallsMade.{made};
+ghost use Rattle.script_values.specs.Outputs.{set_status_in};
 
 use basis::OrMemory;
 use script_meaning::run::{Mark, Stop};
-use script_meaning::status::USUAL_STATUS;
 use script_tree::fault::ScriptFault;
-use script_tree::limits::{MOST_BODY_BYTES, MOST_OPERATIONS, MOST_STEPS};
+use script_tree::limits::{MOST_OPERATIONS, MOST_STEPS};
 use script_tree::operation::Op;
 use script_tree::path::{Decisions, End, Path};
 use script_tree::request::Response;
-use script_tree::text::Text;
 use script_tree::value::Value;
-use script_values::{Called, Faulted, bool_in, printed, status_in};
+use script_values::{Called, Faulted, Output, bool_in};
 use std::alloc::{AllocError, AllocFailed, Global};
 use std::marker::Model;
 
@@ -82,8 +80,7 @@ pub struct Run<'a> {
     trail: Vec<Mark>,
     /// Those that are left.
     answers: &'a [Value],
-    status: u16,
-    body: Vec<u8>,
+    output: Output,
 }
 
 impl<'a> Model for Run<'a> {
@@ -110,8 +107,7 @@ impl<'a> Run<'a> {
             operations: 0,
             trail: Vec::new(alloc),
             answers,
-            status: USUAL_STATUS,
-            body: Vec::new(alloc),
+            output: Output::new(alloc),
         }
     }
 
@@ -225,30 +221,19 @@ impl<'a> Run<'a> {
         Ok(())
     }
 
-    /// Adds bytes to the body.
-    fn print(&mut self, bytes: &[u8]) -> Result<(), Stopped>
-        ensures { Gives (λ _. tt) result self.new (print bytes.now self.old) }
-    {
-        if bytes.len() > MOST_BODY_BYTES || self.body.len() > MOST_BODY_BYTES - bytes.len() {
-            return Err(Stopped::fault(ScriptFault::TooLarge));
-        }
-        self.body.extend_from_slice(bytes)?;
-        Ok(())
-    }
-
     /// Adds the text of a value to the body.
     pub fn print_value(&mut self, alloc: Global, value: &Value) -> Result<(), Stopped>
         ensures { Gives (λ _. tt) result self.new (print_value value.now self.old) }
     {
-        let text = printed(alloc, value)?;
-        self.print(text.as_bytes())
+        self.output.print_value(alloc, value)?;
+        Ok(())
     }
 
     /// Sets the status that a value is.
     pub fn set_status(&mut self, value: &Value) -> Result<(), Stopped>
         ensures { Gives (λ _. tt) result self.new (set_status_in value.now self.old) }
     {
-        self.status = status_in(value)?;
+        self.output.set_status(value)?;
         Ok(())
     }
 
@@ -268,11 +253,8 @@ impl<'a> Run<'a> {
     pub fn into_response(self) -> Response
         ensures { result ≡ response_of self.entry }
     {
-        let Run { status, body, .. } = self;
-        Response {
-            status,
-            body: Text::from_vec(body),
-        }
+        let Run { output, .. } = self;
+        output.into_response()
     }
 }
 

@@ -5,7 +5,7 @@ use crate::ending::{WalkerStep, no_page, stopped};
 use crate::frame::Frame;
 use crate::run::{Run, Stopped};
 use crate::variables::Variables;
-use script_index::Index;
+use script_check::lookup::Index;
 use script_tree::limits::MOST_STEPS;
 use script_tree::path::End;
 use script_tree::request::Request;

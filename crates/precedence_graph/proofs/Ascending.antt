@@ -8,7 +8,7 @@ use Rattle.std.specs.declared.cmp.Ordering.{Ordering}
 use Rattle.std.specs.declared.cmp.Ordering.TheVariants.{Less, Equal, Greater}
 use Rattle.basis.specs.Lists.{nth}
 use Rattle.basis.proofs.Options.{none_is_not, some_is}
-use Rattle.script_tree.specs.declared.trace.TraceEvent.{TraceEvent}
+use Rattle.period.specs.declared.trace.TraceEvent.{TraceEvent}
 use Rattle.audit_meaning.specs.Placed.{IsIn}
 use Rattle.precedence_graph.specs.Edges.{AreEdges, by_later}
 

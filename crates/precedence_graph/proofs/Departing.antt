@@ -4,10 +4,10 @@ use Rattle.std.proofs.lemmas.Bool.{eq-eqb}
 use Rattle.basis.specs.Lists.{nth}
 use Rattle.basis.proofs.Options.{none_is_not}
 use Rattle.script_tree.specs.Requests.{Request}
-use Rattle.script_tree.specs.Traces.{IsBalanced, request_in, request_of}
+use Rattle.period.specs.Traces.{IsBalanced, request_in, request_of}
 use Rattle.script_tree.specs.declared.request.Response.{Response}
-use Rattle.script_tree.specs.declared.trace.TraceEvent.{TraceEvent}
-use Rattle.script_tree.specs.declared.trace.TraceEvent.TheVariants.{Asked, Answered}
+use Rattle.period.specs.declared.trace.TraceEvent.{TraceEvent}
+use Rattle.period.specs.declared.trace.TraceEvent.TheVariants.{Asked, Answered}
 use Rattle.trace_format.specs.Balance.{AsksAt, AnswersAt}
 use Rattle.trace_format.specs.declared.trace_file.EventHead.{EventHead}
 use Rattle.trace_format.specs.declared.trace_file.EventHead.TheVariants.{Asks, Answers}

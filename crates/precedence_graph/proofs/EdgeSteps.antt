@@ -7,7 +7,7 @@ use Rattle.std.specs.List.Sorted.{IsStrictlySortedBy}
 use Rattle.std.specs.Ordering.{nat_cmp, ordering_then}
 use Rattle.std.specs.declared.cmp.Ordering.{Ordering}
 use Rattle.std.specs.declared.cmp.Ordering.TheVariants.{Less, Equal}
-use Rattle.script_tree.specs.declared.trace.TraceEvent.{TraceEvent}
+use Rattle.period.specs.declared.trace.TraceEvent.{TraceEvent}
 use Rattle.audit_meaning.proofs.Places.{in_left, in_right, in_either, in_map, in_map_back}
 use Rattle.audit_meaning.specs.Placed.{IsIn}
 use Rattle.precedence_graph.specs.Departures.{DepartsAt, ArrivesAt}

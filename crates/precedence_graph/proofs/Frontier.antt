@@ -1,8 +1,8 @@
 -- The requests that depart directly before a place, one place after another.
 use Rattle.std.proofs.Common.{◌≡◌, ◌∙◌, ℕ, ◌<◌, ◌≤◌, ◌+◌, Bool, true, false, List, inl, inr, sym, subst, arith, true≢false}
 use Rattle.std.proofs.lemmas.Bool.{cases_eq, false_from_ne_true}
-use Rattle.script_tree.specs.Traces.{IsBalanced}
-use Rattle.script_tree.specs.declared.trace.TraceEvent.{TraceEvent}
+use Rattle.period.specs.Traces.{IsBalanced}
+use Rattle.period.specs.declared.trace.TraceEvent.{TraceEvent}
 use Rattle.audit_meaning.specs.EdgesAre.{LiesBetween}
 use Rattle.precedence_graph.specs.Departures.{DepartsAt, DepartsBefore, ArrivesAt}
 use Rattle.precedence_graph.specs.Edges.{DepartsDirectly, IsDirectlyBefore}

@@ -5,9 +5,9 @@ use Rattle.std.proofs.lemmas.Bool.{cases_eq, cases_lt}
 use Rattle.basis.specs.Lists.{nth}
 use Rattle.basis.proofs.Options.{none_is_not}
 use Rattle.basis.proofs.Places.{nth_next, nth_left}
-use Rattle.script_tree.specs.Traces.{IsBalanced}
-use Rattle.script_tree.specs.declared.trace.TraceEvent.{TraceEvent}
-use Rattle.script_tree.specs.declared.trace.TraceEvent.TheVariants.{Asked, Answered}
+use Rattle.period.specs.Traces.{IsBalanced}
+use Rattle.period.specs.declared.trace.TraceEvent.{TraceEvent}
+use Rattle.period.specs.declared.trace.TraceEvent.TheVariants.{Asked, Answered}
 use Rattle.audit_meaning.specs.EdgesAre.{LiesBetween}
 use Rattle.precedence_graph.specs.Departures.{DepartsAt, DepartsBefore, ArrivesAt}
 use Rattle.precedence_graph.specs.Edges.{DepartsDirectly}

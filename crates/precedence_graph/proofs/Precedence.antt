@@ -2,8 +2,8 @@
 use Rattle.std.proofs.Common.{ℕ, zero, suc, ◌<◌, ◌≤◌, List, inl, inr, subst, arith}
 use Rattle.std.proofs.lemmas.Bool.{cases_lt}
 use Rattle.script_tree.specs.Requests.{Request}
-use Rattle.script_tree.specs.Traces.{IsBalanced, Precedes}
-use Rattle.script_tree.specs.declared.trace.TraceEvent.{TraceEvent}
+use Rattle.period.specs.Traces.{IsBalanced, Precedes}
+use Rattle.period.specs.declared.trace.TraceEvent.{TraceEvent}
 use Rattle.trace_format.specs.Balance.{AsksAt, AnswersAt}
 use Rattle.precedence_graph.specs.Departures.{DepartsBefore, ArrivesAt}
 use Rattle.precedence_graph.specs.Edges.{AreEdges, IsDirectlyBefore}

@@ -3,7 +3,7 @@ use Rattle.std.proofs.Common.{◌≡◌, ◌∙◌, ℕ, ◌<◌, Bool, true, fa
 use Rattle.std.proofs.lemmas.Bool.{eq-eqb, ne_eqb}
 use Rattle.std.specs.BTreeMap.{is_at}
 use Rattle.std.specs.Ordering.{nat_cmp}
-use Rattle.script_tree.specs.declared.trace.TraceEvent.{TraceEvent}
+use Rattle.period.specs.declared.trace.TraceEvent.{TraceEvent}
 use Rattle.precedence_graph.specs.EdgeLists.{AreEdgesTo, is_source}
 use Rattle.precedence_graph.specs.Edges.{IsDirectlyBefore}
 use Rattle.precedence_graph.proofs.EdgeSteps.{AreEdgesBefore}

@@ -5,8 +5,8 @@ use Rattle.std.specs.List.{list_any}
 use Rattle.std.specs.Ordering.{nat_cmp}
 use Rattle.basis.specs.Lists.{nth}
 use Rattle.basis.proofs.Options.{none_is_not}
-use Rattle.script_tree.specs.Traces.{IsBalanced}
-use Rattle.script_tree.specs.declared.trace.TraceEvent.{TraceEvent}
+use Rattle.period.specs.Traces.{IsBalanced}
+use Rattle.period.specs.declared.trace.TraceEvent.{TraceEvent}
 use Rattle.precedence_graph.specs.Departures.{ArrivesAt, DepartsAt}
 use Rattle.precedence_graph.specs.EdgeLists.{AreEdgesTo, AreStarts, LosesSources, edges_from, is_source}
 use Rattle.precedence_graph.proofs.Departing.{comes_first}

@@ -3,7 +3,7 @@ use Rattle.std.specs.Prelude.{ℕ, List}
 use Rattle.std.specs.List.Sorted.{IsStrictlySortedBy}
 use Rattle.std.specs.Ordering.{nat_cmp, ordering_then}
 use Rattle.std.specs.declared.cmp.Ordering.{Ordering}
-use Rattle.script_tree.specs.declared.trace.TraceEvent.{TraceEvent}
+use Rattle.period.specs.declared.trace.TraceEvent.{TraceEvent}
 use Rattle.audit_meaning.specs.EdgesAre.{LiesBetween}
 use Rattle.audit_meaning.specs.Placed.{IsIn}
 use Rattle.precedence_graph.specs.Departures.{DepartsBefore, ArrivesAt}

@@ -1,8 +1,8 @@
 -- Paths of edges from request to request, and what they say of time.
 use Rattle.std.specs.Prelude.{◌≡◌, ◌↔◌, ℕ, List}
 use Rattle.script_tree.specs.Requests.{Request}
-use Rattle.script_tree.specs.Traces.{IsBalanced, Precedes}
-use Rattle.script_tree.specs.declared.trace.TraceEvent.{TraceEvent}
+use Rattle.period.specs.Traces.{IsBalanced, Precedes}
+use Rattle.period.specs.declared.trace.TraceEvent.{TraceEvent}
 use Rattle.trace_format.specs.Balance.{AsksAt}
 use Rattle.audit_meaning.specs.Placed.{IsIn}
 use Rattle.precedence_graph.specs.Edges.{AreEdges}

@@ -1,7 +1,7 @@
 -- From which place of a trace on no whole request lies between a departure and another place.
 use Rattle.std.specs.Prelude.{◌≡◌, ℕ, ◌<◌, ◌≤◌, ◌⊎◌, ◌↔◌, List, length, Some}
 use Rattle.basis.specs.Lists.{nth}
-use Rattle.script_tree.specs.declared.trace.TraceEvent.{TraceEvent}
+use Rattle.period.specs.declared.trace.TraceEvent.{TraceEvent}
 use Rattle.audit_meaning.specs.EdgesAre.{LiesBetween}
 use Rattle.precedence_graph.specs.Departures.{DepartsBefore}
 use Rattle.precedence_graph.specs.Edges.{DepartsDirectly}

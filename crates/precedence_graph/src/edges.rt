@@ -1,5 +1,5 @@
 ghost use Rattle.std.specs.Prelude.{◌≡◌, ◌+◌, ◌<◌, ◌++◌, length, IfOk, OnOk};
-ghost use Rattle.script_tree.specs.Traces.{IsBalanced};
+ghost use Rattle.period.specs.Traces.{IsBalanced};
 ghost use Rattle.precedence_graph.specs.Edges.{AreEdges};
 ghost use Rattle.precedence_graph.specs.EdgeLists.{AreStarts, AreEdgesTo, LosesSources, edges_from};
 

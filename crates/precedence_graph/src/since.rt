@@ -1,5 +1,5 @@
 ghost use Rattle.std.specs.Prelude.{IfOk};
-ghost use Rattle.script_tree.specs.Traces.{IsBalanced};
+ghost use Rattle.period.specs.Traces.{IsBalanced};
 ghost use Rattle.precedence_graph.specs.Since.{AreSince};
 
 use crate::answered::request_answered;

@@ -6,12 +6,12 @@ use Rattle.std.proofs.lemmas.Slice.Eq.{bytes_eq-Decides}
 use Rattle.basis.specs.Lists.{nth}
 use Rattle.script_tree.specs.Objects.{Objects}
 use Rattle.script_tree.specs.Requests.{Request}
-use Rattle.script_tree.specs.Traces.{request_of, response_of, IsBalanced, Precedes}
+use Rattle.period.specs.Traces.{request_of, response_of, IsBalanced, Precedes}
 use Rattle.script_tree.specs.declared.request.Response.{Response}
-use Rattle.script_tree.specs.declared.schedule.Moment.{Moment}
-use Rattle.script_tree.specs.declared.schedule.Moment.TheVariants.{Arrive, Act, Depart}
+use Rattle.period.specs.declared.schedule.Moment.{Moment}
+use Rattle.period.specs.declared.schedule.Moment.TheVariants.{Arrive, Act, Depart}
 use Rattle.script_tree.specs.Programs.{Program}
-use Rattle.script_tree.specs.declared.trace.TraceEvent.{TraceEvent}
+use Rattle.period.specs.declared.trace.TraceEvent.{TraceEvent}
 use Rattle.script_meaning.specs.Conduct.{Ends}
 use Rattle.script_meaning.specs.Explains.{rid_of, Explains}
 use Rattle.script_meaning.specs.Replay.{Scene, opening, IsAllowed, IsAsTraced, after, Plays}
@@ -24,7 +24,8 @@ use Rattle.replayer.proofs.DifferenceTests.{not_arrived, has_departed-at, asked_
 same_itself : (x : Response) → is_same_response x (Some x) ≡ true
 same_itself x = ap (λ b. cond b (bytes_eq x.body x.body) false) (eq-eqb x.status x.status refl) ∙ (bytes_eq-Decides x.body x.body).1 refl
 
-module _ (program : Program) (start : Objects) (trace : List TraceEvent) (schedule : List Moment) (balanced : IsBalanced trace) (explained : Explains program start trace schedule) where
+module _ (program : Program) (start : Objects) (trace : List TraceEvent) (schedule : List Moment)
+    (balanced : IsBalanced trace) (explained : Explains program start trace schedule) where
   -- an arrival comes first, and after the departures of the requests that precede it
   arrives_well : (past : List Moment) (r : ℕ) (ms : List Moment) → past ++ Arrive r ∷ ms ≡ schedule → arrival_fault trace past r ≡ None
   arrives_well past r ms is =
@@ -55,9 +56,12 @@ module _ (program : Program) (start : Objects) (trace : List TraceEvent) (schedu
           let whole = explained.whole a known.0 known.1 in
           let before : Precedes trace a r = record { left = i; response = x; right = place.0; request = asked.0; answers = at_i; asks = place.1; in_order = l } in
           let low : whole.departure < length past = explained.in_time a r whole.departure (length past) before whole.departs here in
-          has_departed-at past a whole.departure (nth_before past (Arrive r ∷ ms) whole.departure (Depart a) low (subst (λ l. nth l whole.departure ≡ Some (Depart a)) (sym is) whole.departs)))
+          has_departed-at past a whole.departure (nth_before past (Arrive r ∷ ms) whole.departure (Depart a) low
+          (subst (λ l. nth l whole.departure ≡ Some (Depart a)) (sym is) whole.departs)))
 
-  no_fault : (past : List Moment) (scene : Scene) (m : Moment) (ms : List Moment) → past ++ m ∷ ms ≡ schedule → IsAllowed program trace scene m → IsAsTraced program trace scene m → moment_fault program trace past scene m ≡ None
+  no_fault : (past : List Moment) (scene : Scene) (m : Moment) (ms : List Moment) → past ++ m ∷ ms ≡ schedule
+      → IsAllowed program trace scene m → IsAsTraced program trace scene m
+      → moment_fault program trace past scene m ≡ None
   no_fault past scene (Arrive r) ms is allowed traced = arrives_well past r ms is
   no_fault past scene (Act r choice) ms is allowed traced =
       ap (act_fault scene choice) allowed.1 ∙ ap (λ b. cond b None (Some BadChoice)) allowed.2
@@ -66,7 +70,9 @@ module _ (program : Program) (start : Objects) (trace : List TraceEvent) (schedu
       ∙ ap (λ o. departure_fault o (Some (Ends allowed.0 allowed.1))) (traced allowed.0 allowed.1 allowed.2)
       ∙ ap (λ b. cond b None (Some OtherResponse)) (same_itself allowed.0)
 
-  no_fault_at_all : (past : List Moment) (scene : Scene) (m : Moment) (ms : List Moment) → past ++ m ∷ ms ≡ schedule → IsAllowed program trace scene m → IsAsTraced program trace scene m → fault_of program trace past scene m ≡ None
+  no_fault_at_all : (past : List Moment) (scene : Scene) (m : Moment) (ms : List Moment) → past ++ m ∷ ms ≡ schedule
+      → IsAllowed program trace scene m → IsAsTraced program trace scene m
+      → fault_of program trace past scene m ≡ None
   unfolding fault_of
   no_fault_at_all past scene m ms is allowed traced =
       ap (λ o. cond (is_none o) (Some UnknownRequest) (moment_fault program trace past scene m)) asked.1 ∙ no_fault past scene m ms is allowed traced
@@ -74,7 +80,8 @@ module _ (program : Program) (start : Objects) (trace : List TraceEvent) (schedu
       asked : (q : Request) × (request_of trace (rid_of m) ≡ Some q)
       asked = explained.of_trace (length past) m (subst (λ l. nth l (length past) ≡ Some m) is (nth_next past ms m))
 
-  no_difference : (past : List Moment) (scene : Scene) (ms : List Moment) → past ++ ms ≡ schedule → Plays program trace scene ms → difference_from program trace past scene ms ≡ None
+  no_difference : (past : List Moment) (scene : Scene) (ms : List Moment) → past ++ ms ≡ schedule
+      → Plays program trace scene ms → difference_from program trace past scene ms ≡ None
   unfolding difference_from
   no_difference past scene [] is plays = none_left trace past (λ r i q at_i.
       let known = request_of-at trace r i q at_i in
@@ -87,5 +94,7 @@ module _ (program : Program) (start : Objects) (trace : List TraceEvent) (schedu
       ]) (no_fault_at_all past scene m ms is plays.0 plays.1)
       ∙ no_difference (past ++ m ∷ []) (after program trace scene m) ms (append_assoc past (m ∷ []) ms ∙ is) plays.2
 
-pub complete : (program : Program) (start : Objects) (trace : List TraceEvent) (schedule : List Moment) → IsBalanced trace → Explains program start trace schedule → difference_of program start trace schedule ≡ None
-complete program start trace schedule balanced explained = no_difference program start trace schedule balanced explained [] (opening start) schedule refl explained.plays
+pub complete : (program : Program) (start : Objects) (trace : List TraceEvent) (schedule : List Moment)
+    → IsBalanced trace → Explains program start trace schedule → difference_of program start trace schedule ≡ None
+complete program start trace schedule balanced explained =
+    no_difference program start trace schedule balanced explained [] (opening start) schedule refl explained.plays

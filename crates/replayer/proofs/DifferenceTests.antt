@@ -6,12 +6,12 @@ use Rattle.std.proofs.lemmas.List.Folds.{list_any-append}
 use Rattle.std.specs.List.{list_any}
 use Rattle.basis.specs.Lists.{nth}
 use Rattle.script_tree.specs.Requests.{Request}
-use Rattle.script_tree.specs.Traces.{request_in, request_of}
+use Rattle.period.specs.Traces.{request_in, request_of}
 use Rattle.script_tree.specs.declared.request.Response.{Response}
-use Rattle.script_tree.specs.declared.schedule.Moment.{Moment}
-use Rattle.script_tree.specs.declared.schedule.Moment.TheVariants.{Arrive, Depart}
-use Rattle.script_tree.specs.declared.trace.TraceEvent.{TraceEvent}
-use Rattle.script_tree.specs.declared.trace.TraceEvent.TheVariants.{Asked, Answered}
+use Rattle.period.specs.declared.schedule.Moment.{Moment}
+use Rattle.period.specs.declared.schedule.Moment.TheVariants.{Arrive, Depart}
+use Rattle.period.specs.declared.trace.TraceEvent.{TraceEvent}
+use Rattle.period.specs.declared.trace.TraceEvent.TheVariants.{Asked, Answered}
 use Rattle.replayer.specs.Differences.{is_arrival, is_departure, has_arrived, has_departed, is_too_early, first_not_departed}
 use Rattle.replayer.specs.declared.reason.ReplayReason.{ReplayReason}
 use Rattle.replayer.specs.declared.reason.ReplayReason.TheVariants.{Open as LeftOpen}
@@ -108,17 +108,21 @@ departed_before (Asked rid p ∷ events) past r (suc i) (suc j) a x q t at_i at_
       (λ k o l h. first (suc k) o (omega arith) h)
 ]
 departed_before (Answered rid y ∷ events) past r zero (suc j) a x q t at_i at_j l first =
-    subst (λ n. has_departed past n ≡ true) (same_answered rid a y x at_i) (not-false (has_departed past rid) (or_parts (not (has_departed past rid)) (is_too_early events past r) t).0)
+    subst (λ n. has_departed past n ≡ true) (same_answered rid a y x at_i)
+    (not-false (has_departed past rid) (or_parts (not (has_departed past rid)) (is_too_early events past r) t).0)
 departed_before (Answered rid y ∷ events) past r (suc i) (suc j) a x q t at_i at_j l first =
-    departed_before events past r i j a x q (or_parts (not (has_departed past rid)) (is_too_early events past r) t).1 at_i at_j (omega arith) (λ k o l h. first (suc k) o (omega arith) h)
+    departed_before events past r i j a x q (or_parts (not (has_departed past rid))
+    (is_too_early events past r) t).1 at_i at_j (omega arith) (λ k o l h. first (suc k) o (omega arith) h)
 
 -- And where each such response is of a departed request, it isn't too early.
 pub not_too_early : (trace : List TraceEvent) (past : List Moment) (r j : ℕ) (q : Request) → nth trace j ≡ Some (Asked r q)
     → ((i a : ℕ) (x : Response) → nth trace i ≡ Some (Answered a x) → i < j → has_departed past a ≡ true) → is_too_early trace past r ≡ false
 unfolding is_too_early
 not_too_early [] past r j q at_j before = absurd (none_is_not at_j)
-not_too_early (Asked rid p ∷ events) past r zero q at_j before = ap (λ b. cond b false (is_too_early events past r)) (eq-eqb r rid (sym (same_asked rid r p q at_j)))
-not_too_early (Asked rid p ∷ events) past r (suc j) q at_j before = go (nat_eq r rid) (not_too_early events past r j q at_j (λ i a x h l. before (suc i) a x h (omega arith)))
+not_too_early (Asked rid p ∷ events) past r zero q at_j before =
+    ap (λ b. cond b false (is_too_early events past r)) (eq-eqb r rid (sym (same_asked rid r p q at_j)))
+not_too_early (Asked rid p ∷ events) past r (suc j) q at_j before =
+    go (nat_eq r rid) (not_too_early events past r j q at_j (λ i a x h l. before (suc i) a x h (omega arith)))
   where
     go : (b : Bool) → is_too_early events past r ≡ false → cond b false (is_too_early events past r) ≡ false
     go true h = refl
@@ -134,14 +138,22 @@ departed_first : (b : Bool) (rid : ℕ) (rest : Option ReplayReason) → cond b 
 departed_first true rid rest e = (refl, e)
 departed_first false rid rest e = absurd (none_is_not (sym e))
 
-pub all_departed : (trace : List TraceEvent) (past : List Moment) (r i : ℕ) (q : Request) → first_not_departed (has_departed past) trace ≡ None → nth trace i ≡ Some (Asked r q) → has_departed past r ≡ true
+pub all_departed : (trace : List TraceEvent) (past : List Moment) (r i : ℕ) (q : Request)
+    → first_not_departed (has_departed past) trace ≡ None → nth trace i ≡ Some (Asked r q)
+    → has_departed past r ≡ true
 all_departed [] past r i q e h = absurd (none_is_not h)
-all_departed (Asked rid p ∷ events) past r zero q e h = subst (λ n. has_departed past n ≡ true) (same_asked rid r p q h) (departed_first (has_departed past rid) rid (first_not_departed (has_departed past) events) e).0
-all_departed (Asked rid p ∷ events) past r (suc i) q e h = all_departed events past r i q (departed_first (has_departed past rid) rid (first_not_departed (has_departed past) events) e).1 h
+all_departed (Asked rid p ∷ events) past r zero q e h =
+    subst (λ n. has_departed past n ≡ true) (same_asked rid r p q h)
+    (departed_first (has_departed past rid) rid (first_not_departed (has_departed past) events) e).0
+all_departed (Asked rid p ∷ events) past r (suc i) q e h =
+    all_departed events past r i q (departed_first (has_departed past rid) rid
+    (first_not_departed (has_departed past) events) e).1 h
 all_departed (Answered rid y ∷ events) past r zero q e h = absurd (asked_is_not rid r y q h)
 all_departed (Answered rid y ∷ events) past r (suc i) q e h = all_departed events past r i q e h
 
-pub none_left : (trace : List TraceEvent) (past : List Moment) → ((r i : ℕ) (q : Request) → nth trace i ≡ Some (Asked r q) → has_departed past r ≡ true) → first_not_departed (has_departed past) trace ≡ None
+pub none_left : (trace : List TraceEvent) (past : List Moment)
+    → ((r i : ℕ) (q : Request) → nth trace i ≡ Some (Asked r q) → has_departed past r ≡ true)
+    → first_not_departed (has_departed past) trace ≡ None
 none_left [] past h = refl
 none_left (Asked rid p ∷ events) past h =
     ap (λ b. cond b (first_not_departed (has_departed past) events) (Some (LeftOpen rid))) (h rid 0 p refl) ∙ none_left events past (λ r i q e. h r (suc i) q e)

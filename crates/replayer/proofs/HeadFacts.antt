@@ -5,8 +5,8 @@ use Rattle.basis.specs.Lists.{nth}
 use Rattle.basis.proofs.Options.{some_is, none_is_not}
 use Rattle.script_tree.specs.Requests.{Request}
 use Rattle.script_tree.specs.declared.request.Response.{Response}
-use Rattle.script_tree.specs.declared.trace.TraceEvent.{TraceEvent}
-use Rattle.script_tree.specs.declared.trace.TraceEvent.TheVariants.{Asked, Answered}
+use Rattle.period.specs.declared.trace.TraceEvent.{TraceEvent}
+use Rattle.period.specs.declared.trace.TraceEvent.TheVariants.{Asked, Answered}
 use Rattle.trace_format.specs.Heads.{head_of}
 use Rattle.trace_format.specs.declared.trace_file.EventHead.TheVariants.{Asks, Answers}
 use Rattle.replayer.specs.Differences.{left_open}
@@ -18,7 +18,8 @@ use Rattle.replayer.specs.declared.standing.Standing.{Standing}
 
 -- ---- responses that are waited for
 
-pub answers_waits : (trace : List TraceEvent) (ss : List Standing) (place : ℕ) (e : TraceEvent) (r : ℕ) (o : Option ℕ) (b : Bool) → slice_get trace place ≡ Some e → Answers r ≡ head_of e
+pub answers_waits : (trace : List TraceEvent) (ss : List Standing) (place : ℕ) (e : TraceEvent) (r : ℕ) (o : Option ℕ)
+    (b : Bool) → slice_get trace place ≡ Some e → Answers r ≡ head_of e
     → IsPartner trace place o → b ≡ is_departed (standing_at ss o) → not b ≡ waits (departed_in trace ss) e
 answers_waits trace ss place (Asked q p) r o b at is partner told = absurd cc
 answers_waits trace ss place (Answered q x) r o b at is partner told = ap not (told ∙ ap (λ p. is_departed (standing_at ss p)) (partner.request q x at))

@@ -7,15 +7,15 @@ use Rattle.script_tree.specs.Datum.{Datum}
 use Rattle.basis.specs.Lists.{nth}
 use Rattle.script_tree.specs.Objects.{Objects, plausible}
 use Rattle.script_tree.specs.Requests.{Request}
-use Rattle.script_tree.specs.Traces.{request_of, response_of, IsBalanced, Precedes}
+use Rattle.period.specs.Traces.{request_of, response_of, IsBalanced, Precedes}
 use Rattle.script_tree.specs.declared.operation.Choice.{Choice}
 use Rattle.script_tree.specs.declared.operation.Op.{Op}
 use Rattle.script_tree.specs.declared.path.Path.{Path}
 use Rattle.script_tree.specs.declared.request.Response.{Response}
-use Rattle.script_tree.specs.declared.schedule.Moment.{Moment}
-use Rattle.script_tree.specs.declared.schedule.Moment.TheVariants.{Arrive, Act, Depart}
+use Rattle.period.specs.declared.schedule.Moment.{Moment}
+use Rattle.period.specs.declared.schedule.Moment.TheVariants.{Arrive, Act, Depart}
 use Rattle.script_tree.specs.Programs.{Program}
-use Rattle.script_tree.specs.declared.trace.TraceEvent.{TraceEvent}
+use Rattle.period.specs.declared.trace.TraceEvent.{TraceEvent}
 use Rattle.script_meaning.specs.Conduct.{Ending, Wants, Ends, Undefined}
 use Rattle.script_meaning.specs.Explains.{rid_of, IsWhole, Explains}
 use Rattle.script_meaning.specs.Replay.{Scene, opening, ending_with, next_of, IsAllowed, IsAsTraced, after_act, after, Plays}
@@ -47,7 +47,8 @@ record Passes (program : Program) (trace : List TraceEvent) (past : List Moment)
   pub is_allowed : IsAllowed program trace scene m
   pub is_as_traced : IsAsTraced program trace scene m
 
-known_request : (o : Option Request) (fault : Option Reason) → cond (is_none o) (Some UnknownRequest) fault ≡ None → ((q : Request) × (o ≡ Some q)) × (fault ≡ None)
+known_request : (o : Option Request) (fault : Option Reason) → cond (is_none o) (Some UnknownRequest) fault ≡ None
+    → ((q : Request) × (o ≡ Some q)) × (fault ≡ None)
 known_request None fault e = absurd (none_is_not (sym e))
 known_request (Some q) fault e = ((q, refl), e)
 
@@ -61,7 +62,8 @@ holds : (b : Bool) (reason : Reason) → cond b None (Some reason) ≡ None → 
 holds true reason e = refl
 holds false reason e = absurd (none_is_not (sym e))
 
-act_none : (scene : Scene) (choice : Choice) (next : Option Ending) → act_fault scene choice next ≡ None → (op : Op) × (next ≡ Some (Wants op)) × (plausible op.act choice (scene.objects op.object) ≡ true)
+act_none : (scene : Scene) (choice : Choice) (next : Option Ending) → act_fault scene choice next ≡ None
+    → (op : Op) × (next ≡ Some (Wants op)) × (plausible op.act choice (scene.objects op.object) ≡ true)
 act_none scene choice None e = absurd (none_is_not (sym e))
 act_none scene choice (Some (Wants op)) e = (op, refl, holds (plausible op.act choice (scene.objects op.object)) BadChoice e)
 act_none scene choice (Some (Ends response path)) e = absurd (none_is_not (sym e))
@@ -78,14 +80,17 @@ same_response x (Some y) e = go (nat_eq x.status y.status) refl e
         λ i. Some (record { status = p i; body = q i })
     go false status h = absurd (true≢false (sym h))
 
-departure_none : (traced : Option Response) (next : Option Ending) → departure_fault traced next ≡ None → (response : Response) × (path : Path) × (next ≡ Some (Ends response path)) × (traced ≡ Some response)
+departure_none : (traced : Option Response) (next : Option Ending) → departure_fault traced next ≡ None
+    → (response : Response) × (path : Path) × (next ≡ Some (Ends response path)) × (traced ≡ Some response)
 departure_none traced None e = absurd (none_is_not (sym e))
 departure_none traced (Some (Wants op)) e = absurd (none_is_not (sym e))
-departure_none traced (Some (Ends response path)) e = (response, path, refl, same_response response traced (holds (is_same_response response traced) OtherResponse e))
+departure_none traced (Some (Ends response path)) e =
+    (response, path, refl, same_response response traced (holds (is_same_response response traced) OtherResponse e))
 departure_none traced (Some Undefined) e = absurd (none_is_not (sym e))
 
 -- what does something next is open
-is_open : (program : Program) (asked : Option Request) (answers : Option (List Datum)) (next : Ending) → ending_with program asked answers ≡ Some next → (ds : List Datum) × (answers ≡ Some ds)
+is_open : (program : Program) (asked : Option Request) (answers : Option (List Datum)) (next : Ending)
+    → ending_with program asked answers ≡ Some next → (ds : List Datum) × (answers ≡ Some ds)
 is_open program (Some q) (Some ds) next e = (ds, refl)
 is_open program (Some q) None next e = absurd (none_is_not e)
 is_open program None answers next e = absurd (none_is_not e)
@@ -95,7 +100,12 @@ same_end x y p q e = let same : Ends x p ≡ Ends y q = some_is e in cc
 
 more_open : (past : List Moment) (m : Moment) (r : ℕ) → (has_arrived past r ≡ true) × (has_departed past r ≡ false) → is_departure r m ≡ false
     → (has_arrived (past ++ m ∷ []) r ≡ true) × (has_departed (past ++ m ∷ []) r ≡ false)
-more_open past m r h n = (arrived_more past m r ∙ or_left (has_arrived past r) (is_arrival r m) h.0, departed_more past m r ∙ or_from (has_departed past r) (is_departure r m) h.1 n)
+more_open past m r h n = (
+  arrived_more past m r
+      ∙ or_left (has_arrived past r) (is_arrival r m) h.0,
+  departed_more past m r
+      ∙ or_from (has_departed past r) (is_departure r m) h.1 n,
+)
 
 module _ (program : Program) (trace : List TraceEvent) where
   passed : (past : List Moment) (scene : Scene) (m : Moment) → Known past scene → fault_of program trace past scene m ≡ None → Passes program trace past scene m
@@ -129,7 +139,9 @@ module _ (program : Program) (trace : List TraceEvent) where
   no_departure past (Act rid choice) r fits h = refl
   no_departure past (Depart rid) r fits h = ne_eqb r rid (λ e. true≢false (sym fits.0 ∙ subst (λ n. has_arrived past n ≡ false) e h))
 
-  still_open : (past : List Moment) (scene : Scene) (m : Moment) → Known past scene → Passes program trace past scene m → (r : ℕ) (answers : List Datum) → (after program trace scene m).answers r ≡ Some answers
+  still_open : (past : List Moment) (scene : Scene) (m : Moment) → Known past scene
+      → Passes program trace past scene m → (r : ℕ) (answers : List Datum)
+      → (after program trace scene m).answers r ≡ Some answers
       → (has_arrived (past ++ m ∷ []) r ≡ true) × (has_departed (past ++ m ∷ []) r ≡ false)
   still_open past scene (Arrive rid) known passes r answers h = elim (cases_eq rid r) [
     | inl e ↦ (
@@ -150,10 +162,12 @@ module _ (program : Program) (trace : List TraceEvent) where
       unchanged None n e = e
   still_open past scene (Depart rid) known passes r answers h = elim (cases_eq rid r) [
     | inl e ↦ absurd (none_is_not (sym (cond-true (nat_eq rid r) None (scene.answers r) (eq-eqb rid r e)) ∙ h))
-    | inr n ↦ more_open past (Depart rid) r (known.open_ones r answers (sym (cond-false (nat_eq rid r) None (scene.answers r) (ne_eqb rid r n)) ∙ h)) (ne_eqb r rid (λ e. n (sym e)))
+    | inr n ↦ more_open past (Depart rid) r (known.open_ones r answers
+        (sym (cond-false (nat_eq rid r) None (scene.answers r) (ne_eqb rid r n)) ∙ h)) (ne_eqb r rid (λ e. n (sym e)))
   ]
 
-  kept : (past : List Moment) (scene : Scene) (m : Moment) → Known past scene → Passes program trace past scene m → Known (past ++ m ∷ []) (after program trace scene m)
+  kept : (past : List Moment) (scene : Scene) (m : Moment) → Known past scene → Passes program trace past scene m
+      → Known (past ++ m ∷ []) (after program trace scene m)
   kept past scene m known passes = record {
     open_ones = still_open past scene m known passes;
     others = λ r h.
@@ -182,7 +196,8 @@ module _ (program : Program) (trace : List TraceEvent) where
       go None is h = (is, h)
       go (Some reason) is h = absurd (none_is_not (sym h))
 
-  sound_from : (past : List Moment) (scene : Scene) (ms : List Moment) → Known past scene → difference_from program trace past scene ms ≡ None → Sound past scene ms
+  sound_from : (past : List Moment) (scene : Scene) (ms : List Moment) → Known past scene
+      → difference_from program trace past scene ms ≡ None → Sound past scene ms
   unfolding difference_from
   sound_from past scene [] known e = record {
     asked = λ k m h. absurd (none_is_not h);
@@ -201,11 +216,13 @@ module _ (program : Program) (trace : List TraceEvent) where
         all_gone = subst (λ l. first_not_departed (has_departed l) trace ≡ None) (append_assoc past (m ∷ []) ms) rest.all_gone;
       }
     where
-      asked_of : Passes program trace past scene m → Sound (past ++ m ∷ []) (after program trace scene m) ms → (k : ℕ) (n : Moment) → nth (m ∷ ms) k ≡ Some n → (q : Request) × (request_of trace (rid_of n) ≡ Some q)
+      asked_of : Passes program trace past scene m → Sound (past ++ m ∷ []) (after program trace scene m) ms
+          → (k : ℕ) (n : Moment) → nth (m ∷ ms) k ≡ Some n → (q : Request) × (request_of trace (rid_of n) ≡ Some q)
       asked_of passes rest zero n h = subst (λ x. (q : Request) × (request_of trace (rid_of x) ≡ Some q)) (some_is h) passes.asked
       asked_of passes rest (suc k) n h = rest.asked k n h
 
-      fits_of : Passes program trace past scene m → Sound (past ++ m ∷ []) (after program trace scene m) ms → (k : ℕ) (n : Moment) → nth (m ∷ ms) k ≡ Some n → Fits trace (past ++ take k (m ∷ ms)) n
+      fits_of : Passes program trace past scene m → Sound (past ++ m ∷ []) (after program trace scene m) ms
+          → (k : ℕ) (n : Moment) → nth (m ∷ ms) k ≡ Some n → Fits trace (past ++ take k (m ∷ ms)) n
       fits_of passes rest zero n h = subst (λ l. Fits trace l n) (sym (append-nil past)) (subst (λ x. Fits trace past x) (some_is h) passes.fits)
       fits_of passes rest (suc k) n h = subst (λ l. Fits trace l n) (append_assoc past (m ∷ []) (take k ms)) (rest.fits k n h)
 
@@ -216,10 +233,14 @@ module _ (program : Program) (trace : List TraceEvent) where
       (fits : (k : ℕ) (m : Moment) → nth schedule k ≡ Some m → Fits trace (take k schedule) m)
       (all_gone : first_not_departed (has_departed schedule) trace ≡ None) where
     one_arrival : (r i j : ℕ) → nth schedule i ≡ Some (Arrive r) → nth schedule j ≡ Some (Arrive r) → i < j → ⊥
-    one_arrival r i j at_i at_j l = true≢false (sym (has_arrived-at (take j schedule) r i (nth_take schedule j i (Arrive r) l at_i)) ∙ (fits j (Arrive r) at_j).0)
+    one_arrival r i j at_i at_j l = true≢false
+        (sym (has_arrived-at (take j schedule) r i (nth_take schedule j i (Arrive r) l at_i))
+        ∙ (fits j (Arrive r) at_j).0)
 
     one_departure : (r i j : ℕ) → nth schedule i ≡ Some (Depart r) → nth schedule j ≡ Some (Depart r) → i < j → ⊥
-    one_departure r i j at_i at_j l = true≢false (sym (has_departed-at (take j schedule) r i (nth_take schedule j i (Depart r) l at_i)) ∙ (fits j (Depart r) at_j).1)
+    one_departure r i j at_i at_j l = true≢false
+        (sym (has_departed-at (take j schedule) r i (nth_take schedule j i (Depart r) l at_i))
+        ∙ (fits j (Depart r) at_j).1)
 
     same_arrival : (r i j : ℕ) → nth schedule i ≡ Some (Arrive r) → nth schedule j ≡ Some (Arrive r) → i ≡ j
     same_arrival r i j at_i at_j = elim (cases_order i j) [
@@ -252,7 +273,8 @@ module _ (program : Program) (trace : List TraceEvent) where
           acts_between = λ i choice at_i. between i choice at_i found.0 departs.0 arrives.1 departs.1;
         }
       where
-        between : (i : ℕ) (choice : Choice) → nth schedule i ≡ Some (Act r choice) → (a d : ℕ) → nth schedule a ≡ Some (Arrive r) → nth schedule d ≡ Some (Depart r) → (a < i) × (i < d)
+        between : (i : ℕ) (choice : Choice) → nth schedule i ≡ Some (Act r choice) → (a d : ℕ)
+            → nth schedule a ≡ Some (Arrive r) → nth schedule d ≡ Some (Depart r) → (a < i) × (i < d)
         between i choice at_i a d at_a at_d =
             let fit = fits i (Act r choice) at_i in
             let found = arrived_at (take i schedule) r fit.0 in
@@ -272,7 +294,8 @@ module _ (program : Program) (trace : List TraceEvent) where
     in_time : (a b i j : ℕ) → Precedes trace a b → nth schedule i ≡ Some (Depart a) → nth schedule j ≡ Some (Arrive b) → i < j
     in_time a b i j before at_i at_j =
         let gone : has_departed (take j schedule) a ≡ true =
-        departed_before trace (take j schedule) b before.left before.right a before.response before.request (fits j (Arrive b) at_j).1 before.answers before.asks before.in_order
+        departed_before trace (take j schedule) b before.left before.right a before.response before.request
+        (fits j (Arrive b) at_j).1 before.answers before.asks before.in_order
         (λ k p l h. let same : k ≡ before.right = balanced.asked_once b k before.right p before.request h before.asks in omega arith) in
         let found = departed_at (take j schedule) a gone in
         let departs = take_nth schedule j found.0 (Depart a) found.1 in
@@ -283,7 +306,8 @@ nobody : (r : ℕ) → has_departed [] r ≡ false
 unfolding has_departed
 nobody r = refl
 
-pub sound : (program : Program) (start : Objects) (trace : List TraceEvent) (schedule : List Moment) → IsBalanced trace → difference_of program start trace schedule ≡ None → Explains program start trace schedule
+pub sound : (program : Program) (start : Objects) (trace : List TraceEvent) (schedule : List Moment)
+    → IsBalanced trace → difference_of program start trace schedule ≡ None → Explains program start trace schedule
 sound program start trace schedule balanced e =
     let all = sound_from program trace [] (opening start) schedule (record { open_ones = λ r answers h. absurd (none_is_not h); others = λ r h. nobody r }) e in
     record {

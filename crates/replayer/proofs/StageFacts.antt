@@ -9,17 +9,17 @@ use Rattle.std.proofs.lemmas.Bool.{ltb-true, lt-ltb, cases_eq, eq-eqb, eqb-true}
 use Rattle.script_tree.specs.Datum.{Datum}
 use Rattle.script_tree.specs.Objects.{is_same, plausible, acted, holding}
 use Rattle.script_tree.specs.Requests.{Request}
-use Rattle.script_tree.specs.Traces.{request_of, response_of}
+use Rattle.period.specs.Traces.{request_of, response_of}
 use Rattle.script_tree.specs.declared.operation.Choice.{Choice}
 use Rattle.script_tree.specs.declared.operation.Object.{Object}
 use Rattle.script_tree.specs.declared.operation.Op.{Op}
 use Rattle.script_tree.specs.declared.path.Path.{Path}
 use Rattle.script_tree.specs.declared.request.Response.{Response}
-use Rattle.script_tree.specs.declared.schedule.Moment.{Moment}
-use Rattle.script_tree.specs.declared.schedule.Moment.TheVariants.{Arrive, Act, Depart}
+use Rattle.period.specs.declared.schedule.Moment.{Moment}
+use Rattle.period.specs.declared.schedule.Moment.TheVariants.{Arrive, Act, Depart}
 use Rattle.script_tree.specs.Programs.{Program}
-use Rattle.script_tree.specs.declared.trace.TraceEvent.{TraceEvent}
-use Rattle.script_tree.specs.declared.trace.TraceEvent.TheVariants.{Asked, Answered}
+use Rattle.period.specs.declared.trace.TraceEvent.{TraceEvent}
+use Rattle.period.specs.declared.trace.TraceEvent.TheVariants.{Asked, Answered}
 use Rattle.script_meaning.specs.Conduct.{Ending, Wants, Ends}
 use Rattle.script_asks.proofs.RunsFurther.{defined_first, defined_next}
 use Rattle.script_meaning.specs.Replay.{Scene, opening, with_request, after, after_act, and_answer, ending_of, ending_with, next_of}
@@ -69,18 +69,24 @@ departed_more past m r = any_more (is_departure r) past m
 pub same_waiting : (d e : ℕ → Bool) → ((x : ℕ) → d x ≡ e x) → (es : List TraceEvent) → first_waiting d es ≡ first_waiting e es
 same_waiting d e h [] = refl
 same_waiting d e h (Asked rid q ∷ es) = ap (λ n. suc n) (same_waiting d e h es)
-same_waiting d e h (Answered rid x ∷ es) = ap (λ b. cond (not b) 0 (suc (first_waiting d es))) (h rid) ∙ ap (λ n. cond (not (e rid)) 0 (suc n)) (same_waiting d e h es)
+same_waiting d e h (Answered rid x ∷ es) = ap (λ b. cond (not b) 0 (suc (first_waiting d es))) (h rid)
+    ∙ ap (λ n. cond (not (e rid)) 0 (suc n)) (same_waiting d e h es)
 
-later_step : (b c : Bool) → (b ≡ true → c ≡ true) → (n m k : ℕ) (rest all : ℕ → ℕ) → all 0 ≡ cond (not c) 0 (suc m) → ((i : ℕ) → all (suc i) ≡ rest i) → m ≡ n + rest n → cond (not c) 0 (suc m) ≡ cond (not b) 0 (suc n) + all (cond (not b) 0 (suc n))
+later_step : (b c : Bool) → (b ≡ true → c ≡ true) → (n m k : ℕ) (rest all : ℕ → ℕ) → all 0 ≡ cond (not c) 0 (suc m)
+    → ((i : ℕ) → all (suc i) ≡ rest i) → m ≡ n + rest n
+    → cond (not c) 0 (suc m) ≡ cond (not b) 0 (suc n) + all (cond (not b) 0 (suc n))
 later_step true true h n m k rest all z s e = omega (arith, s n, e)
 later_step true false h n m k rest all z s e = absurd (let f : false ≡ true = h refl in cc)
 later_step false c h n m k rest all z s e = omega (arith, z)
 
 -- where more have departed, the search may go on from where it was
-pub later_waiting : (d e : ℕ → Bool) → ((x : ℕ) → d x ≡ true → e x ≡ true) → (es : List TraceEvent) → first_waiting e es ≡ first_waiting d es + first_waiting e (drop (first_waiting d es) es)
+pub later_waiting : (d e : ℕ → Bool) → ((x : ℕ) → d x ≡ true → e x ≡ true) → (es : List TraceEvent)
+    → first_waiting e es ≡ first_waiting d es + first_waiting e (drop (first_waiting d es) es)
 later_waiting d e h [] = refl
 later_waiting d e h (Asked rid q ∷ es) = omega (arith, later_waiting d e h es)
-later_waiting d e h (Answered rid x ∷ es) = later_step (d rid) (e rid) (h rid) (first_waiting d es) (first_waiting e es) 0 (λ i. first_waiting e (drop i es)) (λ i. first_waiting e (drop i (Answered rid x ∷ es))) refl (λ i. refl) (later_waiting d e h es)
+later_waiting d e h (Answered rid x ∷ es) =
+    later_step (d rid) (e rid) (h rid) (first_waiting d es) (first_waiting e es) 0 (λ i. first_waiting e (drop i es))
+    (λ i. first_waiting e (drop i (Answered rid x ∷ es))) refl (λ i. refl) (later_waiting d e h es)
 
 -- ---- too early
 
@@ -101,27 +107,36 @@ one_on i w o n t h =
     let b : i + suc n ≡ suc i + n = omega arith in
     ap (λ k. nat_lt k (unwrap_or o (i + suc n))) a ∙ ap (λ k. nat_lt (suc i + w) (unwrap_or o k)) b ∙ h
 
-asked_on : (b : Bool) (i w : ℕ) (o : Option ℕ) (n : ℕ) (t : Bool) → nat_lt (suc i + w) (unwrap_or o (suc i + n)) ≡ t → nat_lt (i + suc w) (unwrap_or (cond b (Some i) o) (i + suc n)) ≡ cond b false t
+asked_on : (b : Bool) (i w : ℕ) (o : Option ℕ) (n : ℕ) (t : Bool) → nat_lt (suc i + w) (unwrap_or o (suc i + n)) ≡ t
+    → nat_lt (i + suc w) (unwrap_or (cond b (Some i) o) (i + suc n)) ≡ cond b false t
 asked_on true i w o n t h = not_below (i + suc w) i (omega arith)
 asked_on false i w o n t h = one_on i w o n t h
 
-answered_on : (d : Bool) (i w : ℕ) (o : Option ℕ) (n : ℕ) (t : Bool) → suc i ≤ unwrap_or o (suc i + n) → nat_lt (suc i + w) (unwrap_or o (suc i + n)) ≡ t → nat_lt (i + cond (not d) 0 (suc w)) (unwrap_or o (i + suc n)) ≡ (not d || t)
+answered_on : (d : Bool) (i w : ℕ) (o : Option ℕ) (n : ℕ) (t : Bool) → suc i ≤ unwrap_or o (suc i + n)
+    → nat_lt (suc i + w) (unwrap_or o (suc i + n)) ≡ t
+    → nat_lt (i + cond (not d) 0 (suc w)) (unwrap_or o (i + suc n)) ≡ (not d || t)
 answered_on true i w o n t within h = one_on i w o n t h
 answered_on false i w o n t within h =
     let b : i + suc n ≡ suc i + n = omega arith in
     let e : unwrap_or o (i + suc n) ≡ unwrap_or o (suc i + n) = ap (unwrap_or o) b in
     lt-ltb (i + 0) (unwrap_or o (i + suc n)) (omega arith)
 
-early : (past : List Moment) (r : ℕ) (d : ℕ → Bool) → ((x : ℕ) → has_departed past x ≡ d x) → (i : ℕ) (es : List TraceEvent) → nat_lt (i + first_waiting d es) (unwrap_or (first_place (is_request r) i es) (i + length es)) ≡ is_too_early es past r
+early : (past : List Moment) (r : ℕ) (d : ℕ → Bool) → ((x : ℕ) → has_departed past x ≡ d x)
+    → (i : ℕ) (es : List TraceEvent) → nat_lt (i + first_waiting d es)
+    (unwrap_or (first_place (is_request r) i es) (i + length es)) ≡ is_too_early es past r
 unfolding is_too_early
 early past r d h i [] = not_below (i + 0) (i + 0) (omega arith)
-early past r d h i (Asked rid q ∷ es) = asked_on (nat_eq r rid) i (first_waiting d es) (first_place (is_request r) (suc i) es) (length es) (is_too_early es past r) (early past r d h (suc i) es)
+early past r d h i (Asked rid q ∷ es) = asked_on (nat_eq r rid) i (first_waiting d es)
+    (first_place (is_request r) (suc i) es) (length es) (is_too_early es past r) (early past r d h (suc i) es)
 early past r d h i (Answered rid x ∷ es) =
-    answered_on (d rid) i (first_waiting d es) (first_place (is_request r) (suc i) es) (length es) (is_too_early es past r) (place_within (is_request r) (suc i) es) (early past r d h (suc i) es)
+    answered_on (d rid) i (first_waiting d es) (first_place (is_request r) (suc i) es) (length es)
+    (is_too_early es past r) (place_within (is_request r) (suc i) es) (early past r d h (suc i) es)
     ∙ ap (λ b. not b || is_too_early es past r) (sym (h rid))
 
 -- an arrival is too early exactly where a response that is waited for stands before it
-pub early_where : (past : List Moment) (r : ℕ) (d : ℕ → Bool) → ((x : ℕ) → has_departed past x ≡ d x) → (es : List TraceEvent) (w u : ℕ) → w ≡ first_waiting d es → u ≡ unwrap_or (first_place (is_request r) 0 es) (length es) → nat_lt w u ≡ is_too_early es past r
+pub early_where : (past : List Moment) (r : ℕ) (d : ℕ → Bool) → ((x : ℕ) → has_departed past x ≡ d x)
+    → (es : List TraceEvent) (w u : ℕ) → w ≡ first_waiting d es
+    → u ≡ unwrap_or (first_place (is_request r) 0 es) (length es) → nat_lt w u ≡ is_too_early es past r
 early_where past r d h es w u ew eu =
     let a : w ≡ 0 + first_waiting d es = omega (arith, ew) in
     let b : length es ≡ 0 + length es = omega arith in
@@ -135,17 +150,20 @@ stands_at [] place s inside is = absurd (omega arith)
 stands_at (t ∷ ss) zero s inside is = sym is
 stands_at (t ∷ ss) (suc place) s inside is = stands_at ss place s (omega arith) is
 
-pub stands_in : (trace : List TraceEvent) (ss : List Standing) (r place : ℕ) (s : Standing) → request_place trace r ≡ Some place → place < length ss → s ≡ get_or ss place s → standing_in trace ss r ≡ s
+pub stands_in : (trace : List TraceEvent) (ss : List Standing) (r place : ℕ) (s : Standing)
+    → request_place trace r ≡ Some place → place < length ss → s ≡ get_or ss place s → standing_in trace ss r ≡ s
 stands_in trace ss r place s here inside is = ap (standing_at ss) here ∙ stands_at ss place s inside is
 
 -- what stands at the place of a request is how it stands
-pub puts_at : (trace : List TraceEvent) (ss : List Standing) (r place : ℕ) (s : Standing) → request_place trace r ≡ Some place → place < length ss → Puts trace ss (set ss place s) r s
+pub puts_at : (trace : List TraceEvent) (ss : List Standing) (r place : ℕ) (s : Standing)
+    → request_place trace r ≡ Some place → place < length ss → Puts trace ss (set ss place s) r s
 puts_at trace ss r place s there inside = record {
   here = ap (standing_at (set ss place s)) there ∙ get_or-set_same ss place s Away inside;
   others = λ x ne. other x ne (request_place trace x) refl;
 }
   where
-    other : (x : ℕ) → x ≢ r → (o : Option ℕ) → request_place trace x ≡ o → standing_at (set ss place s) (request_place trace x) ≡ standing_at ss (request_place trace x)
+    other : (x : ℕ) → x ≢ r → (o : Option ℕ) → request_place trace x ≡ o
+        → standing_at (set ss place s) (request_place trace x) ≡ standing_at ss (request_place trace x)
     other x ne None e = ap (standing_at (set ss place s)) e ∙ sym (ap (standing_at ss) e)
     other x ne (Some p) e =
         let apart : p ≢ place = λ same. ne (request_place-once x r trace place (e ∙ ap Some same) there) in
@@ -160,9 +178,12 @@ with_here r a f x e = ap (λ b. cond b a (f x)) (tell r x e)
 with_apart : (r : ℕ) (a : Option (List Datum)) (f : ℕ → Option (List Datum)) (x : ℕ) → (x ≡ r → ⊥) → with_request r a f x ≡ f x
 with_apart r a f x ne = ap (λ b. cond b a (f x)) (tell_apart r x ne)
 
-shows_more : (trace : List TraceEvent) (past : List Moment) (scene : Scene) (k : Kept) → ShowsIn trace past scene k → (m : Moment) (scene' : Scene) (k' : Kept) (r : ℕ) (s : Standing)
-    → Puts trace k.standings k'.standings r s → ((o : Object) → scene'.objects o ≡ objects_of k'.objects o) → ((x : ℕ) → scene'.answers x ≡ with_request r (answers_in s) scene.answers x)
-    → (has_arrived past r || is_arrival r m) ≡ not (is_away s) → ((x : ℕ) → (x ≡ r → ⊥) → is_arrival x m ≡ false) → (has_departed past r || is_departure r m) ≡ is_departed s → ((x : ℕ) → (x ≡ r → ⊥) → is_departure x m ≡ false)
+shows_more : (trace : List TraceEvent) (past : List Moment) (scene : Scene) (k : Kept) → ShowsIn trace past scene k
+    → (m : Moment) (scene' : Scene) (k' : Kept) (r : ℕ) (s : Standing)
+    → Puts trace k.standings k'.standings r s → ((o : Object) → scene'.objects o ≡ objects_of k'.objects o)
+    → ((x : ℕ) → scene'.answers x ≡ with_request r (answers_in s) scene.answers x)
+    → (has_arrived past r || is_arrival r m) ≡ not (is_away s) → ((x : ℕ) → (x ≡ r → ⊥) → is_arrival x m ≡ false)
+    → (has_departed past r || is_departure r m) ≡ is_departed s → ((x : ℕ) → (x ≡ r → ⊥) → is_departure x m ≡ false)
     → k'.waiting ≡ first_waiting (departed_in trace k'.standings) trace → ShowsIn trace (past ++ m ∷ []) scene' k'
 shows_more trace past scene k h m scene' k' r s p objects answers arrives no_arrival departs no_departure waits = record {
   objects = objects;
@@ -172,16 +193,19 @@ shows_more trace past scene k h m scene' k' r s p objects answers arrives no_arr
   ];
   arrived = λ x. elim (cases_eq x r) [
     | inl e ↦ arrived_more past m x ∙ ap (λ y. has_arrived past y || is_arrival y m) e ∙ arrives ∙ sym (ap (λ y. not (is_away y)) (put_here p x e))
-    | inr ne ↦ arrived_more past m x ∙ ap (λ b. has_arrived past x || b) (no_arrival x ne) ∙ or-false (has_arrived past x) ∙ h.arrived x ∙ sym (ap (λ y. not (is_away y)) (p.others x ne))
+    | inr ne ↦ arrived_more past m x ∙ ap (λ b. has_arrived past x || b) (no_arrival x ne)
+        ∙ or-false (has_arrived past x) ∙ h.arrived x ∙ sym (ap (λ y. not (is_away y)) (p.others x ne))
   ];
   departed = λ x. elim (cases_eq x r) [
     | inl e ↦ departed_more past m x ∙ ap (λ y. has_departed past y || is_departure y m) e ∙ departs ∙ sym (ap is_departed (put_here p x e))
-    | inr ne ↦ departed_more past m x ∙ ap (λ b. has_departed past x || b) (no_departure x ne) ∙ or-false (has_departed past x) ∙ h.departed x ∙ sym (ap is_departed (p.others x ne))
+    | inr ne ↦ departed_more past m x ∙ ap (λ b. has_departed past x || b) (no_departure x ne)
+        ∙ or-false (has_departed past x) ∙ h.departed x ∙ sym (ap is_departed (p.others x ne))
   ];
   waits = waits;
 }
 
-same_departed : (trace : List TraceEvent) (m n : List Standing) (r : ℕ) (s : Standing) → Puts trace m n r s → is_departed (standing_in trace m r) ≡ is_departed s → (x : ℕ) → departed_in trace m x ≡ departed_in trace n x
+same_departed : (trace : List TraceEvent) (m n : List Standing) (r : ℕ) (s : Standing) → Puts trace m n r s
+    → is_departed (standing_in trace m r) ≡ is_departed s → (x : ℕ) → departed_in trace m x ≡ departed_in trace n x
 same_departed trace m n r s p h x = elim (cases_eq x r) [
   | inl e ↦ ap (λ y. is_departed (standing_in trace m y)) e ∙ h ∙ sym (ap is_departed (put_here p x e))
   | inr ne ↦ sym (ap is_departed (p.others x ne))
@@ -201,7 +225,8 @@ away_is Away h = refl
 away_is (Open o) h = cc
 away_is Departed h = cc
 
-pub shows_arrival : (program : Program) (trace : List TraceEvent) (past : List Moment) (scene : Scene) (k : Kept) (r : ℕ) (q : Request) (k' : Kept) → ShowsIn trace past scene k
+pub shows_arrival : (program : Program) (trace : List TraceEvent) (past : List Moment) (scene : Scene) (k : Kept)
+    (r : ℕ) (q : Request) (k' : Kept) → ShowsIn trace past scene k
     → standing_in trace k.standings r ≡ Away → Puts trace k.standings k'.standings r (Open (opened_with q [])) → k'.objects ≡ k.objects → k'.waiting ≡ k.waiting
     → ShowsIn trace (past ++ Arrive r ∷ []) (after program trace scene (Arrive r)) k'
 shows_arrival program trace past scene k r q k' h new p registers waiting =
@@ -213,7 +238,8 @@ shows_arrival program trace past scene k r q k' h new p registers waiting =
     (λ x ne. apart_arrival r x ne)
     (or-false (has_departed past r) ∙ h.departed r ∙ same)
     (λ x ne. refl)
-    (waiting ∙ h.waits ∙ same_waiting (departed_in trace k.standings) (departed_in trace k'.standings) (same_departed trace k.standings k'.standings r (Open (opened_with q [])) p same) trace)
+    (waiting ∙ h.waits ∙ same_waiting (departed_in trace k.standings) (departed_in trace k'.standings)
+    (same_departed trace k.standings k'.standings r (Open (opened_with q [])) p same) trace)
 
 -- ---- after an operation
 
@@ -222,7 +248,8 @@ open_is Away ds h = absurd (cc)
 open_is (Open o) ds h = let e : o.answers ≡ ds = cc in (o.request, ap (λ x. Open (opened_with o.request x)) e)
 open_is Departed ds h = absurd (cc)
 
-pub shows_act : (program : Program) (trace : List TraceEvent) (past : List Moment) (scene : Scene) (k : Kept) (r : ℕ) (choice : Choice) (op : Op) (o : Opened) (d : Datum) (k' : Kept) → ShowsIn trace past scene k
+pub shows_act : (program : Program) (trace : List TraceEvent) (past : List Moment) (scene : Scene) (k : Kept) (r : ℕ)
+    (choice : Choice) (op : Op) (o : Opened) (d : Datum) (k' : Kept) → ShowsIn trace past scene k
     → next_of program trace scene r ≡ Some (Wants op) → standing_in trace k.standings r ≡ Open o → Does op choice k.objects k'.objects d
     → Puts trace k.standings k'.standings r (Open (with_answer o d)) → k'.waiting ≡ k.waiting
     → ShowsIn trace (past ++ Act r choice ∷ []) (after program trace scene (Act r choice)) k'
@@ -233,16 +260,21 @@ shows_act program trace past scene k r choice op opened d k' h next at does p wa
     (λ o. ap (λ c. holding op.object (acted op.act choice c).0 scene.objects o) (h.objects op.object)
     ∙ ap (λ c. cond (is_same op.object o) (acted op.act choice (objects_of k.objects op.object)).0 c) (h.objects o)
     ∙ sym (does.left o))
-    (λ x. ap (λ a. with_request r a scene.answers x) (ap (λ c. and_answer (scene.answers r) (acted op.act choice c).1) (h.objects op.object) ∙ ap (λ a. and_answer a (acted op.act choice (objects_of k.objects op.object)).1) (h.answers r ∙ ap answers_in at) ∙ ap (λ y. Some (opened.answers ++ y ∷ [])) (sym does.answered)))
+    (λ x. ap (λ a. with_request r a scene.answers x)
+    (ap (λ c. and_answer (scene.answers r) (acted op.act choice c).1) (h.objects op.object)
+    ∙ ap (λ a. and_answer a (acted op.act choice (objects_of k.objects op.object)).1)
+    (h.answers r ∙ ap answers_in at) ∙ ap (λ y. Some (opened.answers ++ y ∷ [])) (sym does.answered)))
     (or-false (has_arrived past r) ∙ h.arrived r ∙ ap (λ s. not (is_away s)) at)
     (λ x ne. refl)
     (or-false (has_departed past r) ∙ h.departed r ∙ same)
     (λ x ne. refl)
-    (waiting ∙ h.waits ∙ same_waiting (departed_in trace k.standings) (departed_in trace k'.standings) (same_departed trace k.standings k'.standings r (Open (with_answer opened d)) p same) trace))
+    (waiting ∙ h.waits ∙ same_waiting (departed_in trace k.standings) (departed_in trace k'.standings)
+    (same_departed trace k.standings k'.standings r (Open (with_answer opened d)) p same) trace))
 
 -- ---- after a departure
 
-pub shows_departure : (program : Program) (trace : List TraceEvent) (past : List Moment) (scene : Scene) (k : Kept) (r : ℕ) (o : Opened) (k' : Kept) → ShowsIn trace past scene k
+pub shows_departure : (program : Program) (trace : List TraceEvent) (past : List Moment) (scene : Scene) (k : Kept)
+    (r : ℕ) (o : Opened) (k' : Kept) → ShowsIn trace past scene k
     → standing_in trace k.standings r ≡ Open o → Puts trace k.standings k'.standings r Departed → k'.objects ≡ k.objects
     → k'.waiting ≡ k.waiting + first_waiting (departed_in trace k'.standings) (drop k.waiting trace)
     → ShowsIn trace (past ++ Depart r ∷ []) (after program trace scene (Depart r)) k'
@@ -273,16 +305,19 @@ opened_more program trace m n r s h p here x o is = elim (cases_eq x r) [
 ]
 
 -- of an open request, what holds of the one that is put there
-one_opened : (program : Program) (trace : List TraceEvent) (r : ℕ) (put : Opened) → IsOpened program trace r put → (o : Opened) → Open put ≡ Open o → IsOpened program trace r o
+one_opened : (program : Program) (trace : List TraceEvent) (r : ℕ) (put : Opened) → IsOpened program trace r put
+    → (o : Opened) → Open put ≡ Open o → IsOpened program trace r o
 one_opened program trace r put h o is = let same : put ≡ o = cc in subst (λ x. IsOpened program trace r x) same h
 
 -- a run without answers goes on or ends
-pub begun_opened : (program : Program) (trace : List TraceEvent) (r : ℕ) (q : Request) → request_of trace r ≡ Some q → (o : Opened) → Open (opened_with q []) ≡ Open o → IsOpened program trace r o
+pub begun_opened : (program : Program) (trace : List TraceEvent) (r : ℕ) (q : Request) → request_of trace r ≡ Some q
+    → (o : Opened) → Open (opened_with q []) ≡ Open o → IsOpened program trace r o
 unfolding ending_of
 begun_opened program trace r q known = one_opened program trace r (opened_with q []) (record { traced = known; defined = defined_first program q })
 
 -- so does one with an answer to the operation that it wanted
-pub answered_opened : (program : Program) (trace : List TraceEvent) (r : ℕ) (asked : Opened) (d : Datum) (op : Op) → request_of trace r ≡ Some asked.request → ending_of program asked.request asked.answers ≡ Wants op
+pub answered_opened : (program : Program) (trace : List TraceEvent) (r : ℕ) (asked : Opened) (d : Datum) (op : Op)
+    → request_of trace r ≡ Some asked.request → ending_of program asked.request asked.answers ≡ Wants op
     → (o : Opened) → Open (with_answer asked d) ≡ Open o → IsOpened program trace r o
 unfolding ending_of
 answered_opened program trace r asked d op known wanted =
@@ -291,16 +326,24 @@ answered_opened program trace r asked d op known wanted =
 -- ---- what a request does next
 
 -- a request that does something is one of the trace, and open
-pub opened : (program : Program) (oq : Option Request) (oa : Option (List Datum)) (e : Ending) → ending_with program oq oa ≡ Some e → (q : Request) × (ds : List Datum) × (oq ≡ Some q) × (oa ≡ Some ds) × (ending_of program q ds ≡ e)
+pub opened : (program : Program) (oq : Option Request) (oa : Option (List Datum)) (e : Ending)
+    → ending_with program oq oa ≡ Some e → (q : Request) × (ds : List Datum) × (oq ≡ Some q) × (oa ≡ Some ds)
+    × (ending_of program q ds ≡ e)
 opened program (Some q) (Some ds) e h = (q, ds, refl, refl, (let k : ending_of program q ds ≡ e = cc in k))
 opened program (Some q) None e h = absurd (cc)
 opened program None oa e h = absurd (cc)
 
 -- an operation that is wanted, with a choice that it takes
-pub act_told : (program : Program) (trace : List TraceEvent) (scene : Scene) (r : ℕ) (choice : Choice) (op : Op) (b : Bool) → next_of program trace scene r ≡ Some (Wants op) → plausible op.act choice (scene.objects op.object) ≡ b → act_fault scene choice (next_of program trace scene r) ≡ cond b None (Some BadChoice)
+pub act_told : (program : Program) (trace : List TraceEvent) (scene : Scene) (r : ℕ) (choice : Choice) (op : Op)
+    (b : Bool) → next_of program trace scene r ≡ Some (Wants op)
+    → plausible op.act choice (scene.objects op.object) ≡ b
+    → act_fault scene choice (next_of program trace scene r) ≡ cond b None (Some BadChoice)
 act_told program trace scene r choice op b next p = ap (act_fault scene choice) next ∙ ap (λ x. cond x None (Some BadChoice)) p
 
-pub departure_told : (program : Program) (trace : List TraceEvent) (scene : Scene) (r : ℕ) (response : Response) (path : Path) (b : Bool) → next_of program trace scene r ≡ Some (Ends response path) → is_same_response response (response_of trace r) ≡ b → departure_fault (response_of trace r) (next_of program trace scene r) ≡ cond b None (Some OtherResponse)
+pub departure_told : (program : Program) (trace : List TraceEvent) (scene : Scene) (r : ℕ) (response : Response)
+    (path : Path) (b : Bool) → next_of program trace scene r ≡ Some (Ends response path)
+    → is_same_response response (response_of trace r) ≡ b
+    → departure_fault (response_of trace r) (next_of program trace scene r) ≡ cond b None (Some OtherResponse)
 departure_told program trace scene r response path b next p = ap (departure_fault (response_of trace r)) next ∙ ap (λ x. cond x None (Some OtherResponse)) p
 
 -- ---- before the first moment
@@ -312,7 +355,9 @@ away_all trace ss away r = at (request_place trace r)
     at None = refl
     at (Some p) = away p
 
-pub shows_opening : (trace : List TraceEvent) (k : Kept) → ((r : ℕ) → standing_in trace k.standings r ≡ Away) → k.waiting ≡ first_waiting (departed_in trace k.standings) trace → ShowsIn trace [] (opening (objects_of k.objects)) k
+pub shows_opening : (trace : List TraceEvent) (k : Kept) → ((r : ℕ) → standing_in trace k.standings r ≡ Away)
+    → k.waiting ≡ first_waiting (departed_in trace k.standings) trace
+    → ShowsIn trace [] (opening (objects_of k.objects)) k
 unfolding has_arrived has_departed
 shows_opening trace k away waits = record {
   objects = λ o. refl;
@@ -327,17 +372,21 @@ none_opened program trace ss away r o is = absurd (let n : Away ≡ Open o = sym
 
 -- ---- a moment of a request that is known, or not
 
-pub fault_where : (program : Program) (trace : List TraceEvent) (past : List Moment) (scene : Scene) (m : Moment) (b : Bool) → is_none (request_of trace (rid_of m)) ≡ b → fault_of program trace past scene m ≡ cond b (Some UnknownRequest) (moment_fault program trace past scene m)
+pub fault_where : (program : Program) (trace : List TraceEvent) (past : List Moment) (scene : Scene) (m : Moment)
+    (b : Bool) → is_none (request_of trace (rid_of m)) ≡ b
+    → fault_of program trace past scene m ≡ cond b (Some UnknownRequest) (moment_fault program trace past scene m)
 unfolding fault_of
 fault_where program trace past scene m b e = ap (λ x. cond x (Some UnknownRequest) (moment_fault program trace past scene m)) e
 
 -- a moment of a request that the trace lacks
-pub unknown_fault : (program : Program) (trace : List TraceEvent) (past : List Moment) (scene : Scene) (m : Moment) → request_place trace (rid_of m) ≡ None → fault_of program trace past scene m ≡ Some UnknownRequest
+pub unknown_fault : (program : Program) (trace : List TraceEvent) (past : List Moment) (scene : Scene) (m : Moment)
+    → request_place trace (rid_of m) ≡ None → fault_of program trace past scene m ≡ Some UnknownRequest
 unknown_fault program trace past scene m h = fault_where program trace past scene m true (ap is_none (request_absent (rid_of m) trace h))
 
 -- and of one that stands at a place
 pub known_step : (old new : Stage) (m : Moment) (place : ℕ) (reason : Option Reason) → request_place old.trace (rid_of m) ≡ Some place
-    → ((past : List Moment) (scene : Scene) → Shows past scene old → IsStep past scene m (moment_fault old.index.now old.trace past scene m) reason old new) → Steps m old new reason
+    → ((past : List Moment) (scene : Scene) → Shows past scene old
+    → IsStep past scene m (moment_fault old.index.now old.trace past scene m) reason old new) → Steps m old new reason
 known_step old new m place reason here step past scene h =
     let there = request_here (rid_of m) old.trace place here in
     let known : request_of old.trace (rid_of m) ≡ Some there.0 = sym (request_found (rid_of m) old.trace place here) ∙ ap (option_and_then the_request) there.1 in
@@ -346,28 +395,41 @@ known_step old new m place reason here step past scene h =
 
 -- ---- the first difference
 
-pub goes_on : (program : Program) (trace : List TraceEvent) (past : List Moment) (scene : Scene) (m : Moment) (ms : List Moment) → fault_of program trace past scene m ≡ None → difference_from program trace past scene (m ∷ ms) ≡ difference_from program trace (past ++ m ∷ []) (after program trace scene m) ms
+pub goes_on : (program : Program) (trace : List TraceEvent) (past : List Moment) (scene : Scene) (m : Moment)
+    (ms : List Moment) → fault_of program trace past scene m ≡ None
+    → difference_from program trace past scene (m ∷ ms)
+    ≡ difference_from program trace (past ++ m ∷ []) (after program trace scene m) ms
 unfolding difference_from
 goes_on program trace past scene m ms e = rw (e, difference_from) refl
 
-pub stops_here : (program : Program) (trace : List TraceEvent) (past : List Moment) (scene : Scene) (m : Moment) (ms : List Moment) (reason : Reason) → fault_of program trace past scene m ≡ Some reason → difference_from program trace past scene (m ∷ ms) ≡ Some (AtMoment reason (length past) (rid_of m))
+pub stops_here : (program : Program) (trace : List TraceEvent) (past : List Moment) (scene : Scene) (m : Moment)
+    (ms : List Moment) (reason : Reason) → fault_of program trace past scene m ≡ Some reason
+    → difference_from program trace past scene (m ∷ ms) ≡ Some (AtMoment reason (length past) (rid_of m))
 unfolding difference_from
 stops_here program trace past scene m ms reason e = rw (e, difference_from) refl
 
-left_over : (past : List Moment) (d : ℕ → Bool) → ((x : ℕ) → has_departed past x ≡ d x) → (es : List TraceEvent) → first_not_departed (has_departed past) es ≡ first_not_departed d es
+left_over : (past : List Moment) (d : ℕ → Bool) → ((x : ℕ) → has_departed past x ≡ d x) → (es : List TraceEvent)
+    → first_not_departed (has_departed past) es ≡ first_not_departed d es
 left_over past d h [] = refl
-left_over past d h (Asked rid q ∷ es) = ap (λ b. cond b (first_not_departed (has_departed past) es) (Some (LeftOpen rid))) (h rid) ∙ ap (λ o. cond (d rid) o (Some (LeftOpen rid))) (left_over past d h es)
+left_over past d h (Asked rid q ∷ es) = ap
+    (λ b. cond b (first_not_departed (has_departed past) es) (Some (LeftOpen rid))) (h rid)
+    ∙ ap (λ o. cond (d rid) o (Some (LeftOpen rid))) (left_over past d h es)
 left_over past d h (Answered rid x ∷ es) = left_over past d h es
 
-pub ends_here : (program : Program) (trace : List TraceEvent) (past : List Moment) (scene : Scene) (d : ℕ → Bool) → ((x : ℕ) → has_departed past x ≡ d x) → difference_from program trace past scene [] ≡ first_not_departed d trace
+pub ends_here : (program : Program) (trace : List TraceEvent) (past : List Moment) (scene : Scene) (d : ℕ → Bool)
+    → ((x : ℕ) → has_departed past x ≡ d x) → difference_from program trace past scene [] ≡ first_not_departed d trace
 unfolding difference_from
 ends_here program trace past scene d h = left_over past d h trace
 
 -- a moment that is one of the trace leaves what differs to those after it
-pub steps_on : (all : Option ReplayReason) (old new : Stage) (past : List Moment) (scene : Scene) (m : Moment) (ms : List Moment) → all ≡ difference_from old.index.now old.trace past scene (m ∷ ms)
-    → IsStageOf old.index.now old.trace new → fault_of old.index.now old.trace past scene m ≡ None → all ≡ difference_from new.index.now new.trace (past ++ m ∷ []) (after old.index.now old.trace scene m) ms
+pub steps_on : (all : Option ReplayReason) (old new : Stage) (past : List Moment) (scene : Scene) (m : Moment)
+    (ms : List Moment) → all ≡ difference_from old.index.now old.trace past scene (m ∷ ms)
+    → IsStageOf old.index.now old.trace new → fault_of old.index.now old.trace past scene m ≡ None
+    → all ≡ difference_from new.index.now new.trace (past ++ m ∷ []) (after old.index.now old.trace scene m) ms
 steps_on all old new past scene m ms e same f =
-    e ∙ goes_on old.index.now old.trace past scene m ms f ∙ sym (λ i. difference_from (same.program i) (same.trace i) (past ++ m ∷ []) (after old.index.now old.trace scene m) ms)
+    e ∙ goes_on old.index.now old.trace past scene m ms f
+    ∙ sym (λ i. difference_from (same.program i) (same.trace i) (past ++ m ∷ [])
+    (after old.index.now old.trace scene m) ms)
 
 -- what differs at all is what differs from the first stage on
 pub opens_with : (program : Program) (start : HeldObjects) (trace : List TraceEvent) (stage : Stage) (ms : List Moment) → Opens program start trace stage

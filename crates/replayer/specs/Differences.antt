@@ -3,14 +3,14 @@ use Rattle.std.specs.Prelude.{ℕ, Bool, false, ◌||◌, not, if◌then◌else�
 use Rattle.std.specs.List.{list_any}
 use Rattle.std.specs.Str.{bytes_eq}
 use Rattle.script_tree.specs.Objects.{Objects, plausible}
-use Rattle.script_tree.specs.Traces.{request_of, response_of}
+use Rattle.period.specs.Traces.{request_of, response_of}
 use Rattle.script_tree.specs.declared.operation.Choice.{Choice}
 use Rattle.script_tree.specs.declared.request.Response.{Response}
-use Rattle.script_tree.specs.declared.schedule.Moment.{Moment}
-use Rattle.script_tree.specs.declared.schedule.Moment.TheVariants.{Arrive, Act, Depart}
+use Rattle.period.specs.declared.schedule.Moment.{Moment}
+use Rattle.period.specs.declared.schedule.Moment.TheVariants.{Arrive, Act, Depart}
 use Rattle.script_tree.specs.Programs.{Program}
-use Rattle.script_tree.specs.declared.trace.TraceEvent.{TraceEvent}
-use Rattle.script_tree.specs.declared.trace.TraceEvent.TheVariants.{Asked, Answered}
+use Rattle.period.specs.declared.trace.TraceEvent.{TraceEvent}
+use Rattle.period.specs.declared.trace.TraceEvent.TheVariants.{Asked, Answered}
 use Rattle.script_meaning.specs.Conduct.{Ending, Wants, Ends, Undefined}
 use Rattle.script_meaning.specs.Explains.{rid_of}
 use Rattle.script_meaning.specs.Replay.{Scene, opening, next_of, after}
@@ -21,6 +21,7 @@ use Rattle.replayer.specs.declared.reason.ReplayReason.TheVariants.{Unreadable, 
 use Rattle.replayer.specs.declared.reason.Replayed.{Replayed}
 use Rattle.replayer.specs.declared.reason.Replayed.TheVariants.{Agrees, Differs}
 
+-- the number of the reason why a moment fails
 abbrev pub reason_number : Reason → ℕ
 reason_number UnknownRequest = 2
 reason_number SecondArrival = 3
@@ -31,6 +32,7 @@ reason_number BadChoice = 7
 reason_number WantsOperation = 8
 reason_number OtherResponse = 9
 
+-- the number of the reason that a replay tells
 abbrev pub replay_number : ReplayReason → ℕ
 replay_number (Unreadable at) = 1
 replay_number (AtMoment reason moment rid) = reason_number reason
@@ -38,19 +40,23 @@ replay_number (LeftOpen rid) = 10
 
 -- ---- what the moments so far tell of a request
 
+-- the moment is the arrival of this request
 abbrev pub is_arrival : ℕ → Moment → Bool
 is_arrival r (Arrive rid) = nat_eq r rid
 is_arrival r (Act rid choice) = false
 is_arrival r (Depart rid) = false
 
+-- the moment is the departure of this request
 abbrev pub is_departure : ℕ → Moment → Bool
 is_departure r (Arrive rid) = false
 is_departure r (Act rid choice) = false
 is_departure r (Depart rid) = nat_eq r rid
 
+-- the request has arrived in these moments
 unfoldable pub has_arrived : List Moment → ℕ → Bool
 has_arrived past r = list_any (is_arrival r) past
 
+-- the request has departed in these moments
 unfoldable pub has_departed : List Moment → ℕ → Bool
 has_departed past r = list_any (is_departure r) past
 
@@ -60,12 +66,14 @@ is_too_early [] past r = false
 is_too_early (Asked rid q ∷ events) past r = if nat_eq r rid then false else is_too_early events past r
 is_too_early (Answered rid x ∷ events) past r = not (has_departed past rid) || is_too_early events past r
 
+-- the response is the one in the trace, if there is one: the same status and the same body
 abbrev pub is_same_response : Response → Option Response → Bool
 is_same_response x None = false
 is_same_response x (Some y) = if nat_eq x.status y.status then bytes_eq x.body y.body else false
 
 -- ---- why a moment fails in a scene, after the moments so far: nothing, where it is one of the trace
 
+-- why a request may not arrive: it has arrived before, or it is too early
 abbrev pub arrival_fault : List TraceEvent → List Moment → ℕ → Option Reason
 arrival_fault trace past r = if has_arrived past r then Some SecondArrival else (if is_too_early trace past r then Some TooEarly else None)
 
@@ -83,6 +91,7 @@ departure_fault traced (Some (Ends response path)) = if is_same_response respons
 departure_fault traced (Some (Wants op)) = Some WantsOperation
 departure_fault traced (Some Undefined) = Some WantsOperation
 
+-- why a moment of a request of the trace fails
 abbrev pub moment_fault : Program → List TraceEvent → List Moment → Scene → Moment → Option Reason
 moment_fault program trace past scene (Arrive r) = arrival_fault trace past r
 moment_fault program trace past scene (Act r choice) = act_fault scene choice (next_of program trace scene r)
@@ -118,6 +127,7 @@ difference_from program trace past scene (m ∷ ms) = elim (fault_of program tra
 abbrev pub difference_of : Program → Objects → List TraceEvent → List Moment → Option ReplayReason
 difference_of program start trace schedule = difference_from program trace [] (opening start) schedule
 
+-- what a replay finds, by where the schedule first differs
 abbrev pub verdict : Option ReplayReason → Replayed
 verdict None = Agrees
 verdict (Some reason) = Differs reason

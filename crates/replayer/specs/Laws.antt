@@ -3,10 +3,10 @@ use Rattle.std.specs.Result.{result_map_both}
 use Rattle.std.specs.Borrow.{Bor}
 use Rattle.std.specs.Prelude.{◌≡◌, ◌↔◌, ℕ, List, Option, None, Result, Ok, Err}
 use Rattle.script_tree.specs.Objects.{Objects}
-use Rattle.script_tree.specs.Traces.{IsBalanced}
-use Rattle.script_tree.specs.declared.schedule.Moment.{Moment}
+use Rattle.period.specs.Traces.{IsBalanced}
+use Rattle.period.specs.declared.schedule.Moment.{Moment}
 use Rattle.script_tree.specs.Programs.{Program}
-use Rattle.script_tree.specs.declared.trace.TraceEvent.{TraceEvent}
+use Rattle.period.specs.declared.trace.TraceEvent.{TraceEvent}
 use Rattle.script_meaning.specs.Explains.{Explains}
 use Rattle.object_set.specs.ObjectSets.{HeldObjects, objects_of}
 use Rattle.replayer.specs.Differences.{difference_of, replayed}

@@ -11,11 +11,15 @@ pub record Opened : Type 0 where
   pub request : Request
   pub answers : List Datum
 
+-- the open request with these answers so far
 abbrev pub opened_with : Request → List Datum → Opened
 opened_with q ds = record { request = q; answers = ds }
 
+-- the open request with one answer more
 abbrev pub with_answer : Opened → Datum → Opened
 with_answer o d = opened_with o.request (o.answers ++ d ∷ [])
 
+-- how a proof stores it
 abbrev pub coded_opened : Coded Opened
-coded_opened = code_by (Request × List Datum) (coded× request_type.the_row.coded coded_data) (λ o. (o.request, o.answers)) (λ p. opened_with p.0 p.1) (λ _. refl)
+coded_opened = code_by (Request × List Datum) (coded× request_type.the_row.coded coded_data)
+    (λ o. (o.request, o.answers)) (λ p. opened_with p.0 p.1) (λ _. refl)

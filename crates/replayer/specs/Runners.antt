@@ -10,6 +10,7 @@ abbrev pub IsNext : Next → Ending → Type 0
 IsNext (code.Wants op) ending = ending ≡ Wants op
 IsNext (code.Ends response) ending = (path : Path) × (ending ≡ Ends response path)
 
+-- the same, from the ending to how it is given
 abbrev pub IsGivenAs : Ending → Next → Type 0
 IsGivenAs ending next = IsNext next ending
 

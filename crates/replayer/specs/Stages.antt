@@ -1,10 +1,10 @@
 -- What is kept between two moments of a schedule, and what it shows of them.
 use Rattle.std.specs.Prelude.{◌≡◌, ℕ, List, [], ◌∷◌, ◌++◌, Bool, not, Option, Some, None}
 use Rattle.script_tree.specs.Programs.{Program}
-use Rattle.script_tree.specs.Traces.{request_of}
+use Rattle.period.specs.Traces.{request_of}
 use Rattle.script_tree.specs.declared.operation.Object.{Object}
-use Rattle.script_tree.specs.declared.schedule.Moment.{Moment}
-use Rattle.script_tree.specs.declared.trace.TraceEvent.{TraceEvent}
+use Rattle.period.specs.declared.schedule.Moment.{Moment}
+use Rattle.period.specs.declared.trace.TraceEvent.{TraceEvent}
 use Rattle.script_meaning.specs.Replay.{Scene, opening, after, ending_with}
 use Rattle.replayer.specs.Differences.{has_arrived, has_departed, moment_fault, fault_of}
 use Rattle.script_fit.specs.FitsOperation.{FitsOperation}
@@ -32,6 +32,7 @@ pub record Kept : Type 0 where
   pub standings : List Standing
   pub waiting : ℕ
 
+-- what the stage keeps
 abbrev pub kept_of : Stage → Kept
 kept_of stage = record { objects = stage.objects; standings = stage.standings.items; waiting = stage.waiting }
 
@@ -44,6 +45,7 @@ pub record ShowsIn (trace : List TraceEvent) (past : List Moment) (scene : Scene
   pub departed : (r : ℕ) → has_departed past r ≡ departed_in trace kept.standings r
   pub waits : kept.waiting ≡ first_waiting (departed_in trace kept.standings) trace
 
+-- the stage keeps what the scene after these moments has
 abbrev pub Shows : List Moment → Scene → Stage → Type 0
 Shows past scene stage = ShowsIn stage.trace past scene (kept_of stage)
 

@@ -2,9 +2,9 @@
 use Rattle.std.specs.Prelude.{◌≡◌, ◌≢◌, ℕ, suc, ◌+◌, Bool, true, false, not, if◌then◌else◌, List, [], ◌∷◌, drop, Option, Some, None, slice_get, slice_set, slice_index_or}
 use Rattle.script_tree.specs.Datum.{Datum}
 use Rattle.script_tree.specs.Programs.{Program}
-use Rattle.script_tree.specs.Traces.{request_of}
-use Rattle.script_tree.specs.declared.trace.TraceEvent.{TraceEvent}
-use Rattle.script_tree.specs.declared.trace.TraceEvent.TheVariants.{Asked, Answered}
+use Rattle.period.specs.Traces.{request_of}
+use Rattle.period.specs.declared.trace.TraceEvent.{TraceEvent}
+use Rattle.period.specs.declared.trace.TraceEvent.TheVariants.{Asked, Answered}
 use Rattle.script_meaning.specs.Conduct.{Undefined}
 use Rattle.script_meaning.specs.Replay.{ending_of}
 use Rattle.trace_format.specs.Heads.{head_of}
@@ -16,6 +16,7 @@ use Rattle.replayer.specs.declared.reason.ReplayReason.{ReplayReason}
 use Rattle.replayer.specs.declared.standing.Standing.{Standing}
 use Rattle.replayer.specs.declared.standing.Standing.TheVariants.{Away, Open, Departed}
 
+-- how the request at a place stands, where it has one; one without a place is away
 abbrev pub standing_at : List Standing → Option ℕ → Standing
 standing_at ss None = Away
 standing_at ss (Some place) = slice_index_or ss place Away
@@ -24,21 +25,25 @@ standing_at ss (Some place) = slice_index_or ss place Away
 abbrev pub standing_in : List TraceEvent → List Standing → ℕ → Standing
 standing_in trace ss r = standing_at ss (request_place trace r)
 
+-- the answers so far of an open request
 abbrev pub answers_in : Standing → Option (List Datum)
 answers_in Away = None
 answers_in (Open o) = Some o.answers
 answers_in Departed = None
 
+-- the request has not arrived
 abbrev pub is_away : Standing → Bool
 is_away Away = true
 is_away (Open o) = false
 is_away Departed = false
 
+-- the request has departed
 abbrev pub is_departed : Standing → Bool
 is_departed Away = false
 is_departed (Open o) = false
 is_departed Departed = true
 
+-- the request of an id has departed
 abbrev pub departed_in : List TraceEvent → List Standing → ℕ → Bool
 departed_in trace ss r = is_departed (standing_in trace ss r)
 
@@ -83,5 +88,6 @@ pub record IsOpened (program : Program) (trace : List TraceEvent) (r : ℕ) (o :
   pub traced : request_of trace r ≡ Some o.request
   pub defined : ending_of program o.request o.answers ≢ Undefined
 
+-- each request that stands open is so
 abbrev pub AreOpened : Program → List TraceEvent → List Standing → Type 0
 AreOpened program trace ss = (r : ℕ) (o : Opened) → standing_in trace ss r ≡ Open o → IsOpened program trace r o

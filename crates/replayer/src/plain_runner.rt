@@ -1,6 +1,6 @@
 use crate::runner::{Next, Runner};
 use page_walker::{Walker, WalkerStep};
-use script_index::Index;
+use script_check::lookup::Index;
 use script_tree::request::Request;
 use script_tree::value::Value;
 use std::alloc::{AllocError, Global};

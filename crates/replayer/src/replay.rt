@@ -1,5 +1,5 @@
 ghost use Rattle.std.specs.Prelude.{IfOk};
-ghost use Rattle.script_tree.specs.Traces.{IsBalanced};
+ghost use Rattle.period.specs.Traces.{IsBalanced};
 ghost use Rattle.object_set.specs.ObjectSets.{IsSetOf};
 ghost use Rattle.replayer.specs.Laws.{IsDifference, IsFinding, AgreesWhereExplained, schedule_read};
 
@@ -10,8 +10,8 @@ use crate::runner::Runner;
 use crate::stage::{Stage, rid_of};
 use object_set::ObjectSet;
 use schedule_format::schedule_file::ScheduleFile;
+use script_check::lookup::Index;
 use script_check::program::Program;
-use script_index::Index;
 use std::alloc::{AllocError, Global};
 use trace_format::trace_file::TraceFile;
 use trace_index::IndexedTrace;

@@ -3,7 +3,7 @@ ghost use Rattle.script_meaning.specs.Conduct.{Undefined};
 ghost use Rattle.script_meaning.specs.Replay.{ending_of};
 ghost use Rattle.replayer.specs.Runners.{IsGivenAs};
 
-use script_index::Index;
+use script_check::lookup::Index;
 use script_tree::operation::Op;
 use script_tree::request::{Request, Response};
 use script_tree::value::Value;

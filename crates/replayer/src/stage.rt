@@ -11,10 +11,10 @@ use crate::runner::{Next, Runner};
 use crate::standing::{Standing, all_away, first_not_departed, first_waiting, put_answer};
 use basis::OrMemory;
 use object_set::{ObjectSet, Refused};
-use script_index::Index;
+use period::schedule::Moment;
+use script_check::lookup::Index;
 use script_tree::operation::Choice;
 use script_tree::request::Response;
-use script_tree::schedule::Moment;
 use std::alloc::{AllocError, Global};
 use trace_index::IndexedTrace;
 
@@ -28,7 +28,7 @@ pub struct Stage<'a, 'p> {
     standings: Vec<Standing>,
     /// The place in the trace of the first response whose request has not departed.
     waiting: usize,
-    ghost valid: { IsValid index.now.declarations },
+    ghost valid: { IsValid index.now },
     ghost set: { IsSetOf index.now objects },
     ghost sized: { vec_len standings ≡ length trace },
     ghost opened: { AreOpened index.now trace standings.items },
@@ -36,7 +36,7 @@ pub struct Stage<'a, 'p> {
 
 impl<'a, 'p> Stage<'a, 'p> {
     ghost use Rattle.std.specs.Prelude.{◌≡◌, IfOk};
-    ghost use Rattle.script_tree.specs.declared.schedule.Moment.TheVariants.{Arrive, Act, Depart};
+    ghost use Rattle.period.specs.declared.schedule.Moment.TheVariants.{Arrive, Act, Depart};
     ghost use Rattle.replayer.specs.Differences.{first_not_departed};
     ghost use Rattle.trace_index.specs.Places.{IsRequestPlace};
     ghost use Rattle.replayer.specs.Stages.{Opens, IsStageOf, Steps, StepsAt, NextAt, WantsWhatFits, departed_of};

@@ -19,10 +19,15 @@ no_tag bytes at none (Roll n) next p = none 8 (at + 1) (omega arith, first_part 
 -- behind the tag of a put a key or a value is missed
 pub no_put : (bytes : List ℕ) (at t mid : ℕ) → IsFieldAt byte_field bytes at t mid → t ≡ 4 → NoneIsAt put_field bytes mid → NoneIsAt act_field bytes at
 no_put bytes at t mid here is none Read next p = absurd (omega (arith, is, (behind bytes at t mid 1 [] next here (omega arith) p.1).0))
-no_put bytes at t mid here is none (Write d) next p = absurd (omega (arith, is, (behind bytes at t mid 2 (value_field.spelling d) next here (omega arith) p.1).0))
+no_put bytes at t mid here is none (Write d) next p =
+    absurd (omega (arith, is, (behind bytes at t mid 2 (value_field.spelling d) next here (omega arith) p.1).0))
 no_put bytes at t mid here is none (Get x) next p = absurd (omega (arith, is, (behind bytes at t mid 3 (bytes_field.spelling x) next here (omega arith) p.1).0))
-no_put bytes at t mid here is none (Put x d) next p = none (x, d) next (p.0, (behind bytes at t mid 4 (put_field.spelling (x, d)) next here (omega arith) p.1).1)
-no_put bytes at t mid here is none (Remove x) next p = absurd (omega (arith, is, (behind bytes at t mid 5 (bytes_field.spelling x) next here (omega arith) p.1).0))
-no_put bytes at t mid here is none (Transact ss) next p = absurd (omega (arith, is, (behind bytes at t mid 6 (statements_field.spelling ss) next here (omega arith) p.1).0))
+no_put bytes at t mid here is none (Put x d) next p =
+    none (x, d) next (p.0, (behind bytes at t mid 4 (put_field.spelling (x, d)) next here (omega arith) p.1).1)
+no_put bytes at t mid here is none (Remove x) next p =
+    absurd (omega (arith, is, (behind bytes at t mid 5 (bytes_field.spelling x) next here (omega arith) p.1).0))
+no_put bytes at t mid here is none (Transact ss) next p =
+    absurd (omega (arith, is, (behind bytes at t mid 6 (statements_field.spelling ss) next here (omega arith) p.1).0))
 no_put bytes at t mid here is none Now next p = absurd (omega (arith, is, (behind bytes at t mid 7 [] next here (omega arith) p.1).0))
-no_put bytes at t mid here is none (Roll n) next p = absurd (omega (arith, is, (behind bytes at t mid 8 (integer_field.spelling n) next here (omega arith) p.1).0))
+no_put bytes at t mid here is none (Roll n) next p =
+    absurd (omega (arith, is, (behind bytes at t mid 8 (integer_field.spelling n) next here (omega arith) p.1).0))

@@ -27,13 +27,20 @@ pub report_is_exact : IsExact report_format
 report_is_exact = file_is_exact report_format (one_payload report_format one_behind)
 
 -- The fault of a record is one of the payload.
-pub no_record : (before : List ReportRecord) (payload : List ℕ) (fault : OrMemory Unreadable) (r : Result ReportRecord (OrMemory Unreadable)) → TakesPart {A = ReportRecord} {X = ReportRecord} (λ x. x) any_record_field payload 0 (Err fault) → IsErrAnd r (λ e. e ≡ fault) → TakesPayload report_format before payload r
+pub no_record : (before : List ReportRecord) (payload : List ℕ) (fault : OrMemory Unreadable)
+    (r : Result ReportRecord (OrMemory Unreadable))
+    → TakesPart {A = ReportRecord} {X = ReportRecord} (λ x. x) any_record_field payload 0 (Err fault)
+    → IsErrAnd r (λ e. e ≡ fault) → TakesPayload report_format before payload r
 no_record before payload fault r missed is = no_payload report_format before payload fault r (go fault missed) is
   where
-    go : (f : OrMemory Unreadable) → TakesPart {A = ReportRecord} {X = ReportRecord} (λ x. x) any_record_field payload 0 (Err f) → TakesPart {A = ReportRecord} {X = ReportRecord} (λ x. x) (payload_field report_format before) payload 0 (Err f)
+    go : (f : OrMemory Unreadable) → TakesPart {A = ReportRecord} {X = ReportRecord}
+        (λ x. x) any_record_field payload 0 (Err f)
+        → TakesPart {A = ReportRecord} {X = ReportRecord} (λ x. x) (payload_field report_format before) payload 0
+        (Err f)
     go Memory m = tt
     go (Other e) m = λ x next p. m x next (p.0.0, p.1)
 
 -- where a record ends before the payload does, nothing is the whole payload
-pub not_whole_record : (before : List ReportRecord) (payload : List ℕ) (x : ReportRecord) (next : ℕ) → IsFieldAt any_record_field payload 0 x next → next ≢ length payload → SpellsNone report_format before payload
+pub not_whole_record : (before : List ReportRecord) (payload : List ℕ) (x : ReportRecord) (next : ℕ)
+    → IsFieldAt any_record_field payload 0 x next → next ≢ length payload → SpellsNone report_format before payload
 not_whole_record before payload x next here more y p = not_whole any_record_field record_one payload x next here more y (p.0.0, p.1)

@@ -16,7 +16,11 @@ no_tag bytes at none (Expect n u ts) next p = none 5 (at + 1) (omega arith, firs
 -- nothing of the kind that belongs to the tag
 abbrev pub NoneBehind : List ℕ → ℕ → ℕ → Type 0
 NoneBehind bytes mid t =
-    MatchBool (t == 1) (NoneIsAt insert_field bytes mid) (MatchBool (t == 2) (NoneIsAt select_field bytes mid) (MatchBool (t == 3) (NoneIsAt update_field bytes mid) (MatchBool (t == 4) (NoneIsAt delete_field bytes mid) (MatchBool (t == 5) (NoneIsAt expect_field bytes mid) (Unit {0})))))
+    MatchBool (t == 1) (NoneIsAt insert_field bytes mid)
+    (MatchBool (t == 2) (NoneIsAt select_field bytes mid)
+    (MatchBool (t == 3) (NoneIsAt update_field bytes mid)
+    (MatchBool (t == 4) (NoneIsAt delete_field bytes mid)
+    (MatchBool (t == 5) (NoneIsAt expect_field bytes mid) (Unit {0})))))
 
 pub no_statement : (bytes : List ℕ) (at t mid k : ℕ) → IsFieldAt byte_field bytes at t mid → t ≡ k → NoneBehind bytes mid k → NoneIsAt statement_field bytes at
 no_statement bytes at t mid k here is none (Insert u row) next p =

@@ -5,7 +5,8 @@ use Rattle.wire.proofs.OneSpelling.{byte_one}
 use Rattle.wire.proofs.Spelled.{first_part, second_part, same_field}
 
 -- The tag is the byte that was read, and the rest stands behind it.
-pub behind : (bytes : List ℕ) (at t mid tag : ℕ) (rest : List ℕ) (next : ℕ) → IsFieldAt byte_field bytes at t mid → tag < 256 → IsSpelled bytes at (tag ∷ rest) next → (t ≡ tag) × IsSpelled bytes mid rest next
+pub behind : (bytes : List ℕ) (at t mid tag : ℕ) (rest : List ℕ) (next : ℕ) → IsFieldAt byte_field bytes at t mid
+    → tag < 256 → IsSpelled bytes at (tag ∷ rest) next → (t ≡ tag) × IsSpelled bytes mid rest next
 behind bytes at t mid tag rest next here small p =
     let same = same_field byte_field byte_one bytes at t tag mid (at + 1) here (small, first_part bytes (tag ∷ []) rest at next p) in
     let Behind : ℕ → Type 0 = λ n. IsSpelled bytes n rest next in

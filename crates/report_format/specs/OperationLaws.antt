@@ -13,6 +13,7 @@ use Rattle.report_format.specs.RowLaws.{list_one}
 use Rattle.report_format.specs.SimpleLaws.{rest_is}
 use Rattle.report_format.specs.TransactionLaws.{statement_one}
 
+-- No two objects are spelled alike.
 pub object_one : HasOneSpelling object_field
 object_one (Register n) (Register n') r s p q e =
     let same = bytes_one n n' r s p q (rest_is 1 1 (bytes_field.spelling n ++ r) (bytes_field.spelling n' ++ s) e) in
@@ -46,12 +47,15 @@ object_one Dice Dice r s p q e = (refl, rest_is 5 5 r s e)
 
 -- ---- acts
 
+-- No two pairs of a key and a value are spelled alike.
 put_one : HasOneSpelling put_field
 put_one = both_one bytes_field value_field bytes_one value_one
 
+-- No two lists of statements are spelled alike.
 statements_one : HasOneSpelling statements_field
 statements_one = list_one statement_field statement_one
 
+-- No two acts are spelled alike.
 pub act_one : HasOneSpelling act_field
 act_one Read Read r s p q e = (refl, rest_is 1 1 r s e)
 act_one Read (Write d') r s p q e = absurd (cc)

@@ -15,10 +15,12 @@ seen_as view field = record {
   spelling = λ b. field.spelling (view b);
 }
 
+-- things of one kind, one behind the other
 abbrev pub all_spelled : {A : Type 0} → Field A → List A → List ℕ
 all_spelled field [] = []
 all_spelled field (x ∷ xs) = field.spelling x ++ all_spelled field xs
 
+-- Each of them may stand.
 abbrev pub AllAllowed : {A : Type 0} → Field A → List A → Type 0
 AllAllowed field [] = Unit {0}
 AllAllowed field (x ∷ xs) = field.allows x × AllAllowed field xs

@@ -5,9 +5,9 @@ use Rattle.script_tree.specs.declared.operation.Choice.{Choice}
 use Rattle.script_tree.specs.declared.operation.Object.{Object}
 use Rattle.wire.specs.Spellings.{HasOneSpelling, choice_field}
 use Rattle.wire.proofs.OneSpelling.{choice_one}
-use Rattle.report.specs.declared.Count.{Count}
-use Rattle.report.specs.declared.Log.{Log}
-use Rattle.report.specs.declared.LogEntry.{LogEntry}
+use Rattle.period.specs.declared.report.Count.{Count}
+use Rattle.period.specs.declared.report.Log.{Log}
+use Rattle.period.specs.declared.report.LogEntry.{LogEntry}
 use Rattle.report_format.specs.Parts.{both, list_field}
 use Rattle.report_format.specs.Operations.{u32_field, act_field, object_field}
 use Rattle.report_format.specs.Reports.{count_field, entry_field, log_field, group_field, any_record_field}
@@ -17,11 +17,13 @@ use Rattle.report_format.specs.SimpleLaws.{u32_one, rest_is}
 use Rattle.report_format.specs.OperationLaws.{act_one, object_one}
 use Rattle.report_format.specs.declared.format.ReportRecord.TheVariants as it
 
+-- No two counts are spelled alike.
 pub count_one : HasOneSpelling count_field
 count_one x y r s p q e =
     let same = both_one u32_field u32_field u32_one u32_one (x.rid, x.operations) (y.rid, y.operations) r s p q e in
     (ap (λ (z : ℕ × ℕ). record { rid = z.0; operations = z.1 }) same.0, same.1)
 
+-- No two entries are spelled alike.
 pub entry_one : HasOneSpelling entry_field
 entry_one x y r s p q e =
     let ends = both_one act_field choice_field act_one choice_one in
@@ -29,14 +31,17 @@ entry_one x y r s p q e =
     let same = parts (x.rid, (x.number, (x.act, x.choice))) (y.rid, (y.number, (y.act, y.choice))) r s p q e in
     (ap (λ (z : ℕ × (ℕ × (Act × Choice))). record { rid = z.0; number = z.1.0; act = z.1.1.0; choice = z.1.1.1 }) same.0, same.1)
 
+-- No two logs are spelled alike.
 pub log_one : HasOneSpelling log_field
 log_one x y r s p q e =
     let same = both_one object_field (list_field entry_field) object_one (list_one entry_field entry_one) (x.object, x.entries) (y.object, y.entries) r s p q e in
     (ap (λ (z : Object × List LogEntry). record { object = z.0; entries = z.1 }) same.0, same.1)
 
+-- No two groups are spelled alike.
 pub group_one : HasOneSpelling group_field
 group_one x y r s p q e = list_one u32_field u32_one x y r s p.1 q.1 e
 
+-- No two records are spelled alike.
 pub record_one : HasOneSpelling any_record_field
 record_one (it.Count c) (it.Count c') r s p q e =
     let same = count_one c c' r s p q (rest_is 1 1 (count_field.spelling c ++ r) (count_field.spelling c' ++ s) e) in

@@ -23,7 +23,8 @@ module _ {A : Type 0} (field : Field A) (one : HasOneSpelling field) where
 
   pub all_spelled-append : (xs ys : List A) → all_spelled field (xs ++ ys) ≡ all_spelled field xs ++ all_spelled field ys
   all_spelled-append [] ys = refl
-  all_spelled-append (x ∷ xs) ys = ap (λ (s : List ℕ). field.spelling x ++ s) (all_spelled-append xs ys) ∙ sym (append_assoc (field.spelling x) (all_spelled field xs) (all_spelled field ys))
+  all_spelled-append (x ∷ xs) ys = ap (λ (s : List ℕ). field.spelling x ++ s) (all_spelled-append xs ys)
+      ∙ sym (append_assoc (field.spelling x) (all_spelled field xs) (all_spelled field ys))
 
   AllAllowed-append : (xs ys : List A) → AllAllowed field xs → AllAllowed field ys → AllAllowed field (xs ++ ys)
   AllAllowed-append [] ys p q = q
@@ -34,7 +35,9 @@ module _ {A : Type 0} (field : Field A) (one : HasOneSpelling field) where
   AllAllowed-parts (x ∷ xs) ys p = let rest = AllAllowed-parts xs ys p.1 in ((p.0, rest.0), rest.1)
 
   -- one more
-  pub one_more : (count : ℕ) (bytes : List ℕ) (at : ℕ) (xs : List A) (mid : ℕ) (x : A) (next : ℕ) → IsFieldAt (row_field field count) bytes at xs mid → IsFieldAt field bytes mid x next → IsFieldAt (row_field field (count + 1)) bytes at (xs ++ x ∷ []) next
+  pub one_more : (count : ℕ) (bytes : List ℕ) (at : ℕ) (xs : List A) (mid : ℕ) (x : A) (next : ℕ)
+      → IsFieldAt (row_field field count) bytes at xs mid → IsFieldAt field bytes mid x next
+      → IsFieldAt (row_field field (count + 1)) bytes at (xs ++ x ∷ []) next
   one_more count bytes at xs mid x next p q =
       let more : all_spelled field (xs ++ x ∷ []) ≡ all_spelled field xs ++ field.spelling x = all_spelled-append xs (x ∷ []) ∙ ap (λ (s : List ℕ). all_spelled field xs ++ s) (append-nil (field.spelling x)) in
       let Here : List ℕ → Type 0 = λ s. IsSpelled bytes at s next in (
@@ -43,12 +46,16 @@ module _ {A : Type 0} (field : Field A) (one : HasOneSpelling field) where
       )
 
   -- where one is missed behind these, there are no more
-  pub none_more : (count : ℕ) (bytes : List ℕ) (at : ℕ) (xs : List A) (mid n : ℕ) → IsFieldAt (row_field field n) bytes at xs mid → n < count → NoneIsAt field bytes mid → NoneIsAt (row_field field count) bytes at
+  pub none_more : (count : ℕ) (bytes : List ℕ) (at : ℕ) (xs : List A) (mid n : ℕ)
+      → IsFieldAt (row_field field n) bytes at xs mid → n < count → NoneIsAt field bytes mid
+      → NoneIsAt (row_field field count) bytes at
   none_more count bytes at xs mid n here fewer none ys next p =
       let Whole : List A → Type 0 = λ zs. AllAllowed field zs × IsSpelled bytes at (all_spelled field zs) next in
-      go (take n ys) (drop n ys) (omega (arith, length-take n ys, p.0.0)) (omega (arith, length-drop n ys, p.0.0)) (subst Whole (sym (take-append-drop n ys)) (p.0.1, p.1))
+      go (take n ys) (drop n ys) (omega (arith, length-take n ys, p.0.0)) (omega (arith, length-drop n ys, p.0.0))
+      (subst Whole (sym (take-append-drop n ys)) (p.0.1, p.1))
     where
-      go : (front back : List A) → length front ≡ n → 0 < length back → AllAllowed field (front ++ back) × IsSpelled bytes at (all_spelled field (front ++ back)) next → ⊥
+      go : (front back : List A) → length front ≡ n → 0 < length back
+          → AllAllowed field (front ++ back) × IsSpelled bytes at (all_spelled field (front ++ back)) next → ⊥
       go front [] len some whole = absurd (omega arith)
       go front (y ∷ ys) len some whole =
           let rest : List ℕ = field.spelling y ++ all_spelled field ys in

@@ -14,12 +14,14 @@ use Rattle.report_format.specs.PairLaws.{both_one}
 use Rattle.report_format.specs.RowLaws.{list_one}
 use Rattle.report_format.specs.SimpleLaws.{u32_one, comparison_one, rest_is}
 
+-- No two tests are spelled alike.
 pub test_one : HasOneSpelling test_field
 test_one x y r s p q e =
     let parts = both_one u32_field (both comparison_field value_field) u32_one (both_one comparison_field value_field comparison_one value_one) in
     let same = parts (x.column, (x.comparison, x.value)) (y.column, (y.comparison, y.value)) r s p q e in
     (ap (λ (z : ℕ × (Comparison × Datum)). record { column = z.0; comparison = z.1.0; value = z.1.1 }) same.0, same.1)
 
+-- No two changes are spelled alike.
 pub change_one : HasOneSpelling change_field
 change_one x y r s p q e =
     let same = both_one u32_field value_field u32_one value_one (x.column, x.value) (y.column, y.value) r s p q e in
@@ -27,24 +29,33 @@ change_one x y r s p q e =
 
 -- ---- statements
 
+-- No two lists of tests are spelled alike.
 tests_one : HasOneSpelling tests_field
 tests_one = list_one test_field test_one
 
+-- Nothing is spelled alike behind the tags of two insertions.
 insert_one : HasOneSpelling insert_field
 insert_one = both_one u32_field (list_field value_field) u32_one (list_one value_field value_one)
 
+-- Nor behind those of two selections.
 select_one : HasOneSpelling select_field
-select_one = both_one u32_field (both (list_field u32_field) tests_field) u32_one (both_one (list_field u32_field) tests_field (list_one u32_field u32_one) tests_one)
+select_one = both_one u32_field (both (list_field u32_field) tests_field) u32_one
+    (both_one (list_field u32_field) tests_field (list_one u32_field u32_one) tests_one)
 
+-- Nor behind those of two updates.
 update_one : HasOneSpelling update_field
-update_one = both_one u32_field (both (list_field change_field) tests_field) u32_one (both_one (list_field change_field) tests_field (list_one change_field change_one) tests_one)
+update_one = both_one u32_field (both (list_field change_field) tests_field) u32_one
+    (both_one (list_field change_field) tests_field (list_one change_field change_one) tests_one)
 
+-- Nor behind those of two deletions.
 delete_one : HasOneSpelling delete_field
 delete_one = both_one u32_field tests_field u32_one tests_one
 
+-- Nor behind those of two counts that are expected.
 expect_one : HasOneSpelling expect_field
 expect_one = both_one integer_field delete_field integer_one delete_one
 
+-- No two statements are spelled alike.
 pub statement_one : HasOneSpelling statement_field
 statement_one (Insert t row) (Insert t' row') r s p q e =
     let same = insert_one (t, row) (t', row') r s p q (rest_is 1 1 (insert_field.spelling (t, row) ++ r) (insert_field.spelling (t', row') ++ s) e) in

@@ -1,7 +1,7 @@
 //! The file of a report that is made a record at a time, and a log's entries before its record.
 ghost use Rattle.std.specs.Prelude.{List, [], ◌∷◌, ◌≡◌, ◌++◌, ◌<◌, ◌^◌, length, IfOk, OnOk, IsTrue};
 ghost use Rattle.wire.specs.Files.{LeavesRoom, file_spelling, record_spelling};
-ghost use Rattle.report.specs.declared.LogEntry.{LogEntry};
+ghost use Rattle.period.specs.declared.report.LogEntry.{LogEntry};
 ghost use Rattle.report_format.specs.Parts.{list_field};
 ghost use Rattle.report_format.specs.Operations.{u32_field};
 ghost use Rattle.report_format.specs.Reports.{report_format, entry_field};
@@ -13,7 +13,8 @@ use crate::fields::FieldKind;
 use crate::format::{LOG_TAG, ReportRecords};
 use crate::operations::ObjectField;
 use crate::records::EntryField;
-use report::{Count, Group, LogEntry};
+use period::group::Group;
+use period::report::{Count, LogEntry};
 use script_tree::operation::Object;
 use std::alloc::{AllocError, Global};
 use std::marker::Model;

@@ -6,7 +6,7 @@ ghost use Rattle.report_format.specs.Reports.{report_format, rank, last_rank, re
 use crate::format::{ReportRecord, ReportRecords};
 use crate::records::read_record;
 use basis::{Items, OrMemory};
-use report::Report;
+use period::report::Report;
 use std::alloc::{AllocError, Global};
 use wire::fault::Unreadable;
 use wire::file::read_file;

@@ -1,4 +1,5 @@
-use report::{Count, Group, Log};
+use period::group::Group;
+use period::report::{Count, Log};
 use wire::record::RecordFormat;
 
 /// The first byte of the record of a count.

@@ -6,8 +6,8 @@ use Rattle.std.proofs.lemmas.List.{length-map}
 use Rattle.std.specs.Coded.{Coded-set, coded_option}
 use Rattle.basis.specs.Lists.{nth}
 use Rattle.basis.proofs.Options.{some_is, none_is_not}
-use Rattle.script_tree.specs.declared.schedule.Moment.{Moment}
-use Rattle.script_tree.specs.contracts.schedule.Moment as item
+use Rattle.period.specs.declared.schedule.Moment.{Moment}
+use Rattle.period.specs.contracts.schedule.Moment as item
 use Rattle.wire.specs.Files.{MayFollow, Spells}
 use Rattle.wire.specs.Recorded.{SpellsPayloads}
 use Rattle.wire.specs.Spellings.{IsFieldAt, NoneIsAt}

@@ -1,8 +1,8 @@
 -- Moments whose numbers have their widths may stand one after another.
 use Rattle.std.proofs.Common.{◌≡◌, ℕ, zero, suc, ◌+◌, ◌<◌, ◌^◌, List, [], ◌∷◌, ◌++◌, length, take, get_or, subst, arith}
 use Rattle.script_tree.specs.declared.operation.Choice.TheVariants.{Nothing, Number}
-use Rattle.script_tree.specs.declared.schedule.Moment.{Moment}
-use Rattle.script_tree.specs.declared.schedule.Moment.TheVariants.{Arrive, Act, Depart}
+use Rattle.period.specs.declared.schedule.Moment.{Moment}
+use Rattle.period.specs.declared.schedule.Moment.TheVariants.{Arrive, Act, Depart}
 use Rattle.wire.specs.Files.{MayFollow}
 use Rattle.schedule_format.specs.Moments.{AreMoments, IsMoment, moment_spelling, schedule_format}
 

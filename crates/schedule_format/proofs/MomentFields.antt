@@ -3,8 +3,8 @@ use Rattle.std.proofs.Common.{◌≡◌, ℕ, ◌+◌, List, [], ◌++◌, lengt
 use Rattle.std.specs.Prelude.{IsErrAnd}
 use Rattle.std.specs.Int.{w32}
 use Rattle.script_tree.specs.declared.operation.Choice.{Choice}
-use Rattle.script_tree.specs.declared.schedule.Moment.{Moment}
-use Rattle.script_tree.specs.declared.schedule.Moment.TheVariants.{Arrive, Act, Depart}
+use Rattle.period.specs.declared.schedule.Moment.{Moment}
+use Rattle.period.specs.declared.schedule.Moment.TheVariants.{Arrive, Act, Depart}
 use Rattle.wire.specs.Spellings.{Field, IsSpelled, IsFieldAt, NoneIsAt, HasOneSpelling, byte_field, number_field, choice_spelling}
 use Rattle.wire.specs.Files.{IsExact}
 use Rattle.wire.specs.declared.fault.Unreadable.{Unreadable}
@@ -53,14 +53,19 @@ head_allowed (Arrive rid) p = (omega arith, p)
 head_allowed (Act rid choice) p = (omega arith, p.0)
 head_allowed (Depart rid) p = (omega arith, p)
 
-head_there : (bytes : List ℕ) (at : ℕ) (m : Moment) (next : ℕ) → IsFieldAt moment_field bytes at m next → IsSpelled bytes at (head_field.spelling (head_of m) ++ rest_of m) next
+head_there : (bytes : List ℕ) (at : ℕ) (m : Moment) (next : ℕ) → IsFieldAt moment_field bytes at m next
+    → IsSpelled bytes at (head_field.spelling (head_of m) ++ rest_of m) next
 head_there bytes at m next p = let Here : List ℕ → Type 0 = λ s. IsSpelled bytes at s next in subst Here (by_head m) p.1
 
 -- ---- none
 
 no_head : (bytes : List ℕ) (at : ℕ) → NoneIsAt head_field bytes at → NoneIsAt moment_field bytes at
 no_head bytes at none m next p =
-    none (head_of m) (at + length (head_field.spelling (head_of m))) (head_allowed m p.0, first_part bytes (head_field.spelling (head_of m)) (rest_of m) at next (head_there bytes at m next p))
+    none (head_of m) (at + length (head_field.spelling (head_of m))) (
+      head_allowed m p.0,
+      first_part bytes (head_field.spelling (head_of m)) (rest_of m) at next
+          (head_there bytes at m next p),
+    )
 
 pub no_tag : (bytes : List ℕ) (at : ℕ) → NoneIsAt byte_field bytes at → NoneIsAt moment_field bytes at
 no_tag bytes at none = no_head bytes at (no_first byte_field (λ tag. number_field w32) bytes at none)
@@ -68,7 +73,8 @@ no_tag bytes at none = no_head bytes at (no_first byte_field (λ tag. number_fie
 pub no_id : (bytes : List ℕ) (at tag mid : ℕ) → IsFieldAt byte_field bytes at tag mid → NoneIsAt (number_field w32) bytes mid → NoneIsAt moment_field bytes at
 no_id bytes at tag mid here none = no_head bytes at (no_second byte_field (λ t. number_field w32) byte_one bytes at tag mid here none)
 
-pub moment_missed : (payload : List ℕ) (fault : Unreadable) (r : Result (Moment × ℕ) Unreadable) → IsErrAnd r (λ e. e ≡ fault) → NoneIsAt moment_field payload 0 → ReadsMoment payload r
+pub moment_missed : (payload : List ℕ) (fault : Unreadable) (r : Result (Moment × ℕ) Unreadable)
+    → IsErrAnd r (λ e. e ≡ fault) → NoneIsAt moment_field payload 0 → ReadsMoment payload r
 moment_missed payload fault (Ok x) is none = absurd is
 moment_missed payload fault (Err e) is none = none
 

@@ -4,8 +4,8 @@ use Rattle.std.specs.Int.{w32, to_be_bytes}
 use Rattle.wire.specs.Spellings.{Field, IsFieldAt, NoneIsAt, IsWideChoice, choice_spelling}
 use Rattle.wire.specs.Files.{Format}
 use Rattle.wire.specs.declared.fault.Unreadable.{Unreadable}
-use Rattle.script_tree.specs.declared.schedule.Moment.{Moment}
-use Rattle.script_tree.specs.declared.schedule.Moment.TheVariants.{Arrive, Act, Depart}
+use Rattle.period.specs.declared.schedule.Moment.{Moment}
+use Rattle.period.specs.declared.schedule.Moment.TheVariants.{Arrive, Act, Depart}
 
 -- a tag, the id of the request and, of an operation, its choice
 abbrev pub moment_spelling : Moment → List ℕ
@@ -24,6 +24,7 @@ abbrev pub AreMoments : List Moment → Type 0
 AreMoments [] = Unit {0}
 AreMoments (m ∷ ms) = IsMoment m × AreMoments ms
 
+-- a moment whose numbers have their widths
 abbrev pub moment_field : Field Moment
 moment_field = record { allows = λ m. IsMoment m; spelling = λ m. moment_spelling m }
 

@@ -3,7 +3,7 @@ ghost use Rattle.schedule_format.specs.Moments.{schedule_format, ReadsMoment};
 
 use crate::format::Moments;
 use basis::OrMemory;
-use script_tree::schedule::{Moment, Schedule};
+use period::schedule::{Moment, Schedule};
 use std::alloc::Global;
 use wire::fault::Unreadable;
 use wire::field::{read_choice, read_u8, read_u32};

@@ -3,8 +3,8 @@ ghost use Rattle.wire.specs.Files.{Spells};
 ghost use Rattle.schedule_format.specs.Moments.{schedule_format, moment_spelling, AreMoments, IsMoment};
 
 use crate::format::Moments;
+use period::schedule::{Moment, Schedule};
 use script_tree::operation::Choice;
-use script_tree::schedule::{Moment, Schedule};
 use std::alloc::{AllocError, Global};
 use wire::file::write_file;
 use wire::record::RecordWriter;

@@ -1,6 +1,6 @@
 ghost use Rattle.std.specs.Prelude.{◌≡◌};
 
-use script_tree::schedule::Moment;
+use period::schedule::Moment;
 use wire::record::RecordFormat;
 
 /// The format of schedules. Each moment may stand behind any others.

@@ -7,7 +7,7 @@ ghost use Rattle.schedule_format.specs.ScheduleFiles.{Spelled, spelled_once};
 use crate::decoding::read_moment;
 use crate::format::Moments;
 use basis::OrMemory;
-use script_tree::schedule::Moment;
+use period::schedule::Moment;
 use std::alloc::Global;
 use std::marker::Model;
 use wire::fault::Unreadable;
@@ -23,8 +23,8 @@ pub struct ScheduleFile {
 impl Model for ScheduleFile {
     ghost use Rattle.std.specs.Prelude.{List};
     ghost use Rattle.std.specs.Coded.{coded_list};
-    ghost use Rattle.script_tree.specs.declared.schedule.Moment.{Moment as AnyMoment};
-    ghost use Rattle.script_tree.specs.contracts.schedule.Moment as item;
+    ghost use Rattle.period.specs.declared.schedule.Moment.{Moment as AnyMoment};
+    ghost use Rattle.period.specs.contracts.schedule.Moment as item;
 
     ghost Value = { List AnyMoment };
 

@@ -6,15 +6,15 @@ use Rattle.script_tree.specs.declared.operation.Act.{Act}
 use Rattle.script_tree.specs.declared.operation.Act.TheVariants.{Read, Write, Get, Put, Remove, Transact, Now, Roll}
 use Rattle.script_tree.specs.declared.operation.Choice.{Choice}
 use Rattle.script_tree.specs.declared.operation.Choice.TheVariants.{Nothing, Number}
-use Rattle.script_tree.specs.declared.schedule.Moment.{Moment}
-use Rattle.script_tree.specs.declared.schedule.Moment.TheVariants.{Arrive, Act as Acts, Depart}
+use Rattle.period.specs.declared.schedule.Moment.{Moment}
+use Rattle.period.specs.declared.schedule.Moment.TheVariants.{Arrive, Act as Acts, Depart}
 use Rattle.wire.specs.Files.{Format, file_spelling, record_spelling, records_spelling}
 use Rattle.wire.specs.Spellings.{choice_spelling}
 use Rattle.schedule_format.specs.Moments.{schedule_format}
-use Rattle.report.specs.declared.Count.{Count}
-use Rattle.report.specs.declared.Log.{Log}
-use Rattle.report.specs.declared.LogEntry.{LogEntry}
-use Rattle.report.specs.declared.Report.{Report}
+use Rattle.period.specs.declared.report.Count.{Count}
+use Rattle.period.specs.declared.report.Log.{Log}
+use Rattle.period.specs.declared.report.LogEntry.{LogEntry}
+use Rattle.period.specs.declared.report.Report.{Report}
 use Rattle.report_format.specs.Operations.{act_spelling, object_spelling, u32_field}
 use Rattle.report_format.specs.Parts.{all_spelled}
 use Rattle.report_format.specs.Reports.{entry_field, report_format, records_of}
@@ -30,7 +30,8 @@ record_bytes format x = length (record_spelling format x)
 records_are : {A : Type 0} (format : Format A) (xs : List A) → length (records_spelling format xs) ≡ total (record_bytes format) xs
 unfolding total record_bytes
 records_are format [] = refl
-records_are format (x ∷ xs) = length-append (record_spelling format x) (records_spelling format xs) ∙ ap (λ n. record_bytes format x + n) (records_are format xs)
+records_are format (x ∷ xs) = length-append (record_spelling format x) (records_spelling format xs)
+    ∙ ap (λ n. record_bytes format x + n) (records_are format xs)
 
 file_is : {A : Type 0} (format : Format A) (xs : List A) → length (file_spelling format xs) ≡ length format.magic + total (record_bytes format) xs
 file_is format xs = length-append format.magic (records_spelling format xs) ∙ ap (λ n. length format.magic + n) (records_are format xs)
@@ -133,7 +134,8 @@ unfolding total least
 thirteen [] = refl
 thirteen (c ∷ cs) = let rest = thirteen cs in omega (arith, rest)
 
-pub report_least : (r : Report) → 8 + (13 * length r.counts + (log_bytes r.logs + 4 * member_count r.groups)) ≤ length (file_spelling report_format (records_of r))
+pub report_least : (r : Report) → 8 + (13 * length r.counts + (log_bytes r.logs + 4 * member_count r.groups)) ≤ length
+    (file_spelling report_format (records_of r))
 unfolding log_bytes member_count least
 report_least r =
     let file = file_is report_format (records_of r) in

@@ -11,16 +11,16 @@ use Rattle.basis.proofs.Places.{In, any_false, any_true, first_some, nth_take}
 use Rattle.script_tree.specs.Objects.{Objects}
 use Rattle.script_tree.specs.Programs.{Program}
 use Rattle.script_tree.specs.Requests.{Request}
-use Rattle.script_tree.specs.Traces.{request_of}
-use Rattle.script_tree.specs.declared.schedule.Moment.{Moment}
-use Rattle.script_tree.specs.declared.schedule.Moment.TheVariants as at
-use Rattle.script_tree.specs.declared.trace.TraceEvent.{TraceEvent}
-use Rattle.script_tree.specs.declared.trace.TraceEvent.TheVariants.{Asked, Answered}
+use Rattle.period.specs.Traces.{request_of}
+use Rattle.period.specs.declared.schedule.Moment.{Moment}
+use Rattle.period.specs.declared.schedule.Moment.TheVariants as at
+use Rattle.period.specs.declared.trace.TraceEvent.{TraceEvent}
+use Rattle.period.specs.declared.trace.TraceEvent.TheVariants.{Asked, Answered}
 use Rattle.trace_format.specs.Events.{is_request, request_count}
-use Rattle.report.specs.declared.Count.{Count}
-use Rattle.report.specs.declared.Log.{Log}
-use Rattle.report.specs.declared.LogEntry.{LogEntry}
-use Rattle.report.specs.declared.Report.{Report}
+use Rattle.period.specs.declared.report.Count.{Count}
+use Rattle.period.specs.declared.report.Log.{Log}
+use Rattle.period.specs.declared.report.LogEntry.{LogEntry}
+use Rattle.period.specs.declared.report.Report.{Report}
 use Rattle.audit_meaning.specs.Edges.{edges}
 use Rattle.audit_meaning.specs.GroupFaults.{grouping_fault, if_without_group, member_of_no_request, members, request_without_group, second_member}
 use Rattle.audit_meaning.specs.Groups.{unsound_group}
@@ -59,7 +59,8 @@ abbrev schedule_in : Verdict → List Moment
 schedule_in (Accepted schedule evaluated steps) = schedule
 schedule_in (Rejected reason) = []
 
-accepted_parts : (a : Option Reason) (c : List Node) (n : Option (List Node)) (l : Option Reason) (report : Report) (evaluated steps : ℕ) (schedule : List Moment) (v k : ℕ)
+accepted_parts : (a : Option Reason) (c : List Node) (n : Option (List Node)) (l : Option Reason) (report : Report)
+    (evaluated steps : ℕ) (schedule : List Moment) (v k : ℕ)
     → judged a c n l report evaluated steps ≡ Accepted schedule v k
     → (xs : List Node) × (a ≡ None) × (n ≡ Some xs) × (l ≡ None) × (map (moment report) xs ≡ schedule)
 accepted_parts (Some r) c n l report evaluated steps schedule v k e = absurd (subst IsAccepted (sym e) tt)
@@ -150,7 +151,9 @@ befores_bytes past [] = refl
 befores_bytes past (e ∷ es) = ap (λ n. entry_bytes e + n) (befores_bytes (past ++ e ∷ []) es)
 
 log_said : (log : Log) → total (λ s. entry_bytes s.entry) (spots_in log) ≡ total entry_bytes log.entries
-log_said log = total_map (λ (s : Spot). entry_bytes s.entry) (λ b. record { object = log.object; past = b.0; entry = b.1 }) (befores log.entries) ∙ befores_bytes [] log.entries
+log_said log = total_map (λ (s : Spot). entry_bytes s.entry)
+    (λ b. record { object = log.object; past = b.0; entry = b.1 }) (befores log.entries)
+    ∙ befores_bytes [] log.entries
 
 logs_said : (logs : List Log) → total (λ s. entry_bytes s.entry) (spots logs) ≡ log_bytes logs
 unfolding log_bytes total
@@ -296,7 +299,8 @@ module _ (P : Program) (O : Objects) (T : List TraceEvent) (R : Report) where
             by true e k = sym (eqb-true r c.rid e)
             by false e k = absurd (none_is_not k)
 
-    end_said : (r i : ℕ) (q : Request) (p : Count → Placed) → nth T i ≡ Some (Asked r q) → ((c : Count) → In (ends_of c) (p c)) → (c : Count) × (c.rid ≡ r) × In (said R) (p c)
+    end_said : (r i : ℕ) (q : Request) (p : Count → Placed) → nth T i ≡ Some (Asked r q)
+        → ((c : Count) → In (ends_of c) (p c)) → (c : Count) × (c.rid ≡ r) × In (said R) (p c)
     unfolding said
     end_said r i q p at_i member =
         let c = counted r i q at_i in
@@ -335,11 +339,15 @@ module _ (P : Program) (O : Objects) (T : List TraceEvent) (R : Report) where
         let asked : nth T from.1.0 ≡ Some (Asked n.0 n.1) = from.1.1 ∙ ap (λ e. Some e) n.2 in
         subst (λ y. In (said R) (y, moment R y)) n.5 (by n.0 n.1 n.3 n.4 from.1.0 asked)
       where
-        by : (r : ℕ) (q : Request) (k : ℕ) → k < count_of R r + 2 → (i : ℕ) → nth T i ≡ Some (Asked r q) → In (said R) (node_at (count_of R r) r k, moment R (node_at (count_of R r) r k))
+        by : (r : ℕ) (q : Request) (k : ℕ) → k < count_of R r + 2 → (i : ℕ) → nth T i ≡ Some (Asked r q)
+            → In (said R) (node_at (count_of R r) r k, moment R (node_at (count_of R r) r k))
         by r q zero lt i asked = subst (λ y. In (said R) (y, moment R y)) (sym (node_at-step (count_of R r) r 0 (omega arith))) (arrival_said r i q asked)
         by r q (suc k) lt i asked = elim (cases_lt (suc k) (suc (count_of R r))) [
-          | inl low ↦ subst (λ y. In (said R) (y, moment R y)) (sym (node_at-step (count_of R r) r (suc k) (omega (arith, low)))) (act_said r i k q asked (omega (arith, low)))
-          | inr high ↦ subst (λ y. In (said R) (y, moment R y)) (sym (node_at-close (count_of R r) r (suc k) (omega (arith, high)))) (departure_said r i q asked)
+          | inl low ↦ subst (λ y. In (said R) (y, moment R y))
+              (sym (node_at-step (count_of R r) r (suc k) (omega (arith, low))))
+              (act_said r i k q asked (omega (arith, low)))
+          | inr high ↦ subst (λ y. In (said R) (y, moment R y))
+              (sym (node_at-close (count_of R r) r (suc k) (omega (arith, high)))) (departure_said r i q asked)
         ]
 
     moments_within : (N : List Node) → AskedOnce T → OrderOf (edges T R) (nodes T R) N → total moment_bytes (map (moment R) N) ≤ total bytes_of (said R)

@@ -2,15 +2,15 @@
 use Rattle.std.specs.Prelude.{◌≡◌, ℕ, ◌≤◌, List, length}
 use Rattle.script_tree.specs.Objects.{Objects}
 use Rattle.script_tree.specs.Programs.{Program}
-use Rattle.script_tree.specs.Traces.{IsBalanced}
+use Rattle.period.specs.Traces.{IsBalanced}
 use Rattle.script_tree.specs.declared.limits.TheConstants.{MOST_REQUESTS}
-use Rattle.script_tree.specs.declared.schedule.Moment.{Moment}
-use Rattle.script_tree.specs.declared.trace.TraceEvent.{TraceEvent}
+use Rattle.period.specs.declared.schedule.Moment.{Moment}
+use Rattle.period.specs.declared.trace.TraceEvent.{TraceEvent}
 use Rattle.wire.specs.Files.{file_spelling}
 use Rattle.wire.specs.declared.limits.TheConstants.{MOST_FILE_BYTES, MOST_SCHEDULE_BYTES}
 use Rattle.trace_format.specs.Events.{request_count}
 use Rattle.schedule_format.specs.Moments.{schedule_format}
-use Rattle.report.specs.declared.Report.{Report}
+use Rattle.period.specs.declared.report.Report.{Report}
 use Rattle.report_format.specs.Reports.{report_format, records_of}
 use Rattle.audit_meaning.specs.Verdicts.{verdict}
 use Rattle.audit_meaning.specs.declared.verdict.Verdict.TheVariants.{Accepted}

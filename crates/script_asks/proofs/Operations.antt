@@ -78,7 +78,8 @@ module _ (program : Program) where
   HasStore true s = declares_store program.declarations s ≡ true
   HasStore false s = Unit {0}
 
-  pub built_in_fine : (q : Request) (store : List ℕ) (b : Builtin) (ds : List Datum) → IsRequestWithinLimits q → HasStore (takes_store b) store → AreWithinLimits ds
+  pub built_in_fine : (q : Request) (store : List ℕ) (b : Builtin) (ds : List Datum) → IsRequestWithinLimits q
+      → HasStore (takes_store b) store → AreWithinLimits ds
       → IsFineCall (built_in q store b ds)
   built_in_fine q store Len ds l s h = length_fine (first ds)
   built_in_fine q store Str ds l s h = fine_after (printed (first ds)) _ (λ bs. checked_fine (text bs))

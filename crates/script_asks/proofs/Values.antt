@@ -173,8 +173,10 @@ number_of_within [] = refl
 number_of_within (b ∷ bs) = by (b == 45)
   where
     by : (c : Bool) → IsWithinLimits (cond c (if_printed (neg_ℤ (pos (digits_value 0 bs))) (b ∷ bs)) (if_printed (pos (digits_value 0 (b ∷ bs))) (b ∷ bs)))
-    by true = or_null (bytes_eq (signed_decimal (neg_ℤ (pos (digits_value 0 bs)))) (b ∷ bs) && in_64_bits (neg_ℤ (pos (digits_value 0 bs)))) (neg_ℤ (pos (digits_value 0 bs)))
-    by false = or_null (bytes_eq (signed_decimal (pos (digits_value 0 (b ∷ bs)))) (b ∷ bs) && in_64_bits (pos (digits_value 0 (b ∷ bs)))) (pos (digits_value 0 (b ∷ bs)))
+    by true = or_null (bytes_eq (signed_decimal (neg_ℤ (pos (digits_value 0 bs)))) (b ∷ bs)
+        && in_64_bits (neg_ℤ (pos (digits_value 0 bs)))) (neg_ℤ (pos (digits_value 0 bs)))
+    by false = or_null (bytes_eq (signed_decimal (pos (digits_value 0 (b ∷ bs)))) (b ∷ bs)
+        && in_64_bits (pos (digits_value 0 (b ∷ bs)))) (pos (digits_value 0 (b ∷ bs)))
 
 pub kind_within : (d : Datum) → IsWithinLimits (text (kind_of d))
 kind_within null = refl

@@ -12,10 +12,10 @@ use Rattle.script_tree.specs.declared.path.Path.{Path}
 use Rattle.script_check.specs.Validity.{IsValid}
 use Rattle.script_meaning.specs.Conduct.{conduct, Wants, Ends, unless_left, ended, on_page, start}
 use Rattle.script_meaning.specs.Evaluate.{Setting, Flow, run}
-use Rattle.script_meaning.specs.Run.{Outcome, goes, stops}
+use Rattle.script_meaning.specs.Run.{Ran, goes, stops}
 use Rattle.script_meaning.specs.declared.run.Stop.TheVariants.{Wants as wants, Fault as fault, AnswerFault as answer_fault}
 use Rattle.script_fit.specs.FitsOperation.{FitsOperation}
-use Rattle.script_asks.proofs.Asked.{IsOutcomeOf, IsKeptFlow, run_well}
+use Rattle.script_asks.proofs.Asked.{IsRanOf, IsKeptFlow, run_well}
 use Rattle.script_asks.proofs.Valid.{bodies_sound, page_sound}
 
 over_is : (answers : List Datum) (response : Response) (path : Path) (op : Op) → unless_left answers (Ends response path) ≡ Wants op → ⊥
@@ -25,21 +25,23 @@ over_is (d ∷ ds) response path op e = cc
 wanted : (a b : Op) → Wants a ≡ Wants b → a ≡ b
 wanted a b e = cc
 
-module _ (program : Program) (request : Request) (answers : List Datum) (op : Op) (valid : IsValid program.declarations) (short : IsRequestWithinLimits request) where
+module _ (program : Program) (request : Request) (answers : List Datum) (op : Op) (valid : IsValid program) (short : IsRequestWithinLimits request) where
   abbrev setting : Setting
   setting = record { program = program; request = request }
 
-  by_outcome : (page : ℕ) (r : Outcome Flow) → IsOutcomeOf setting short (bodies_sound program valid) IsKeptFlow r → (ended page r).ending ≡ Wants op → FitsOperation program op
-  by_outcome page (goes flow p) h e = absurd (over_is p.answers _ _ op e)
-  by_outcome page (stops (wants x) p) h e = subst (FitsOperation program) (wanted x op e) h
-  by_outcome page (stops (fault f) p) h e = absurd (over_is p.answers _ _ op e)
-  by_outcome page (stops answer_fault p) h e = absurd (over_is p.answers _ _ op e)
+  by_ran : (page : ℕ) (r : Ran Flow) → IsRanOf setting short (bodies_sound program valid) IsKeptFlow r
+      → (ended page r).ending ≡ Wants op → FitsOperation program op
+  by_ran page (goes flow p) h e = absurd (over_is p.answers _ _ op e)
+  by_ran page (stops (wants x) p) h e = subst (FitsOperation program) (wanted x op e) h
+  by_ran page (stops (fault f) p) h e = absurd (over_is p.answers _ _ op e)
+  by_ran page (stops answer_fault p) h e = absurd (over_is p.answers _ _ op e)
 
   by_page : (o : Option NumberedPage) → page_in program request.path ≡ o → (on_page program request answers o).ending ≡ Wants op → FitsOperation program op
   by_page None q e = absurd (over_is answers _ _ op e)
   by_page (Some page) q e =
-      by_outcome page.number (run setting (MOST_STEPS + 1) 0 (statements_of page.body) [] (start answers))
-      (run_well setting short (bodies_sound program valid) (MOST_STEPS + 1) 0 (statements_of page.body) [] (page_sound program valid request.path page q) tt (start answers)) e
+      by_ran page.number (run setting (MOST_STEPS + 1) 0 (statements_of page.body) [] (start answers))
+      (run_well setting short (bodies_sound program valid) (MOST_STEPS + 1) 0 (statements_of page.body) []
+      (page_sound program valid request.path page q) tt (start answers)) e
 
   pub fits : (conduct program request answers).ending ≡ Wants op → FitsOperation program op
   fits e = by_page (page_in program request.path) refl e

@@ -11,5 +11,5 @@ use Rattle.script_meaning.specs.Conduct.{conduct, Wants}
 -- The operation that a page of a valid program wants fits the program, whatever the answers were.
 abbrev pub AsksForWhatFits : Type 0
 AsksForWhatFits = (program : Program) (request : Request) (answers : List Datum) (op : Op)
-    → IsValid program.declarations → IsRequestWithinLimits request
+    → IsValid program → IsRequestWithinLimits request
     → (conduct program request answers).ending ≡ Wants op → FitsOperation program op

@@ -1,9 +1,9 @@
 -- Facts on blocks.
 use Rattle.std.proofs.Common.{◌≡◌, ℕ, zero, suc, ◌<◌, ◌≤◌, ◌+◌, ◌-◌, List, [], ◌∷◌, ◌++◌, length, drop, get_or, Bool, true, false, if◌then◌else◌, Option, refl, sym, ap, ◌∙◌, arith, append_assoc, length-append}
+use Rattle.script_tree.specs.Programs.{Program}
 use Rattle.script_tree.specs.StatementWeight.{statement_weight, statements_weight}
 use Rattle.script_tree.specs.Syntax.{Statement, let_, set_, if_, while_, for_, echo, status, return, do_}
 use Rattle.script_tree.specs.SyntaxLists.{statements_of}
-use Rattle.script_tree.specs.declared.syntax.declaration.Declaration.{Declaration}
 use Rattle.script_check.specs.Validity.{has, with_name, known_after, statement_faults, block_faults}
 use Rattle.script_check.specs.Least.{lower}
 use Rattle.script_check.specs.declared.fault.CheckFault.{CheckFault}
@@ -48,20 +48,24 @@ left_again old new g =
     let n : length (g.0 ++ old) - length old ≡ length g.0 = omega (arith, length-append g.0 old) in
     ap (λ s. drop (length s - length old) s) g.1 ∙ ap (λ k. drop k (g.0 ++ old)) n ∙ drop_front g.0 old
 
-pub lighter_statement : (ss : List Statement) (i : ℕ) (s : Statement) → i < length ss → s ≡ get_or ss i s → statement_weight s < statements_weight (statements_of ss)
+pub lighter_statement : (ss : List Statement) (i : ℕ) (s : Statement) → i < length ss → s ≡ get_or ss i s
+    → statement_weight s < statements_weight (statements_of ss)
 lighter_statement [] i s h q = absurd (omega arith)
 lighter_statement (f ∷ ss) zero s h q = rw q (omega arith)
 lighter_statement (f ∷ ss) (suc i) s h q = omega (arith, lighter_statement ss i s (omega arith) q)
 
 -- ---- a statement, and the others of its block
 
-pub block_next : (ds : List Declaration) (known after : List (List ℕ)) (ss : List Statement) (i : ℕ) (s : Statement) (l m : Option CheckFault) → i < length ss → s ≡ get_or ss i s → after ≡ known_after known s → m ≡ lower l (statement_faults ds known s)
-    → lower m (block_faults ds after (drop (i + 1) ss)) ≡ lower l (block_faults ds known (drop i ss))
-block_next ds known after ss i s l m h e is p =
+pub block_next : (program : Program) (known after : List (List ℕ)) (ss : List Statement) (i : ℕ) (s : Statement)
+    (l m : Option CheckFault) → i < length ss → s ≡ get_or ss i s → after ≡ known_after known s
+    → m ≡ lower l (statement_faults program known s)
+    → lower m (block_faults program after (drop (i + 1) ss)) ≡ lower l (block_faults program known (drop i ss))
+block_next program known after ss i s l m h e is p =
     let rest = drop (i + 1) ss in
-    ap (λ k. lower m (block_faults ds k rest)) is
-    ∙ then_rest l m (statement_faults ds known s) (block_faults ds (known_after known s) rest) p
-    ∙ ap (λ ys. lower l (block_faults ds known ys)) (sym (left ss i s h e))
+    ap (λ k. lower m (block_faults program k rest)) is
+    ∙ then_rest l m (statement_faults program known s) (block_faults program (known_after known s) rest) p
+    ∙ ap (λ ys. lower l (block_faults program known ys)) (sym (left ss i s h e))
 
-pub block_end : (ds : List Declaration) (known : List (List ℕ)) (ss : List Statement) (i : ℕ) (m : Option CheckFault) → length ss ≤ i → lower m (block_faults ds known (drop i ss)) ≡ m
-block_end ds known ss i m h = ap (λ ys. lower m (block_faults ds known ys)) (none_left ss i h) ∙ lower_none m
+pub block_end : (program : Program) (known : List (List ℕ)) (ss : List Statement) (i : ℕ) (m : Option CheckFault)
+    → length ss ≤ i → lower m (block_faults program known (drop i ss)) ≡ m
+block_end program known ss i m h = ap (λ ys. lower m (block_faults program known ys)) (none_left ss i h) ∙ lower_none m

@@ -32,7 +32,9 @@ pub then_before : (l m n : Option CheckFault) (fs gs : List CheckFault) → m �
 then_before l m n fs gs p q = q ∙ ap (λ k. lower k fs) p ∙ lower_swap l gs fs ∙ sym (lower_append l fs gs)
 
 -- one declaration more
-pub one_on : (faults : List Declaration → Declaration → List CheckFault) (ds : List Declaration) (i : ℕ) (d : Declaration) (l m : Option CheckFault) → i < length ds → d ≡ get_or ds i d → m ≡ lower l (faults (take i ds) d)
+pub one_on : (faults : List Declaration → Declaration → List CheckFault) (ds : List Declaration) (i : ℕ)
+    (d : Declaration) (l m : Option CheckFault) → i < length ds → d ≡ get_or ds i d
+    → m ≡ lower l (faults (take i ds) d)
     → lower m (in_turn faults (take (i + 1) ds) (drop (i + 1) ds)) ≡ lower l (in_turn faults (take i ds) (drop i ds))
 one_on faults ds i d l m h e p =
     let rest = drop (i + 1) ds in
@@ -41,17 +43,22 @@ one_on faults ds i d l m h e p =
     ∙ ap (λ ys. lower l (in_turn faults (take i ds) ys)) (sym (left ds i d h e))
 
 -- all declarations
-pub all_on : (faults : List Declaration → Declaration → List CheckFault) (ds : List Declaration) (i : ℕ) (l m : Option CheckFault) → length ds ≤ i → lower m (in_turn faults (take i ds) (drop i ds)) ≡ lower l (in_turn faults [] ds)
+pub all_on : (faults : List Declaration → Declaration → List CheckFault) (ds : List Declaration) (i : ℕ)
+    (l m : Option CheckFault) → length ds ≤ i
+    → lower m (in_turn faults (take i ds) (drop i ds)) ≡ lower l (in_turn faults [] ds)
     → m ≡ lower l (in_turn faults [] ds)
 all_on faults ds i l m h told = sym (lower_none m) ∙ ap (λ ys. lower m (in_turn faults (take i ds) ys)) (sym (none_left ds i h)) ∙ told
 
 -- ---- a loop over a list, whose faults are those of each of its members
 
 pub next_of_loop : {A : Type 0} (all : List A → List CheckFault) (each : A → List CheckFault) → ((x : A) (xs : List A) → all (x ∷ xs) ≡ each x ++ all xs)
-    → (xs : List A) (i : ℕ) (x : A) (l m : Option CheckFault) → i < length xs → x ≡ get_or xs i x → m ≡ lower l (each x) → lower m (all (drop (i + 1) xs)) ≡ lower l (all (drop i xs))
+    → (xs : List A) (i : ℕ) (x : A) (l m : Option CheckFault) → i < length xs → x ≡ get_or xs i x
+    → m ≡ lower l (each x) → lower m (all (drop (i + 1) xs)) ≡ lower l (all (drop i xs))
 next_of_loop {A} all each step xs i x l m h e p =
     let rest = drop (i + 1) xs in
     then_rest l m (each x) (all rest) p ∙ ap (lower l) (sym (step x rest)) ∙ ap (λ ys. lower l (all ys)) (sym (left xs i x h e))
 
-pub end_of_loop : {A : Type 0} (all : List A → List CheckFault) → all [] ≡ [] → (xs : List A) (i : ℕ) (l m : Option CheckFault) → length xs ≤ i → lower m (all (drop i xs)) ≡ lower l (all xs) → m ≡ lower l (all xs)
+pub end_of_loop : {A : Type 0} (all : List A → List CheckFault) → all [] ≡ []
+    → (xs : List A) (i : ℕ) (l m : Option CheckFault) → length xs ≤ i → lower m (all (drop i xs)) ≡ lower l (all xs)
+    → m ≡ lower l (all xs)
 end_of_loop {A} all none xs i l m h told = sym (lower_none m) ∙ ap (lower m) (sym none) ∙ ap (λ ys. lower m (all ys)) (sym (none_left xs i h)) ∙ told

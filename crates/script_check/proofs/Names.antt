@@ -44,7 +44,8 @@ added true b r e = rw (← e) refl
 added false b r e = rw (← e) refl
 
 -- a set with one more name
-pub set_grows : (s n : BTreeSet (Bor (List ℕ))) (name : Bor (List ℕ)) → sorted.UpdatesBy by_text (by_text name) s n true → (x : List ℕ) → holds n x ≡ (bytes_eq x name.now || holds s x)
+pub set_grows : (s n : BTreeSet (Bor (List ℕ))) (name : Bor (List ℕ))
+    → sorted.UpdatesBy by_text (by_text name) s n true → (x : List ℕ) → holds n x ≡ (bytes_eq x name.now || holds s x)
 set_grows s n name u x = u.0 (key x) ∙ added (is_eq (slice_cmp nat_cmp name.now x)) (bytes_eq x name.now) (holds s x) (is_name name.now x)
 
 taken : (a b r : Bool) → a ≡ b → cond a false r ≡ (not b && r)
@@ -52,7 +53,9 @@ taken true b r e = rw (← e) refl
 taken false b r e = rw (← e) refl
 
 -- a set with one name less
-pub set_shrinks : (s n : BTreeSet (Bor (List ℕ))) (name : Bor (List ℕ)) → sorted.UpdatesBy by_text (by_text name) s n false → (x : List ℕ) → holds n x ≡ (not (bytes_eq x name.now) && holds s x)
+pub set_shrinks : (s n : BTreeSet (Bor (List ℕ))) (name : Bor (List ℕ))
+    → sorted.UpdatesBy by_text (by_text name) s n false → (x : List ℕ)
+    → holds n x ≡ (not (bytes_eq x name.now) && holds s x)
 set_shrinks s n name u x = u.0 (key x) ∙ taken (is_eq (slice_cmp nat_cmp name.now x)) (bytes_eq x name.now) (holds s x) (is_name name.now x)
 
 -- ---- the names of a scope
@@ -72,11 +75,13 @@ pub with_old : (known : List (List ℕ)) (x : List ℕ) → has known x ≡ true
 with_old known x e = rw e refl
 
 -- one more name
-pub known_more : (s n : BTreeSet (Bor (List ℕ))) (xs : List (Bor (List ℕ))) (name : Bor (List ℕ)) → ((x : List ℕ) → holds s x ≡ has (newest_first [] xs) x) → sorted.UpdatesBy by_text (by_text name) s n true
+pub known_more : (s n : BTreeSet (Bor (List ℕ))) (xs : List (Bor (List ℕ))) (name : Bor (List ℕ))
+    → ((x : List ℕ) → holds s x ≡ has (newest_first [] xs) x) → sorted.UpdatesBy by_text (by_text name) s n true
     → (x : List ℕ) → holds n x ≡ has (newest_first [] (xs ++ name ∷ [])) x
 known_more s n xs name told u x = set_grows s n name u x ∙ ap (λ b. bytes_eq x name.now || b) (told x) ∙ ap (λ ys. has ys x) (sym (names_push [] xs name))
 
-pub apart_more : (xs : List (Bor (List ℕ))) (name : Bor (List ℕ)) → AreApart (newest_first [] xs) → has (newest_first [] xs) name.now ≡ false → AreApart (newest_first [] (xs ++ name ∷ []))
+pub apart_more : (xs : List (Bor (List ℕ))) (name : Bor (List ℕ)) → AreApart (newest_first [] xs)
+    → has (newest_first [] xs) name.now ≡ false → AreApart (newest_first [] (xs ++ name ∷ []))
 apart_more xs name a e = rw names_push (e, a)
 
 -- one name less
@@ -84,11 +89,15 @@ less : (x y : List ℕ) (ys : List (List ℕ)) (b : Bool) → bytes_eq x y ≡ b
 less x y ys true e apart = sym (ap (has ys) (bytes_same x y e) ∙ apart)
 less x y ys false e apart = refl
 
-pub known_less : (s n : BTreeSet (Bor (List ℕ))) (xs : List (Bor (List ℕ))) (name : Bor (List ℕ)) → ((x : List ℕ) → holds s x ≡ has (newest_first [] (xs ++ name ∷ [])) x) → AreApart (newest_first [] (xs ++ name ∷ [])) → sorted.UpdatesBy by_text (by_text name) s n false
+pub known_less : (s n : BTreeSet (Bor (List ℕ))) (xs : List (Bor (List ℕ))) (name : Bor (List ℕ))
+    → ((x : List ℕ) → holds s x ≡ has (newest_first [] (xs ++ name ∷ [])) x)
+    → AreApart (newest_first [] (xs ++ name ∷ [])) → sorted.UpdatesBy by_text (by_text name) s n false
     → (x : List ℕ) → holds n x ≡ has (newest_first [] xs) x
 known_less s n xs name told a u x =
     let apart : AreApart (name.now ∷ newest_first [] xs) = rw names_push at a in
-    set_shrinks s n name u x ∙ ap (λ b. not (bytes_eq x name.now) && b) (told x ∙ ap (λ ys. has ys x) (names_push [] xs name)) ∙ less x name.now (newest_first [] xs) (bytes_eq x name.now) refl apart.0
+    set_shrinks s n name u x ∙ ap (λ b. not (bytes_eq x name.now) && b)
+    (told x ∙ ap (λ ys. has ys x) (names_push [] xs name))
+    ∙ less x name.now (newest_first [] xs) (bytes_eq x name.now) refl apart.0
 
 pub apart_less : (xs : List (Bor (List ℕ))) (name : Bor (List ℕ)) → AreApart (newest_first [] (xs ++ name ∷ [])) → AreApart (newest_first [] xs)
 apart_less xs name a = let apart : AreApart (name.now ∷ newest_first [] xs) = rw names_push at a in apart.1
@@ -102,7 +111,8 @@ forget_one (x ∷ xs) n h =
 
 -- ---- names one after another
 
-with_has : (known : List (List ℕ)) (name x : List ℕ) (b : Bool) → has known name ≡ b → has (if b then known else name ∷ known) x ≡ (bytes_eq x name || has known x)
+with_has : (known : List (List ℕ)) (name x : List ℕ) (b : Bool) → has known name ≡ b
+    → has (if b then known else name ∷ known) x ≡ (bytes_eq x name || has known x)
 with_has known name x true e = there_already (bytes_eq x name) (has known x) (λ p. ap (has known) (bytes_same x name p) ∙ e)
   where
     there_already : (b c : Bool) → (b ≡ true → c ≡ true) → c ≡ (b || c)

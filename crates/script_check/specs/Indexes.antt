@@ -22,16 +22,19 @@ at_text map x = get_by (λ key. slice_cmp nat_cmp x key.now) map
 abbrev pub parameters_in : List Declaration → List ℕ → Option ℕ
 parameters_in ds f = option_map (λ found. length found.parameters) (function_from f ds)
 
--- The set, or the map, tells what these declare.
+-- The set has the names of the stores that these declare.
 abbrev pub TellsStores : List Declaration → BTreeSet (Bor (List ℕ)) → Type 0
 TellsStores ds stores = (x : List ℕ) → holds stores x ≡ declares_store ds x
 
+-- The map has the columns of each table that these declare.
 abbrev pub TellsTables : List Declaration → BTreeMap (Bor (List ℕ)) (List Name) → Type 0
 TellsTables ds tables = (x : List ℕ) → at_text tables x ≡ columns_in ds x
 
+-- The map has how many parameters each function has that these declare.
 abbrev pub TellsFunctions : List Declaration → BTreeMap (Bor (List ℕ)) ℕ → Type 0
 TellsFunctions ds functions = (x : List ℕ) → at_text functions x ≡ parameters_in ds x
 
+-- The set has the paths of the pages that these declare.
 abbrev pub TellsPages : List Declaration → BTreeSet (Bor (List ℕ)) → Type 0
 TellsPages ds pages = (x : List ℕ) → holds pages x ≡ is_some (page_from 0 x ds)
 

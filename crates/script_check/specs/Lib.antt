@@ -1,9 +1,11 @@
 pub mod ColumnsView
 pub mod Counts
+pub mod DeclaredView
 pub mod Finds
-pub mod IndexView
+pub mod FoundByName
 pub mod Indexes
 pub mod Least
+pub mod LookupView
 pub mod Members
 pub mod Passes
 pub mod ProgramView

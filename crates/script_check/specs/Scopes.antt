@@ -21,6 +21,7 @@ abbrev pub AreApart : List (List ℕ) → Type 0
 AreApart [] = Unit {0}
 AreApart (x ∷ xs) = (has xs x ≡ false) × AreApart xs
 
+-- the names that are known, the newest first
 abbrev pub names_in : Inside → List (List ℕ)
 names_in scope = newest_first [] scope.declared.items
 

@@ -5,24 +5,23 @@ ghost use Rattle.script_check.specs.Finds.{Notes};
 ghost use Rattle.script_check.specs.Least.{IsLeast};
 ghost use Rattle.script_check.specs.Passes.{page_pass, bodies_faults, body_faults};
 
+use crate::declared::Declared;
 use crate::fault::{CheckFault, CheckFaultKind};
 use crate::found::Found;
-use crate::index::Index;
 use crate::scope::Scope;
 use crate::statement::check_block;
 use script_tree::syntax::declaration::Declaration;
+use script_tree::syntax::tree::Tree;
 use std::alloc::{AllocError, Global};
 use std::collections::BTreeSet;
 
 /// The least fault of a tree, none of a valid one.
-pub(crate) fn least_fault(
-    alloc: Global,
-    declarations: &[Declaration],
-) -> Result<Option<CheckFault>, AllocError>
-    ensures { IfOk result (IsLeast declarations.now) }
+pub(crate) fn least_fault(alloc: Global, tree: &Tree) -> Result<Option<CheckFault>, AllocError>
+    ensures { IfOk result (IsLeast tree.now) }
 {
     let mut found = Found::new();
-    let index = Index::new(alloc, declarations, &mut found)?;
+    let index = Declared::new(alloc, tree, &mut found)?;
+    let declarations = tree.declarations.as_slice();
     check_pages(alloc, declarations, &mut found)?;
     check_bodies(alloc, &index, declarations, &mut found)?;
     Ok(found.least)
@@ -46,10 +45,10 @@ fn check_pages(
     Ok(())
 }
 
-/// The bodies of the functions and of the pages of the program of this index.
+/// The bodies of the functions and of the pages of the program.
 fn check_bodies(
     alloc: Global,
-    index: &Index,
+    index: &Declared,
     declarations: &[Declaration],
     found: &mut Found,
 ) -> Result<(), AllocError>
@@ -63,7 +62,7 @@ fn check_bodies(
 
 fn check_body(
     alloc: Global,
-    index: &Index,
+    index: &Declared,
     declaration: &Declaration,
     found: &mut Found,
 ) -> Result<(), AllocError>

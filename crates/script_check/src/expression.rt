@@ -6,9 +6,9 @@ ghost use Rattle.script_check.specs.Members.{in_node, in_call, in_arguments, in_
 ghost use Rattle.script_check.specs.Validity.{called_faults, names_store};
 ghost use Rattle.script_check.specs.Validity.{store_faults, expression_faults};
 
+use crate::declared::Declared;
 use crate::fault::CheckFaultKind;
 use crate::found::Found;
-use crate::index::Index;
 use crate::query::{check_queries, has_queries};
 use crate::scope::Scope;
 use script_tree::limits::MOST_LITERAL_BYTES;
@@ -18,14 +18,14 @@ use script_tree::text::Text;
 
 /// How many arguments a function is called with: a built-in one, else one of the program.
 fn check_count(
-    index: &Index,
+    index: &Declared,
     at: usize,
     name: &[u8],
     builtin: Option<Builtin>,
     count: usize,
     found: &mut Found,
 )
-    ensures { Finds (called_faults at count builtin name.now index.now) found.old found.new }
+    ensures { Finds (called_faults index.now at count builtin name.now) found.old found.new }
 {
     match builtin {
         Some(builtin) => found.unless(count == builtin.arity(), at, CheckFaultKind::WrongCount),
@@ -44,7 +44,7 @@ fn takes_store(builtin: Option<Builtin>) -> bool
 }
 
 /// An argument that is to be the bare name of a store.
-fn check_store(index: &Index, argument: &Expression, found: &mut Found)
+fn check_store(index: &Declared, argument: &Expression, found: &mut Found)
     ensures { Finds (store_faults index.now argument.now) found.old found.new }
 {
     match &argument.node {
@@ -59,7 +59,7 @@ fn check_store(index: &Index, argument: &Expression, found: &mut Found)
 /// An expression, where these variables are known.
 #[cycle(expression)]
 pub(crate) fn check_expression(
-    index: &Index,
+    index: &Declared,
     scope: &Scope,
     expression: &Expression,
     found: &mut Found,
@@ -70,7 +70,7 @@ pub(crate) fn check_expression(
 }
 
 #[cycle(expression)]
-fn check_node(index: &Index, scope: &Scope, at: usize, node: &ExpressionNode, found: &mut Found)
+fn check_node(index: &Declared, scope: &Scope, at: usize, node: &ExpressionNode, found: &mut Found)
     ensures { Finds (in_node index.now scope.now at node.now) found.old found.new }
 {
     match node {
@@ -123,7 +123,7 @@ fn check_node(index: &Index, scope: &Scope, at: usize, node: &ExpressionNode, fo
 
 #[cycle(expression)]
 fn check_call(
-    index: &Index,
+    index: &Declared,
     scope: &Scope,
     at: usize,
     name: &Text,
@@ -132,14 +132,14 @@ fn check_call(
 )
     ensures { Finds (in_call index.now scope.now at name.now arguments.now) found.old found.new }
 {
-    let builtin = Builtin::named(name.as_bytes());
+    let builtin = Builtin::named(index.version(), name.as_bytes());
     check_count(index, at, name.as_bytes(), builtin, arguments.len(), found);
     check_arguments(index, scope, builtin, arguments.as_slice(), found);
 }
 
 #[cycle(expression)]
 fn check_arguments(
-    index: &Index,
+    index: &Declared,
     scope: &Scope,
     builtin: Option<Builtin>,
     arguments: &[Expression],
@@ -159,7 +159,7 @@ fn check_arguments(
 /// Expressions one after another.
 #[cycle(expression)]
 pub(crate) fn check_expressions(
-    index: &Index,
+    index: &Declared,
     scope: &Scope,
     expressions: &[Expression],
     found: &mut Found,

@@ -9,11 +9,12 @@ use crate::declaration::least_fault;
 use crate::fault::CheckFault;
 use basis::OrMemory;
 use script_tree::limits::TOO_MANY_DECLARATIONS;
-use script_tree::syntax::declaration::{Declaration, Tree};
+use script_tree::syntax::declaration::Declaration;
+use script_tree::syntax::tree::{Tree, Version};
 use std::alloc::Global;
 use std::marker::Model;
 
-/// A program: a tree without faults. Contracts see its declarations, in order.
+/// A program: a tree without faults. Contracts see its version and its declarations.
 #[derive(Drop)]
 pub struct Program {
     tree: Tree,
@@ -40,10 +41,10 @@ impl Model for Program {
 pub fn check(alloc: Global, tree: Tree) -> Result<Program, OrMemory<CheckFault>>
     ensures { IsChecked tree result }
 {
-    if tree.len() >= TOO_MANY_DECLARATIONS {
+    if tree.declarations.len() >= TOO_MANY_DECLARATIONS {
         return Err(OrMemory::Memory);
     }
-    match least_fault(alloc, tree.as_slice())? {
+    match least_fault(alloc, &tree)? {
         None => Ok(Program { tree }),
         Some(fault) => Err(OrMemory::Other(fault)),
     }
@@ -52,15 +53,22 @@ pub fn check(alloc: Global, tree: Tree) -> Result<Program, OrMemory<CheckFault>>
 impl Program {
     pub fn declarations(&self) -> &[Declaration]
         ensures declarations { result.now ≡ self.now.declarations }
-        ensures valid { IsValid self.now.declarations }
+        ensures valid { IsValid self.now }
         ensures few { length self.now.declarations < TOO_MANY_DECLARATIONS }
     {
-        self.tree.as_slice()
+        self.tree.declarations.as_slice()
+    }
+
+    /// The version of its language.
+    pub fn version(&self) -> Version
+        ensures { result ≡ self.now.version }
+    {
+        self.tree.version
     }
 
     /// Gives the tree back.
     pub fn into_tree(self) -> Tree
-        ensures { result ≡ self.declarations }
+        ensures { result ≡ self }
     {
         let Program { tree } = self;
         tree

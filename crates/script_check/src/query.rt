@@ -11,10 +11,10 @@ ghost use Rattle.script_check.specs.Validity.{columns_faults, set_faults};
 ghost use Rattle.script_check.specs.Validity.{query_faults, are_some, is_some_name, is_some_set};
 
 use crate::columns::Columns;
+use crate::declared::Declared;
 use crate::expression::{check_expression, check_expressions};
 use crate::fault::CheckFaultKind;
 use crate::found::Found;
-use crate::index::Index;
 use crate::scope::Scope;
 use script_tree::syntax::expression::{Assignment, Condition, Query, QueryNode};
 use script_tree::syntax::name::Name;
@@ -84,14 +84,14 @@ fn has_sets(sets: &[Assignment]) -> bool
 }
 
 #[cycle(expression)]
-fn check_query(index: &Index, scope: &Scope, query: &Query, found: &mut Found)
+fn check_query(index: &Declared, scope: &Scope, query: &Query, found: &mut Found)
     ensures { Finds (query_faults index.now scope.now query.now) found.old found.new }
 {
     check_query_node(index, scope, query.at, &query.node, found);
 }
 
 #[cycle(expression)]
-fn check_query_node(index: &Index, scope: &Scope, at: usize, node: &QueryNode, found: &mut Found)
+fn check_query_node(index: &Declared, scope: &Scope, at: usize, node: &QueryNode, found: &mut Found)
     ensures { Finds (in_query_node index.now scope.now at node.now) found.old found.new }
 {
     match node {
@@ -139,7 +139,7 @@ fn check_query_node(index: &Index, scope: &Scope, at: usize, node: &QueryNode, f
 
 /// The statements of a transaction.
 #[cycle(expression)]
-pub(crate) fn check_queries(index: &Index, scope: &Scope, queries: &[Query], found: &mut Found)
+pub(crate) fn check_queries(index: &Declared, scope: &Scope, queries: &[Query], found: &mut Found)
     ensures { Finds (in_queries index.now scope.now queries.now) found.old found.new }
 {
     for query in queries {
@@ -149,7 +149,7 @@ pub(crate) fn check_queries(index: &Index, scope: &Scope, queries: &[Query], fou
 
 #[cycle(expression)]
 fn check_tests(
-    index: &Index,
+    index: &Declared,
     scope: &Scope,
     table: Option<&Columns>,
     tests: &[Condition],
@@ -165,7 +165,7 @@ fn check_tests(
 
 #[cycle(expression)]
 fn check_sets(
-    index: &Index,
+    index: &Declared,
     scope: &Scope,
     table: Option<&Columns>,
     sets: &[Assignment],

@@ -6,10 +6,10 @@ ghost use Rattle.script_check.specs.Finds.{Notes};
 ghost use Rattle.script_check.specs.Members.{in_statement, in_kind, in_else};
 ghost use Rattle.script_check.specs.Validity.{block_faults, known_after};
 
+use crate::declared::Declared;
 use crate::expression::check_expression;
 use crate::fault::CheckFaultKind;
 use crate::found::Found;
-use crate::index::Index;
 use crate::scope::Scope;
 use script_tree::syntax::statement::{Else, Statement, StatementNode};
 use std::alloc::AllocError;
@@ -17,7 +17,7 @@ use std::alloc::AllocError;
 /// The statements of a block. What they declare is known up to its end.
 #[cycle(statement)]
 pub(crate) fn check_block<'a>(
-    index: &Index,
+    index: &Declared,
     scope: &mut Scope<'a>,
     block: &'a [Statement],
     found: &mut Found,
@@ -35,7 +35,7 @@ pub(crate) fn check_block<'a>(
 
 #[cycle(statement)]
 fn check_statement<'a>(
-    index: &Index,
+    index: &Declared,
     scope: &mut Scope<'a>,
     statement: &'a Statement,
     found: &mut Found,
@@ -48,7 +48,7 @@ fn check_statement<'a>(
 
 #[cycle(statement)]
 fn check_statement_node<'a>(
-    index: &Index,
+    index: &Declared,
     scope: &mut Scope<'a>,
     at: usize,
     node: &'a StatementNode,
@@ -98,7 +98,7 @@ fn check_statement_node<'a>(
 
 #[cycle(statement)]
 fn check_else<'a>(
-    index: &Index,
+    index: &Declared,
     scope: &mut Scope<'a>,
     otherwise: &'a Else,
     found: &mut Found,

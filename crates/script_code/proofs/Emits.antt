@@ -20,16 +20,19 @@ use Rattle.script_code.specs.declared.instruction.Instruction.TheVariants.{Branc
 use Rattle.script_code.specs.declared.instruction.Instruction.{Instruction}
 
 -- an instruction is written before others, and again after them
-pub patched : (base mid c1 c2 : Instructions) (x i : Instruction) (n : ℕ) → n ≡ length base → c1 ≡ base ++ x ∷ [] → c2 ≡ c1 ++ mid → slice_set c2 n i ≡ base ++ i ∷ mid
+pub patched : (base mid c1 c2 : Instructions) (x i : Instruction) (n : ℕ) → n ≡ length base → c1 ≡ base ++ x ∷ []
+    → c2 ≡ c1 ++ mid → slice_set c2 n i ≡ base ++ i ∷ mid
 patched base mid c1 c2 x i n a b c =
     (λ z. slice_set ((c ∙ ap (λ l. l ++ mid) b ∙ append_assoc base (x ∷ []) mid) z) (a z) i) ∙ set-append_seam base x mid i
 
 -- how many stand after it
-pub passed_by : (base mid c1 c2 : Instructions) (x : Instruction) (n m : ℕ) → n ≡ length base → c1 ≡ base ++ x ∷ [] → c2 ≡ c1 ++ mid → m ≡ length c2 → m - n ≡ length mid + 1
+pub passed_by : (base mid c1 c2 : Instructions) (x : Instruction) (n m : ℕ) → n ≡ length base → c1 ≡ base ++ x ∷ []
+    → c2 ≡ c1 ++ mid → m ≡ length c2 → m - n ≡ length mid + 1
 passed_by base mid c1 c2 x n m a b c d = omega (arith, a, d, ap length b, ap length c, length-append base (x ∷ []), length-append c1 mid)
 
 -- a jump past the code that was written after it
-pub jump_written : (jump : ℕ → Instruction) (base mid c1 c2 : Instructions) (x : Instruction) (n m : ℕ) → n ≡ length base → c1 ≡ base ++ x ∷ [] → c2 ≡ c1 ++ mid → m ≡ length c2
+pub jump_written : (jump : ℕ → Instruction) (base mid c1 c2 : Instructions) (x : Instruction) (n m : ℕ)
+    → n ≡ length base → c1 ≡ base ++ x ∷ [] → c2 ≡ c1 ++ mid → m ≡ length c2
     → slice_set c2 n (jump (m - n - 1)) ≡ base ++ jumped jump mid
 jump_written jump base mid c1 c2 x n m a b c d =
     let by = passed_by base mid c1 c2 x n m a b c d in
@@ -53,12 +56,14 @@ query_lighter [] i q h p = absurd (omega arith)
 query_lighter (t ∷ qs) zero q h p = rw p (omega arith)
 query_lighter (t ∷ qs) (suc i) q h p = omega (arith, query_lighter qs i q (omega arith) p)
 
-pub condition_lighter : (cs : List Condition) (i : ℕ) (c : Condition) → i < length cs → c ≡ get_or cs i c → expression_weight c.value < condition_list_weight (map condition_of cs)
+pub condition_lighter : (cs : List Condition) (i : ℕ) (c : Condition) → i < length cs → c ≡ get_or cs i c
+    → expression_weight c.value < condition_list_weight (map condition_of cs)
 condition_lighter [] i c h p = absurd (omega arith)
 condition_lighter (t ∷ cs) zero c h p = rw p (omega arith)
 condition_lighter (t ∷ cs) (suc i) c h p = omega (arith, condition_lighter cs i c (omega arith) p)
 
-pub assignment_lighter : (as' : List Assignment) (i : ℕ) (a : Assignment) → i < length as' → a ≡ get_or as' i a → expression_weight a.value < assignment_list_weight (map assignment_of as')
+pub assignment_lighter : (as' : List Assignment) (i : ℕ) (a : Assignment) → i < length as' → a ≡ get_or as' i a
+    → expression_weight a.value < assignment_list_weight (map assignment_of as')
 assignment_lighter [] i a h p = absurd (omega arith)
 assignment_lighter (t ∷ as') zero a h p = rw p (omega arith)
 assignment_lighter (t ∷ as') (suc i) a h p = omega (arith, assignment_lighter as' i a (omega arith) p)
@@ -79,7 +84,8 @@ store_first program f (meant.own g) = refl
 store_first program f (meant.built b) = refl
 store_first program f meant.unknown = refl
 
-pub call_as_numbered : (program : Program) (f store : List ℕ) (n : ℕ) (c : meant.Callee) → call_of (numbered program f c) store n ≡ call_code program f store n c
+pub call_as_numbered : (program : Program) (f store : List ℕ) (n : ℕ) (c : meant.Callee)
+    → call_of (numbered program f c) store n ≡ call_code program f store n c
 call_as_numbered program f store n (meant.own g) = refl
 call_as_numbered program f store n (meant.built b) = refl
 call_as_numbered program f store n meant.unknown = refl
@@ -93,10 +99,14 @@ all_arguments program ns no_expression = refl
 all_arguments program ns (expression e es) = refl
 
 -- the arguments, and the call after them
-pub call_written : (program : Program) (ns : Names) (f : List ℕ) (es es1 es2 : List Expression) (callee : Callee) (takes : Bool) (call : Instruction) (c0 c1 c2 : Instructions)
-    → es1 ≡ es → es2 ≡ es → callee ≡ callee_named program f → takes ≡ has_store_first callee → call ≡ call_of callee (store_name (expressions_of es2)) (length es2)
+pub call_written : (program : Program) (ns : Names) (f : List ℕ) (es es1 es2 : List Expression) (callee : Callee)
+    (takes : Bool) (call : Instruction) (c0 c1 c2 : Instructions)
+    → es1 ≡ es → es2 ≡ es → callee ≡ callee_named program f → takes ≡ has_store_first callee
+    → call ≡ call_of callee (store_name (expressions_of es2)) (length es2)
     → c1 ≡ c0 ++ arguments_code program ns takes (expressions_of es1) → c2 ≡ c1 ++ call ∷ []
-    → c2 ≡ c0 ++ (arguments_code program ns (names_store (meant.callee_in program f)) (expressions_of es) ++ call_code program f (store_name (expressions_of es)) (how_many (expressions_of es)) (meant.callee_in program f) ∷ [])
+    → c2 ≡ c0 ++ (arguments_code program ns (names_store (meant.callee_in program f)) (expressions_of es)
+    ++ call_code program f (store_name (expressions_of es)) (how_many (expressions_of es))
+    (meant.callee_in program f) ∷ [])
 call_written program ns f es es1 es2 callee takes call c0 c1 c2 same1 same2 named stores calls written put =
     let stored : takes ≡ names_store (meant.callee_in program f) = stores ∙ ap has_store_first named ∙ store_first program f (meant.callee_in program f) in
     let called : call ≡ call_code program f (store_name (expressions_of es)) (how_many (expressions_of es)) (meant.callee_in program f) =

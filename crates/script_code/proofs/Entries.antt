@@ -52,19 +52,22 @@ is_none : {A : Type 0} (o : Option A) (b : Bool) → b ≡ is_some o → b ≡ f
 is_none (Some x) b p q = cc
 is_none None b p q = refl
 
-put_at : (map : Pages) (x name : List ℕ) (v : PageEntry) (a b : Bool) → bytes_eq x name ≡ b → a ≡ b → at_path map name ≡ None → cond a (Some v) (at_path map x) ≡ or_else (at_path map x) (if b then Some v else None)
+put_at : (map : Pages) (x name : List ℕ) (v : PageEntry) (a b : Bool) → bytes_eq x name ≡ b → a ≡ b
+    → at_path map name ≡ None → cond a (Some v) (at_path map x) ≡ or_else (at_path map x) (if b then Some v else None)
 unfolding or_else
 put_at map x name v true true e same none = rw (ap (at_path map) (bytes_same x name e) ∙ none) refl
 put_at map x name v true false e same none = cc
 put_at map x name v false true e same none = cc
 put_at map x name v false false e same none = or_none (at_path map x)
 
-pub puts_new : (map after : Pages) (name : List ℕ) (v : PageEntry) (known : Bool) → known ≡ is_some (at_path map name) → known ≡ false → tree.UpdatesBy (slice_cmp nat_cmp) (slice_cmp nat_cmp name) map after (Some v)
+pub puts_new : (map after : Pages) (name : List ℕ) (v : PageEntry) (known : Bool) → known ≡ is_some (at_path map name)
+    → known ≡ false → tree.UpdatesBy (slice_cmp nat_cmp) (slice_cmp nat_cmp name) map after (Some v)
     → PutsPage name v map after
 puts_new map after name v known told new u x =
     u.0 x ∙ put_at map x name v (is_eq (slice_cmp nat_cmp name x)) (bytes_eq x name) refl (is_name name x) (is_none (at_path map name) known told new)
 
-kept_at : (map : Pages) (x name : List ℕ) (v : PageEntry) (b : Bool) → bytes_eq x name ≡ b → is_some (at_path map name) ≡ true → at_path map x ≡ or_else (at_path map x) (if b then Some v else None)
+kept_at : (map : Pages) (x name : List ℕ) (v : PageEntry) (b : Bool) → bytes_eq x name ≡ b
+    → is_some (at_path map name) ≡ true → at_path map x ≡ or_else (at_path map x) (if b then Some v else None)
 kept_at map x name v true e some = or_else_some (at_path map x) (Some v) (ap (λ t. is_some (at_path map t)) (bytes_same x name e) ∙ some)
 kept_at map x name v false e some = or_none (at_path map x)
 

@@ -7,7 +7,7 @@ use Rattle.script_tree.specs.Datum.{Datum}
 use Rattle.script_tree.specs.Requests.{Request}
 use Rattle.script_tree.specs.declared.limits.TheConstants.{MOST_STEPS}
 use Rattle.script_meaning.specs.Evaluate.{Flow}
-use Rattle.script_meaning.specs.Run.{Run, Progress, Outcome, goes, stops, after, ◌>>=◌}
+use Rattle.script_meaning.specs.Run.{Run, Progress, Ran, goes, stops, after, ◌>>=◌}
 use Rattle.script_code.specs.Code.{Instructions}
 use Rattle.script_code.specs.CodeRun.{Frame, step, exec}
 use Rattle.script_code.specs.declared.instruction.Instruction.{Instruction}
@@ -15,7 +15,7 @@ use Rattle.script_code.proofs.Spends.{Spent, Spends}
 
 -- what comes of a place, by the number of instructions that may still be made
 abbrev pub Goal : Type 0
-Goal = ℕ → Outcome Flow
+Goal = ℕ → Ran Flow
 
 pub record Leads (here there : Goal) : Type 0 where
   pub count : ℕ
@@ -33,21 +33,23 @@ leads_on here there end l m = record {
 pub leads_one : (here there : Goal) → ((k : ℕ) → here (suc k) ≡ there k) → Leads here there
 leads_one here there h = record { count = 1; by = λ k. let e : 1 + k ≡ suc k = omega arith in ap here e ∙ h k }
 
--- From here the machine does as the outcome: it gets there with a value and a progress of which P holds, or stops so.
-abbrev pub Does : {A : Type 0} → Goal → (A → Progress → Type 0) → (A → Progress → Goal) → Outcome A → Type 0
+-- From here the machine does as the run did: it gets there with a value and a progress of which P holds, or stops so.
+abbrev pub Does : {A : Type 0} → Goal → (A → Progress → Type 0) → (A → Progress → Goal) → Ran A → Type 0
 Does here P there (goes a q) = P a q × Leads here (there a q)
 Does here P there (stops e q) = Leads here (λ k. stops e q)
 
-pub does_from : {A : Type 0} (here start : Goal) (P : A → Progress → Type 0) (there : A → Progress → Goal) (o : Outcome A) → Leads here start → Does start P there o → Does here P there o
+pub does_from : {A : Type 0} (here start : Goal) (P : A → Progress → Type 0) (there : A → Progress → Goal) (o : Ran A)
+    → Leads here start → Does start P there o → Does here P there o
 does_from here start P there (goes a q) l d = (d.0, leads_on here start (there a q) l d.1)
 does_from here start P there (stops e q) l d = leads_on here start (λ k. stops e q) l d
 
-pub does_then : {A B : Type 0} (here : Goal) (P : A → Progress → Type 0) (Q : B → Progress → Type 0) (mid : A → Progress → Goal) (there : B → Progress → Goal) (o : Outcome A) (f : A → Run B)
+pub does_then : {A B : Type 0} (here : Goal) (P : A → Progress → Type 0) (Q : B → Progress → Type 0)
+    (mid : A → Progress → Goal) (there : B → Progress → Goal) (o : Ran A) (f : A → Run B)
     → Does here P mid o → ((a : A) (q : Progress) → P a q → Does (mid a q) Q there (f a q)) → Does here Q there (after o f)
 does_then here P Q mid there (goes a q) f d h = does_from here (mid a q) Q there (f a q) d.1 (h a q d.0)
 does_then here P Q mid there (stops e q) f d h = d
 
-pub does_to : {A : Type 0} (here : Goal) (P Q : A → Progress → Type 0) (mid there : A → Progress → Goal) (o : Outcome A)
+pub does_to : {A : Type 0} (here : Goal) (P Q : A → Progress → Type 0) (mid there : A → Progress → Goal) (o : Ran A)
     → Does here P mid o → ((a : A) (q : Progress) → P a q → Q a q × Leads (mid a q) (there a q)) → Does here Q there o
 does_to here P Q mid there (goes a q) d h = let k = h a q d.0 in (k.0, leads_on here (mid a q) (there a q) d.1 k.1)
 does_to here P Q mid there (stops e q) d h = d
@@ -88,11 +90,12 @@ pub lower : (low low' : ℕ) (q : Progress) → low' ≤ low → Fine low q → 
 lower low low' q le h = record { least = omega (arith, h.least, le); most = h.most }
 
 -- what is done after what was done
-pub after_after : {A B C : Type 0} (o : Outcome A) (f : A → Run B) (g : B → Run C) → after (after o f) g ≡ after o (λ a. f a >>= g)
+pub after_after : {A B C : Type 0} (o : Ran A) (f : A → Run B) (g : B → Run C) → after (after o f) g ≡ after o (λ a. f a >>= g)
 after_after (goes a q) f g = refl
 after_after (stops e q) f g = refl
 
-prim_ways : {A : Type 0} (here : Goal) (there : A → Progress → Goal) (n : ℕ) (p : Progress) (o : Outcome A) → Spent n p o → p.steps ≤ MOST_STEPS → ((k : ℕ) → here (suc k) ≡ after o (λ a q. there a q k))
+prim_ways : {A : Type 0} (here : Goal) (there : A → Progress → Goal) (n : ℕ) (p : Progress) (o : Ran A) → Spent n p o
+    → p.steps ≤ MOST_STEPS → ((k : ℕ) → here (suc k) ≡ after o (λ a q. there a q k))
     → Does here (λ a q. Fine (n + p.steps) q) there o
 prim_ways here there n p (goes a q) s most h = (record { least = s.0; most = s.1 most }, leads_one here (there a q) h)
 prim_ways here there n p (stops e q) s most h = leads_one here (λ k. stops e q) h
@@ -103,16 +106,19 @@ module _ (request : Request) (functions : List ℕ) (code : Instructions) where
   at fs pc st vs p = λ k. exec request functions code k fs pc st vs p
 
   -- an instruction that does what m does, and then goes on
-  pub prim : {A : Type 0} (fs : List Frame) (pc : ℕ) (st vs : List Datum) (p : Progress) (n : ℕ) (i : Instruction) → slice_get code pc ≡ Some i → p.steps ≤ MOST_STEPS → (m : Run A) → Spends n m → (there : A → Progress → Goal)
+  pub prim : {A : Type 0} (fs : List Frame) (pc : ℕ) (st vs : List Datum) (p : Progress) (n : ℕ) (i : Instruction)
+      → slice_get code pc ≡ Some i → p.steps ≤ MOST_STEPS → (m : Run A) → Spends n m → (there : A → Progress → Goal)
       → ((k : ℕ) → step request functions (Some i) (exec request functions code k) fs pc st vs p ≡ after (m p) (λ a q. there a q k))
       → Does (at fs pc st vs p) (λ a q. Fine (n + p.steps) q) there (m p)
   prim fs pc st vs p n i here most m s there h =
-      prim_ways (at fs pc st vs p) there n p (m p) (s.by p) most (λ k. ap (λ o. step request functions o (exec request functions code k) fs pc st vs p) here ∙ h k)
+      prim_ways (at fs pc st vs p) there n p (m p) (s.by p) most
+      (λ k. ap (λ o. step request functions o (exec request functions code k) fs pc st vs p) here ∙ h k)
 
   -- an instruction that does nothing but go on
   pub move : (fs : List Frame) (pc : ℕ) (st vs : List Datum) (p : Progress) (i : Instruction) → slice_get code pc ≡ Some i → (there : Goal)
       → ((k : ℕ) → step request functions (Some i) (exec request functions code k) fs pc st vs p ≡ there k) → Leads (at fs pc st vs p) there
-  move fs pc st vs p i here there h = leads_one (at fs pc st vs p) there (λ k. ap (λ o. step request functions o (exec request functions code k) fs pc st vs p) here ∙ h k)
+  move fs pc st vs p i here there h = leads_one (at fs pc st vs p) there
+      (λ k. ap (λ o. step request functions o (exec request functions code k) fs pc st vs p) here ∙ h k)
 
   pub same_place : (fs : List Frame) (pc pc' : ℕ) (st vs : List Datum) (p : Progress) → pc ≡ pc' → Leads (at fs pc st vs p) (at fs pc' st vs p)
   same_place fs pc pc' st vs p e = leads_same (at fs pc st vs p) (at fs pc' st vs p) (λ k. ap (λ n. exec request functions code k fs n st vs p) e)

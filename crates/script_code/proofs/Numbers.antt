@@ -31,7 +31,8 @@ number_is [] n f = refl
 number_is (Store at name ∷ ds) n f = number_is ds n f
 number_is (Table at name columns ∷ ds) n f = number_is ds n f
 number_is (Function at name parameters body ∷ ds) n f =
-    one (bytes_eq f name.text) (record { parameters = parameters; body = body }) n (function_from (n + 1) f ds) (number_from (n + 1) f ds) (meant.function_from f ds) (number_is ds (n + 1) f)
+    one (bytes_eq f name.text) (record { parameters = parameters; body = body }) n (function_from (n + 1) f ds)
+    (number_from (n + 1) f ds) (meant.function_from f ds) (number_is ds (n + 1) f)
 number_is (Page at path body ∷ ds) n f = number_is ds n f
 
 -- what a name calls, by the number that was found and the built-in function that has the name
@@ -40,7 +41,8 @@ chosen (Some n) b = Own n
 chosen None (Some b) = Builtin b
 chosen None None = Unknown
 
-as_found : (program : Program) (f : List ℕ) (found : Option ℕ) (p : Option DeclaredFunction) (b : Option builtin.Builtin) → found ≡ option_map (λ h. function_number program f) p
+as_found : (program : Program) (f : List ℕ) (found : Option ℕ) (p : Option DeclaredFunction)
+    (b : Option builtin.Builtin) → found ≡ option_map (λ h. function_number program f) p
     → chosen found b ≡ numbered program f (meant.callee p b)
 as_found program f (Some n) (Some g) b e = ap Own (some_is e)
 as_found program f (Some n) None b e = absurd (none_is_not (sym e))
@@ -48,10 +50,12 @@ as_found program f None (Some g) b e = absurd (none_is_not e)
 as_found program f None None (Some b) e = refl
 as_found program f None None None e = refl
 
-pub found_callee : (program : Program) (f : List ℕ) (found : Option ℕ) → found ≡ number_from 0 f program.declarations → chosen found (builtin_of f) ≡ callee_named program f
-found_callee program f found e = as_found program f found (meant.function_in program f) (builtin_of f) (e ∙ number_is program.declarations 0 f)
+pub found_callee : (program : Program) (f : List ℕ) (found : Option ℕ) → found ≡ number_from 0 f program.declarations
+    → chosen found (builtin_of program.version f) ≡ callee_named program f
+found_callee program f found e = as_found program f found (meant.function_in program f) (builtin_of program.version f) (e ∙ number_is program.declarations 0 f)
 
 -- the same, where a map tells the numbers
-pub told_callee : (numbers : BTreeMap (Bor (List ℕ)) ℕ) (program inner : Program) (x f : List ℕ) (found : Option ℕ) → TellsNumbers inner.declarations numbers → inner ≡ program → x ≡ f → found ≡ at_text numbers x
-    → chosen found (builtin_of f) ≡ callee_named program f
+pub told_callee : (numbers : BTreeMap (Bor (List ℕ)) ℕ) (program inner : Program) (x f : List ℕ) (found : Option ℕ)
+    → TellsNumbers inner.declarations numbers → inner ≡ program → x ≡ f → found ≡ at_text numbers x
+    → chosen found (builtin_of program.version f) ≡ callee_named program f
 told_callee numbers program inner x f found told same named e = found_callee program f found (e ∙ told x ∙ (λ j. number_from 0 (named j) (same j).declarations))

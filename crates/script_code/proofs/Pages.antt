@@ -18,7 +18,7 @@ use Rattle.script_check.specs.Validity.{IsValid}
 use Rattle.script_asks.proofs.Valid.{bodies_sound, page_sound}
 use Rattle.script_meaning.specs.Conduct.{conduct, on_page, ended, start}
 use Rattle.script_meaning.specs.Evaluate.{Setting, Flow, on, back, run, block}
-use Rattle.script_meaning.specs.Run.{Progress, Outcome, goes, stops}
+use Rattle.script_meaning.specs.Run.{Progress, Ran, goes, stops}
 use Rattle.script_meaning.specs.Costs.{keeping, page_run, costs_in, costs_on, costs_of}
 use Rattle.script_code.specs.Code.{Instructions, Names, Entry, texts, function_from, function_number, block_code, declaration_code, declarations_code, places_from, entry_from}
 use Rattle.script_code.specs.CodeRun.{exec}
@@ -42,16 +42,20 @@ module _ (program : Program) (functions : List ℕ) (code : Instructions) where
     all : code ≡ earlier ++ declarations_code program later
     behind : place ≡ length earlier
 
-  next : (earlier : Instructions) (place : ℕ) (x : Declaration) (later : List Declaration) → Stands earlier place (x ∷ later) → Stands (earlier ++ declaration_code program x) (place + length (declaration_code program x)) later
+  next : (earlier : Instructions) (place : ℕ) (x : Declaration) (later : List Declaration)
+      → Stands earlier place (x ∷ later) → Stands (earlier ++ declaration_code program x)
+      (place + length (declaration_code program x)) later
   next earlier place x later h = record {
     all = h.all ∙ sym (append_assoc earlier (declaration_code program x) (declarations_code program later));
     behind = omega (arith, h.behind, length-append earlier (declaration_code program x));
   }
 
-  none_here : (earlier : Instructions) (place : ℕ) (x : Declaration) (later : List Declaration) → declaration_code program x ≡ [] → Stands earlier place (x ∷ later) → Stands earlier place later
+  none_here : (earlier : Instructions) (place : ℕ) (x : Declaration) (later : List Declaration)
+      → declaration_code program x ≡ [] → Stands earlier place (x ∷ later) → Stands earlier place later
   none_here earlier place x later none h = record { all = h.all ∙ ap (λ is. earlier ++ (is ++ declarations_code program later)) none; behind = h.behind }
 
-  stands_here : (earlier : Instructions) (place : ℕ) (x : Declaration) (later : List Declaration) → Stands earlier place (x ∷ later) → HasAt code place (declaration_code program x)
+  stands_here : (earlier : Instructions) (place : ℕ) (x : Declaration) (later : List Declaration)
+      → Stands earlier place (x ∷ later) → HasAt code place (declaration_code program x)
   stands_here earlier place x later h =
       let is = declaration_code program x in
       has_front code place is (declarations_code program later)
@@ -66,13 +70,18 @@ module _ (program : Program) (functions : List ℕ) (code : Instructions) where
     found : slice_get functions number ≡ Some place
     has : HasAt code place (block_code program (texts g.parameters) (statements_of g.body) ++ End ∷ [])
 
-  function_at : (f : List ℕ) (g : DeclaredFunction) (later : List Declaration) (earlier : Instructions) (place : ℕ) (places : List ℕ) → Stands earlier place later → functions ≡ places ++ places_from program place later
+  function_at : (f : List ℕ) (g : DeclaredFunction) (later : List Declaration) (earlier : Instructions) (place : ℕ)
+      (places : List ℕ) → Stands earlier place later → functions ≡ places ++ places_from program place later
       → d.function_from f later ≡ Some g → IsFunctionAt (function_from (length places) f later) g
   function_at f g [] earlier place places h all is = absurd (none_is_not is)
-  function_at f g (Store at_ name ∷ ds) earlier place places h all is = function_at f g ds earlier place places (none_here earlier place (Store at_ name) ds refl h) all is
-  function_at f g (Table at_ name columns ∷ ds) earlier place places h all is = function_at f g ds earlier place places (none_here earlier place (Table at_ name columns) ds refl h) all is
+  function_at f g (Store at_ name ∷ ds) earlier place places h all is =
+      function_at f g ds earlier place places (none_here earlier place (Store at_ name) ds refl h) all is
+  function_at f g (Table at_ name columns ∷ ds) earlier place places h all is =
+      function_at f g ds earlier place places (none_here earlier place (Table at_ name columns) ds refl h) all is
   function_at f g (Page at_ path body ∷ ds) earlier place places h all is = function_at f g ds _ _ places (next earlier place (Page at_ path body) ds h) all is
-  function_at f g (Function at_ name parameters body ∷ ds) earlier place places h all is = by (bytes_eq f name.text) is (λ r. function_at f g ds _ _ (places ++ place ∷ []) (next earlier place x ds h) all' r)
+  function_at f g (Function at_ name parameters body ∷ ds) earlier place places h all is =
+      by (bytes_eq f name.text) is (λ r. function_at f g ds _ _ (places ++ place ∷ [])
+      (next earlier place x ds h) all' r)
     where
       x : Declaration
       x = Function at_ name parameters body
@@ -88,7 +97,8 @@ module _ (program : Program) (functions : List ℕ) (code : Instructions) where
       }
 
       by : (c : Bool) → cond c (Some (record { parameters = parameters; body = body })) (d.function_from f ds) ≡ Some g
-          → (d.function_from f ds ≡ Some g → IsFunctionAt (function_from (length (places ++ place ∷ [])) f ds) g) → IsFunctionAt (cond c (length places) (function_from (length places + 1) f ds)) g
+          → (d.function_from f ds ≡ Some g → IsFunctionAt (function_from (length (places ++ place ∷ [])) f ds) g)
+          → IsFunctionAt (cond c (length places) (function_from (length places + 1) f ds)) g
       by true r more = subst (λ y. IsFunctionAt (length places) y) (some_is r) here
       by false r more =
           let long : length (places ++ place ∷ []) ≡ length places + 1 = omega (arith, length-append places (place ∷ [])) in
@@ -103,15 +113,20 @@ module _ (program : Program) (functions : List ℕ) (code : Instructions) where
   IsEntryOf (Some page) None = ⊥
   IsEntryOf (Some page) (Some entry) = (entry.number ≡ page.number) × HasAt code entry.place (block_code program [] (statements_of page.body) ++ Halt ∷ [])
 
-  page_at : (path : List ℕ) (n : ℕ) (later : List Declaration) (earlier : Instructions) (place : ℕ) → Stands earlier place later → IsEntryOf (page_from n path later) (entry_from program n place path later)
+  page_at : (path : List ℕ) (n : ℕ) (later : List Declaration) (earlier : Instructions) (place : ℕ)
+      → Stands earlier place later → IsEntryOf (page_from n path later) (entry_from program n place path later)
   page_at path n [] earlier place h = tt
   page_at path n (Store at_ name ∷ ds) earlier place h = page_at path n ds earlier place (none_here earlier place (Store at_ name) ds refl h)
   page_at path n (Table at_ name columns ∷ ds) earlier place h = page_at path n ds earlier place (none_here earlier place (Table at_ name columns) ds refl h)
   page_at path n (Function at_ name parameters body ∷ ds) earlier place h = page_at path n ds _ _ (next earlier place (Function at_ name parameters body) ds h)
-  page_at path n (Page at_ name body ∷ ds) earlier place h = by (bytes_eq path name.text) (page_at path (n + 1) ds _ _ (next earlier place (Page at_ name body) ds h))
+  page_at path n (Page at_ name body ∷ ds) earlier place h =
+      by (bytes_eq path name.text) (page_at path (n + 1) ds _ _ (next earlier place (Page at_ name body) ds h))
     where
-      by : (c : Bool) → IsEntryOf (page_from (n + 1) path ds) (entry_from program (n + 1) (place + length (declaration_code program (Page at_ name body))) path ds)
-          → IsEntryOf (cond c (Some (record { number = n; body = body })) (page_from (n + 1) path ds)) (cond c (Some (record { number = n; place = place })) (entry_from program (n + 1) (place + length (declaration_code program (Page at_ name body))) path ds))
+      by : (c : Bool) → IsEntryOf (page_from (n + 1) path ds)
+          (entry_from program (n + 1) (place + length (declaration_code program (Page at_ name body))) path ds)
+          → IsEntryOf (cond c (Some (record { number = n; body = body })) (page_from (n + 1) path ds))
+          (cond c (Some (record { number = n; place = place }))
+          (entry_from program (n + 1) (place + length (declaration_code program (Page at_ name body))) path ds))
       by true more = (refl, stands_here earlier place (Page at_ name body) ds h)
       by false more = more
 
@@ -121,10 +136,14 @@ module _ (program : Program) (functions : List ℕ) (code : Instructions) where
   same_number (Some page) None h = absurd h
   same_number (Some page) (Some entry) h = ap Some h.0
 
-  numbered : code ≡ declarations_code program program.declarations → (path : List ℕ) → option_map (λ entry. entry.number) (entry_from program 0 0 path program.declarations) ≡ option_map (λ page. page.number) (page_in program path)
+  numbered : code ≡ declarations_code program program.declarations → (path : List ℕ)
+      → option_map (λ entry. entry.number) (entry_from program 0 0 path program.declarations)
+      ≡ option_map (λ page. page.number) (page_in program path)
   numbered is_code path = same_number _ _ (page_at path 0 program.declarations [] 0 (record { all = is_code; behind = refl }))
 
-  module _ (valid : IsValid program.declarations) (is_code : code ≡ declarations_code program program.declarations) (are_places : functions ≡ places_from program 0 program.declarations) (request : Request) (answers : List Datum) where
+  module _ (valid : IsValid program) (is_code : code ≡ declarations_code program program.declarations)
+      (are_places : functions ≡ places_from program 0 program.declarations) (request : Request)
+      (answers : List Datum) where
     abbrev setting : Setting
     setting = record { program = program; request = request }
 
@@ -142,20 +161,23 @@ module _ (program : Program) (functions : List ℕ) (code : Instructions) where
     linked f g is = (function_of f g is).has
 
     -- a page is over where its code ends, and where it gives a value back
-    abbrev over : Outcome Flow → Outcome Flow
+    abbrev over : Ran Flow → Ran Flow
     over (goes flow q) = goes (on []) q
     over (stops e q) = stops e q
 
-    over_ended : (number : ℕ) (o : Outcome Flow) → ended number (over o) ≡ ended number o
+    over_ended : (number : ℕ) (o : Ran Flow) → ended number (over o) ≡ ended number o
     over_ended number (goes flow q) = refl
     over_ended number (stops e q) = refl
 
-    page_ends : (ns : Names) (low pc : ℕ) (here : Goal) (o : Outcome Flow) → HasAt code pc (Halt ∷ []) → Does here (FineFlow ns low) (to setting functions code [] pc []) o → Leads here (λ k. over o)
+    page_ends : (ns : Names) (low pc : ℕ) (here : Goal) (o : Ran Flow) → HasAt code pc (Halt ∷ [])
+        → Does here (FineFlow ns low) (to setting functions code [] pc []) o → Leads here (λ k. over o)
     page_ends ns low pc here (goes (on us) q) has h = leads_on _ _ _ h.1 (move request functions code [] pc [] (values us) q Halt has.0 _ (λ k. refl))
     page_ends ns low pc here (goes (back x) q) has h = leads_on _ _ _ h.1 (leads_same _ _ (λ k. refl))
     page_ends ns low pc here (stops e q) has h = h
 
-    page_leads : (p : Progress) → p.steps ≡ 0 → (page : NumberedPage) (entry : Entry) → page_in program request.path ≡ Some page → HasAt code entry.place (block_code program [] (statements_of page.body) ++ Halt ∷ [])
+    page_leads : (p : Progress) → p.steps ≡ 0 → (page : NumberedPage) (entry : Entry)
+        → page_in program request.path ≡ Some page
+        → HasAt code entry.place (block_code program [] (statements_of page.body) ++ Halt ∷ [])
         → Leads (λ k. exec request functions code k [] entry.place [] [] p) (λ k. over (page_run program request p page))
     page_leads p none page entry is has =
         let ss = statements_of page.body in
@@ -166,18 +188,21 @@ module _ (program : Program) (functions : List ℕ) (code : Instructions) where
         let ends = page_ends (block_names [] ss) p.steps (entry.place + length b) _ (block setting (run setting MOST_STEPS) 0 ss [] p) (has_back code entry.place b (Halt ∷ []) has) does in
         record { count = ends.count; by = λ k. ends.by k ∙ ap (λ n. over (run setting n 0 ss [] p)) more }
 
-    over_costs : (o : Outcome Flow) → costs_in (over o) ≡ costs_in o
+    over_costs : (o : Ran Flow) → costs_in (over o) ≡ costs_in o
     over_costs (goes flow q) = refl
     over_costs (stops e q) = refl
 
-    conducts_page : (page : NumberedPage) (entry : Entry) → page_in program request.path ≡ Some page → entry.number ≡ page.number → HasAt code entry.place (block_code program [] (statements_of page.body) ++ Halt ∷ [])
+    conducts_page : (page : NumberedPage) (entry : Entry) → page_in program request.path ≡ Some page
+        → entry.number ≡ page.number → HasAt code entry.place
+        (block_code program [] (statements_of page.body) ++ Halt ∷ [])
         → (enough : ℕ) × ((k : ℕ) → code_conduct functions code (Some entry) request answers (enough + k) ≡ on_page program request answers (Some page))
     conducts_page page entry is number has =
         let ends = page_leads (start answers) refl page entry is has in
         let o = page_run program request (start answers) page in
         (ends.count, λ k. ap (ended entry.number) (ends.by k) ∙ over_ended entry.number o ∙ ap (λ n. ended n o) number)
 
-    charges_page : (page : NumberedPage) (entry : Entry) → page_in program request.path ≡ Some page → HasAt code entry.place (block_code program [] (statements_of page.body) ++ Halt ∷ [])
+    charges_page : (page : NumberedPage) (entry : Entry) → page_in program request.path ≡ Some page
+        → HasAt code entry.place (block_code program [] (statements_of page.body) ++ Halt ∷ [])
         → (enough : ℕ) × ((k : ℕ) → code_costs functions code (Some entry) request answers (enough + k) ≡ costs_on program request answers (Some page))
     charges_page page entry is has =
         let p : Progress = keeping (Some []) (start answers) in
@@ -191,8 +216,12 @@ module _ (program : Program) (functions : List ℕ) (code : Instructions) where
     charges (Some page) None is h = absurd h
     charges (Some page) (Some entry) is h = charges_page page entry is h.1
 
-    pub charged_so : (enough : ℕ) × ((k : ℕ) → code_costs functions code (entry_from program 0 0 request.path program.declarations) request answers (enough + k) ≡ costs_of program request answers)
-    charged_so = charges (page_in program request.path) (entry_from program 0 0 request.path program.declarations) refl (page_at request.path 0 program.declarations [] 0 whole)
+    pub charged_so : (enough : ℕ) × ((k : ℕ)
+        → code_costs functions code (entry_from program 0 0 request.path program.declarations) request answers
+        (enough + k) ≡ costs_of program request answers)
+    charged_so = charges (page_in program request.path)
+        (entry_from program 0 0 request.path program.declarations) refl
+        (page_at request.path 0 program.declarations [] 0 whole)
 
     conducts : (o : Option NumberedPage) (e : Option Entry) → page_in program request.path ≡ o → IsEntryOf o e
         → (enough : ℕ) × ((k : ℕ) → code_conduct functions code e request answers (enough + k) ≡ on_page program request answers o)
@@ -201,11 +230,15 @@ module _ (program : Program) (functions : List ℕ) (code : Instructions) where
     conducts (Some page) None is h = absurd h
     conducts (Some page) (Some entry) is h = conducts_page page entry is h.0 h.1
 
-    pub conducted : (enough : ℕ) × ((k : ℕ) → code_conduct functions code (entry_from program 0 0 request.path program.declarations) request answers (enough + k) ≡ conduct program request answers)
-    conducted = conducts (page_in program request.path) (entry_from program 0 0 request.path program.declarations) refl (page_at request.path 0 program.declarations [] 0 whole)
+    pub conducted : (enough : ℕ) × ((k : ℕ) → code_conduct functions code
+        (entry_from program 0 0 request.path program.declarations) request answers (enough + k)
+        ≡ conduct program request answers)
+    conducted = conducts (page_in program request.path)
+        (entry_from program 0 0 request.path program.declarations) refl
+        (page_at request.path 0 program.declarations [] 0 whole)
 
   -- the code, the places of its functions, and the entries of its pages mean the program
-  pub means : IsValid program.declarations → code ≡ declarations_code program program.declarations → functions ≡ places_from program 0 program.declarations
+  pub means : IsValid program → code ≡ declarations_code program program.declarations → functions ≡ places_from program 0 program.declarations
       → (pages : List ℕ → Option Entry) → ((path : List ℕ) → pages path ≡ entry_from program 0 0 path program.declarations) → Means program functions code pages
   means valid is_code are_places pages are_pages = record {
     conducts = λ request answers.

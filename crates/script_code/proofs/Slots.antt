@@ -24,7 +24,8 @@ slot_ways false d ds p = refl
 -- the slot of a name has its value
 pub slot_value : (x : List ℕ) (vs : Variables) → get_or (values vs) (slot_of (names vs) x) v.null ≡ value_in vs x
 slot_value x [] = refl
-slot_value x (u ∷ vs) = slot_ways (bytes_eq x u.name) u.value (values vs) (slot_of (names vs) x) ∙ ap (λ d. cond (bytes_eq x u.name) u.value d) (slot_value x vs)
+slot_value x (u ∷ vs) = slot_ways (bytes_eq x u.name) u.value (values vs) (slot_of (names vs) x)
+    ∙ ap (λ d. cond (bytes_eq x u.name) u.value d) (slot_value x vs)
 
 pub values_declared : (vs : Variables) (x : List ℕ) (d : Datum) → values (declared vs x d) ≡ values vs ++ d ∷ []
 values_declared [] x d = refl
@@ -48,7 +49,8 @@ pub names_length : (vs : Variables) → length vs ≡ length (names vs)
 names_length [] = refl
 names_length (v ∷ vs) = ap suc (names_length vs)
 
-assigned_ways : (b : Bool) (d : Datum) (u : Variable) (vs us : Variables) (p : ℕ) → values us ≡ set (values vs) p d → values (cond b (record u { value = d } ∷ vs) (u ∷ us)) ≡ set (values (u ∷ vs)) (cond b 0 (suc p)) d
+assigned_ways : (b : Bool) (d : Datum) (u : Variable) (vs us : Variables) (p : ℕ) → values us ≡ set (values vs) p d
+    → values (cond b (record u { value = d } ∷ vs) (u ∷ us)) ≡ set (values (u ∷ vs)) (cond b 0 (suc p)) d
 assigned_ways true d u vs us p h = refl
 assigned_ways false d u vs us p h = ap (λ l. u.value ∷ l) h
 
@@ -56,7 +58,8 @@ pub values_assigned : (x : List ℕ) (d : Datum) (vs : Variables) → values (as
 values_assigned x d [] = refl
 values_assigned x d (u ∷ vs) = assigned_ways (bytes_eq x u.name) d u vs (assigned vs x d) (slot_of (names vs) x) (values_assigned x d vs)
 
-names_ways : (b : Bool) (d : Datum) (u : Variable) (vs us : Variables) → names us ≡ names vs → names (cond b (record u { value = d } ∷ vs) (u ∷ us)) ≡ names (u ∷ vs)
+names_ways : (b : Bool) (d : Datum) (u : Variable) (vs us : Variables) → names us ≡ names vs
+    → names (cond b (record u { value = d } ∷ vs) (u ∷ us)) ≡ names (u ∷ vs)
 names_ways true d u vs us h = refl
 names_ways false d u vs us h = ap (λ l. u.name ∷ l) h
 

@@ -33,25 +33,34 @@ pub record AreFilled (ss : List Shape) (us : List Unchecked) : Type 0 where
 pub no_tests : AreTests [] []
 no_tests = record { with = refl; count = refl }
 
-pub more_tests : (s : TestShape) (ss : List TestShape) (d : Datum) (tests : List o.Test) → AreTests ss tests → AreTests (s ∷ ss) (record { column = s.column; comparison = s.comparison; value = d } ∷ tests)
-more_tests s ss d tests h = record { with = ap (λ ts. record { column = s.column; comparison = s.comparison; value = d } ∷ ts) h.with; count = ap (λ n. suc n) h.count }
+pub more_tests : (s : TestShape) (ss : List TestShape) (d : Datum) (tests : List o.Test) → AreTests ss tests
+    → AreTests (s ∷ ss) (record { column = s.column; comparison = s.comparison; value = d } ∷ tests)
+more_tests s ss d tests h = record {
+  with = ap
+      (λ ts. record { column = s.column; comparison = s.comparison; value = d } ∷ ts) h.with;
+  count =
+      ap (λ n. suc n) h.count;
+}
 
 pub no_changes : AreChanges [] []
 no_changes = record { with = refl; count = refl }
 
-pub more_changes : (x : ℕ) (xs : List ℕ) (d : Datum) (changes : List o.Change) → AreChanges xs changes → AreChanges (x ∷ xs) (record { column = x; value = d } ∷ changes)
+pub more_changes : (x : ℕ) (xs : List ℕ) (d : Datum) (changes : List o.Change) → AreChanges xs changes
+    → AreChanges (x ∷ xs) (record { column = x; value = d } ∷ changes)
 more_changes x xs d changes h = record { with = ap (λ cs. record { column = x; value = d } ∷ cs) h.with; count = ap (λ n. suc n) h.count }
 
 pub inserts : (t n : ℕ) (ds : List Datum) → length ds ≡ n → IsFilled (shape.Insert t n) (u.insert t ds)
 inserts t n ds h = record { with = refl; count = sym h }
 
-pub selects : (t : ℕ) (columns : List ℕ) (shapes : List TestShape) (tests : List o.Test) → AreTests shapes tests → IsFilled (shape.Select t columns shapes) (u.select t columns tests)
+pub selects : (t : ℕ) (columns : List ℕ) (shapes : List TestShape) (tests : List o.Test) → AreTests shapes tests
+    → IsFilled (shape.Select t columns shapes) (u.select t columns tests)
 selects t columns shapes tests h = record { with = ap (u.select t columns) h.with; count = h.count }
 
 pub deletes : (t : ℕ) (shapes : List TestShape) (tests : List o.Test) → AreTests shapes tests → IsFilled (shape.Delete t shapes) (u.delete t tests)
 deletes t shapes tests h = record { with = ap (u.delete t) h.with; count = h.count }
 
-pub expects : (t : ℕ) (shapes : List TestShape) (d : Datum) (tests : List o.Test) → AreTests shapes tests → IsFilled (shape.Expect t shapes) (u.expect d t tests)
+pub expects : (t : ℕ) (shapes : List TestShape) (d : Datum) (tests : List o.Test) → AreTests shapes tests
+    → IsFilled (shape.Expect t shapes) (u.expect d t tests)
 expects t shapes d tests h = record { with = ap (u.expect d t) h.with; count = ap (λ n. suc n) h.count }
 
 -- changes take the first values, which they need not be told
@@ -61,7 +70,8 @@ changes_first [] (d ∷ ds) es h = absurd (omega (arith, h))
 changes_first (x ∷ xs) [] es h = absurd (omega (arith, h))
 changes_first (x ∷ xs) (d ∷ ds) es h = ap (λ cs. record { column = x; value = d } ∷ cs) (changes_first xs ds es (omega (arith, h)))
 
-pub updates : (t : ℕ) (columns : List ℕ) (shapes : List TestShape) (changes : List o.Change) (tests : List o.Test) → AreChanges columns changes → AreTests shapes tests
+pub updates : (t : ℕ) (columns : List ℕ) (shapes : List TestShape) (changes : List o.Change) (tests : List o.Test)
+    → AreChanges columns changes → AreTests shapes tests
     → IsFilled (shape.Update t columns shapes) (u.update t changes tests)
 updates t columns shapes changes tests h k =
     let ds = changed changes in

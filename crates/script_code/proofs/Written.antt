@@ -25,7 +25,8 @@ pub written_table : (program : Program) (ds left : List Declaration) (n : ℕ) (
     → IsWritten program ds (Table at name columns ∷ left) n code → IsWritten program ds left n code
 written_table program ds left n code at name columns w = record { instructions = w.instructions; functions = w.functions; entries = w.entries }
 
-pub written_function : (program : Program) (ds left : List Declaration) (n : ℕ) (old new : Code) (at : ℕ) (name : Name) (parameters : List Name) (body : List Statement) (place : ℕ)
+pub written_function : (program : Program) (ds left : List Declaration) (n : ℕ) (old new : Code) (at : ℕ)
+    (name : Name) (parameters : List Name) (body : List Statement) (place : ℕ)
     → new.instructions.items ≡ old.instructions.items ++ declaration_code program (Function at name parameters body)
     → new.functions.items ≡ old.functions.items ++ place ∷ [] → place ≡ length old.instructions.items → new.pages ≡ old.pages
     → IsWritten program ds (Function at name parameters body ∷ left) n old → IsWritten program ds left n new
@@ -33,7 +34,8 @@ written_function program ds left n old new at name parameters body place wrote n
     let code = declaration_code program (Function at name parameters body) in
     let far : length new.instructions.items ≡ length old.instructions.items + length code = ap length wrote ∙ length-append old.instructions.items code in
     record {
-      instructions = ap (λ l. l ++ declarations_code program left) wrote ∙ append_assoc old.instructions.items code (declarations_code program left) ∙ w.instructions;
+      instructions = ap (λ l. l ++ declarations_code program left) wrote
+          ∙ append_assoc old.instructions.items code (declarations_code program left) ∙ w.instructions;
       functions =
           (λ j. noted j ++ places_from program (far j) left)
           ∙ append_assoc old.functions.items (place ∷ []) _
@@ -44,21 +46,25 @@ written_function program ds left n old new at name parameters body place wrote n
 
 pub written_page : (program : Program) (ds left : List Declaration) (n : ℕ) (old new : Code) (at : ℕ) (name : Name) (body : List Statement) (place : ℕ)
     → new.instructions.items ≡ old.instructions.items ++ declaration_code program (Page at name body)
-    → new.functions.items ≡ old.functions.items → place ≡ length old.instructions.items → PutsPage name.text (record { number = n; place = place }) old.pages new.pages
+    → new.functions.items ≡ old.functions.items → place ≡ length old.instructions.items
+    → PutsPage name.text (record { number = n; place = place }) old.pages new.pages
     → IsWritten program ds (Page at name body ∷ left) n old → IsWritten program ds left (n + 1) new
 written_page program ds left n old new at name body place wrote same here puts w =
     let code = declaration_code program (Page at name body) in
     let far : length new.instructions.items ≡ length old.instructions.items + length code = ap length wrote ∙ length-append old.instructions.items code in
     record {
-      instructions = ap (λ l. l ++ declarations_code program left) wrote ∙ append_assoc old.instructions.items code (declarations_code program left) ∙ w.instructions;
+      instructions = ap (λ l. l ++ declarations_code program left) wrote
+          ∙ append_assoc old.instructions.items code (declarations_code program left) ∙ w.instructions;
       functions = (λ j. same j ++ places_from program (far j) left) ∙ w.functions;
       entries = λ (path : List ℕ).
           (λ j. told new.pages path (entry_from program (n + 1) (far j) path left))
-          ∙ sym (one_more old.pages new.pages name.text (record { number = n; place = place }) path (entry_from program (n + 1) (length old.instructions.items + length code) path left) puts)
+          ∙ sym (one_more old.pages new.pages name.text (record { number = n; place = place }) path
+          (entry_from program (n + 1) (length old.instructions.items + length code) path left) puts)
           ∙ ap (λ k. told old.pages path (if bytes_eq path name.text then Some (record { number = n; place = k }) else entry_from program (n + 1) (length old.instructions.items + length code) path left)) here
           ∙ w.entries path;
     }
 
 -- the same of what is equal
-pub carried : (program : Program) (ds left : List Declaration) (m n : ℕ) (new code : Code) → m ≡ n → new ≡ code → IsWritten program ds left n code → IsWritten program ds left m new
+pub carried : (program : Program) (ds left : List Declaration) (m n : ℕ) (new code : Code) → m ≡ n → new ≡ code
+    → IsWritten program ds left n code → IsWritten program ds left m new
 carried program ds left m n new code few same w = subst₂ (λ k c. IsWritten program ds left k c) (sym few) (sym same) w

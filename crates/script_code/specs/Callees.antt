@@ -33,6 +33,7 @@ numbered program f (meant.own g) = Own (function_number program f)
 numbered program f (meant.built b) = Builtin b
 numbered program f meant.unknown = Unknown
 
+-- what a name calls in a program
 abbrev pub callee_named : Program → List ℕ → Callee
 callee_named program f = numbered program f (meant.callee_in program f)
 

@@ -18,6 +18,7 @@ use Rattle.script_code.specs.declared.instruction.Shape.{Shape}
 use Rattle.script_code.specs.declared.instruction.Shape.TheVariants as shape
 use Rattle.script_code.specs.declared.instruction.TestShape.{TestShape}
 
+-- code: instructions one after another
 abbrev pub Instructions : Type 0
 Instructions = List Instruction
 
@@ -38,9 +39,11 @@ function_from n f (Table at name columns ∷ ds) = function_from n f ds
 function_from n f (Function at name parameters body ∷ ds) = if bytes_eq f name.text then n else function_from (n + 1) f ds
 function_from n f (Page at path body ∷ ds) = function_from n f ds
 
+-- the number of a function of the program
 abbrev pub function_number : Program → List ℕ → ℕ
 function_number program f = function_from 0 f program.declarations
 
+-- how many expressions there are
 abbrev pub how_many : Expressions → ℕ
 how_many no_expression = 0
 how_many (expression e es) = suc (how_many es)
@@ -66,19 +69,23 @@ abbrev pub builtin_code : Bool → Builtin → List ℕ → ℕ → Instruction
 builtin_code true b store n = CallStore b store (n - 1)
 builtin_code false b store n = CallBuiltin b n
 
+-- the instruction of a call, by what its name calls
 abbrev pub call_code : Program → List ℕ → List ℕ → ℕ → Callee → Instruction
 call_code program f store n (own g) = Call (function_number program f) n
 call_code program f store n (built b) = builtin_code (takes_store b) b store n
 call_code program f store n unknown = CallUnknown n
 
+-- the tests of a `where` without their values
 abbrev pub tests_in : NumberedTable → Conditions → List TestShape
 tests_in t no_condition = []
 tests_in t (condition x comparison e cs) = record { column = column_in t x; comparison = comparison } ∷ tests_in t cs
 
+-- the columns that an `update` sets
 abbrev pub changes_in : NumberedTable → Assignments → List ℕ
 changes_in t no_assignment = []
 changes_in t (assignment x e as') = column_in t x ∷ changes_in t as'
 
+-- a statement of a transaction without its values
 abbrev pub shape_of : Program → Query → Shape
 shape_of program (insert at t es) = shape.Insert (table_in program t).number (how_many es)
 shape_of program (select at columns t cs) =
@@ -94,11 +101,13 @@ shape_of program (expect at e t cs) =
     let table = table_in program t in
     shape.Expect table.number (tests_in table cs)
 
+-- the statements of a transaction without their values
 abbrev pub shapes_of : Program → Queries → List Shape
 shapes_of program no_query = []
 shapes_of program (query q qs) = shape_of program q ∷ shapes_of program qs
 
 abbrev mutual
+  -- the code of an expression, which puts its value on the stack
   pub expression_code : Program → Names → Expression → Instructions
   expression_code program ns (number at n) = Push (v.number n) ∷ []
   expression_code program ns (text at bytes) = Push (v.text bytes) ∷ []
@@ -117,6 +126,7 @@ abbrev mutual
       ++ call_code program f (store_name es) (how_many es) (callee_in program f) ∷ []
   expression_code program ns (transact at qs) = queries_code program ns qs ++ Transact (shapes_of program qs) ∷ []
 
+  -- the code of expressions, one after another
   pub expressions_code : Program → Names → Expressions → Instructions
   expressions_code program ns no_expression = []
   expressions_code program ns (expression e es) = expression_code program ns e ++ expressions_code program ns es
@@ -127,6 +137,7 @@ abbrev mutual
   arguments_code program ns true (expression e es) = expressions_code program ns es
   arguments_code program ns false (expression e es) = expression_code program ns e ++ expressions_code program ns es
 
+  -- the code of the values that a statement of a transaction takes
   pub query_code : Program → Names → Query → Instructions
   query_code program ns (insert at t es) = expressions_code program ns es
   query_code program ns (select at columns t cs) = conditions_code program ns cs
@@ -134,14 +145,17 @@ abbrev mutual
   query_code program ns (delete at t cs) = conditions_code program ns cs
   query_code program ns (expect at e t cs) = expression_code program ns e ++ conditions_code program ns cs
 
+  -- the code of the values that all of them take
   pub queries_code : Program → Names → Queries → Instructions
   queries_code program ns no_query = []
   queries_code program ns (query q qs) = query_code program ns q ++ queries_code program ns qs
 
+  -- the code of the values of conditions
   pub conditions_code : Program → Names → Conditions → Instructions
   conditions_code program ns no_condition = []
   conditions_code program ns (condition x comparison e cs) = expression_code program ns e ++ conditions_code program ns cs
 
+  -- the code of the values of assignments
   pub assignments_code : Program → Names → Assignments → Instructions
   assignments_code program ns no_assignment = []
   assignments_code program ns (assignment x e as') = expression_code program ns e ++ assignments_code program ns as'
@@ -165,6 +179,7 @@ abbrev pub scoped_code : Names → Instructions → Instructions
 scoped_code ns block = block ++ Leave (length ns) ∷ []
 
 abbrev mutual
+  -- the code of a statement
   pub statement_code : Program → Names → Statement → Instructions
   statement_code program ns (let_ at x e) = expression_code program ns e ++ Declare ∷ []
   statement_code program ns (set_ at x e) = expression_code program ns e ++ Assign (slot_of ns x.text) ∷ []
@@ -178,26 +193,31 @@ abbrev mutual
   statement_code program ns (return at e) = expression_code program ns e ++ Return ∷ []
   statement_code program ns (do_ at e) = expression_code program ns e ++ Discard ∷ []
 
+  -- the code of an `else`, or of none
   pub else_code : Program → Names → Else → Instructions
   else_code program ns no_else = []
   else_code program ns (else_ ss) = block_code program ns ss
 
+  -- the code of statements, one after another
   pub block_code : Program → Names → Statements → Instructions
   block_code program ns no_statement = []
   block_code program ns (statement s ss) = statement_code program ns s ++ block_code program (names_after ns s) ss
 
 -- ---- declarations
 
+-- the texts of names
 abbrev pub texts : List Name → Names
 texts [] = []
 texts (x ∷ xs) = x.text ∷ texts xs
 
+-- the code of a declaration: stores and tables have none
 abbrev pub declaration_code : Program → Declaration → Instructions
 declaration_code program (Store at name) = []
 declaration_code program (Table at name columns) = []
 declaration_code program (Function at name parameters body) = block_code program (texts parameters) (statements_of body) ++ End ∷ []
 declaration_code program (Page at path body) = block_code program [] (statements_of body) ++ Halt ∷ []
 
+-- the code of declarations, one after another
 abbrev pub declarations_code : Program → List Declaration → Instructions
 declarations_code program [] = []
 declarations_code program (d ∷ ds) = declaration_code program d ++ declarations_code program ds

@@ -4,7 +4,7 @@ use Rattle.script_tree.specs.Datum as v
 use Rattle.script_tree.specs.Datum.{Datum, data_of}
 use Rattle.script_tree.specs.Requests.{Request}
 use Rattle.script_tree.specs.declared.fault.ScriptFault.{ScriptFault}
-use Rattle.script_tree.specs.declared.fault.ScriptFault.TheVariants.{WrongKind, TooDeep}
+use Rattle.script_tree.specs.declared.fault.ScriptFault.TheVariants.{WrongKind, TooDeep, OutOfSteps}
 use Rattle.script_tree.specs.declared.limits.TheConstants.{MOST_CALL_DEPTH}
 use Rattle.script_meaning.specs.Operations as o
 use Rattle.script_meaning.specs.BuiltinCalls.{built_in}
@@ -33,13 +33,20 @@ Next = (frames : List Frame) → (place : ℕ) → (stack slots : List Datum) �
 
 -- ---- the stack; where it lacks values, which no code of a program comes to, the run fails
 
+-- how a run fails where an instruction, a value on the stack or the place of a function is lacking: as no node does. The
+-- code of a program never comes to that.
+abbrev pub lacking : ScriptFault
+lacking = OutOfSteps
+
+-- with the topmost value and the stack without it
 abbrev pub on_one : List Datum → (Datum → List Datum → Run Flow) → Run Flow
-on_one [] go = fails WrongKind
+on_one [] go = fails lacking
 on_one (x ∷ st) go = go x st
 
+-- with the two topmost values, the topmost last, and the stack without them
 abbrev pub on_two : List Datum → (Datum → Datum → List Datum → Run Flow) → Run Flow
-on_two [] go = fails WrongKind
-on_two (y ∷ []) go = fails WrongKind
+on_two [] go = fails lacking
+on_two (y ∷ []) go = fails lacking
 on_two (y ∷ x ∷ st) go = go x y st
 
 -- so many values, the topmost last, before these
@@ -50,16 +57,19 @@ topmost (suc n) (x ∷ st) ds = topmost n st (x ∷ ds)
 
 -- ---- transactions: the statements of these shapes, with the values that they take in order
 
+-- these tests with their values
 abbrev pub tests_with : List TestShape → List Datum → List o.Test
 tests_with [] ds = []
 tests_with (t ∷ ts) [] = []
 tests_with (t ∷ ts) (d ∷ ds) = record { column = t.column; comparison = t.comparison; value = d } ∷ tests_with ts ds
 
+-- these columns with the values that they are set to
 abbrev pub changes_with : List ℕ → List Datum → List o.Change
 changes_with [] ds = []
 changes_with (x ∷ xs) [] = []
 changes_with (x ∷ xs) (d ∷ ds) = record { column = x; value = d } ∷ changes_with xs ds
 
+-- how many values the statement takes
 abbrev pub values_taken : Shape → ℕ
 values_taken (shape.Insert t n) = n
 values_taken (shape.Select t columns tests) = length tests
@@ -67,6 +77,7 @@ values_taken (shape.Update t changes tests) = length changes + length tests
 values_taken (shape.Delete t tests) = length tests
 values_taken (shape.Expect t tests) = suc (length tests)
 
+-- the statement with its values
 abbrev pub filled : Shape → List Datum → Unchecked
 filled (shape.Insert t n) ds = u.insert t ds
 filled (shape.Select t columns tests) ds = u.select t columns (tests_with tests ds)
@@ -74,10 +85,12 @@ filled (shape.Update t changes tests) ds = u.update t (changes_with changes ds) 
 filled (shape.Delete t tests) ds = u.delete t (tests_with tests ds)
 filled (shape.Expect t tests) ds = u.expect (first ds) t (tests_with tests (drop 1 ds))
 
+-- how many values the statements take
 abbrev pub all_taken : List Shape → ℕ
 all_taken [] = 0
 all_taken (s ∷ ss) = values_taken s + all_taken ss
 
+-- the statements with their values
 abbrev pub all_filled : List Shape → List Datum → List Unchecked
 all_filled [] ds = []
 all_filled (s ∷ ss) ds = filled s (take (values_taken s) ds) ∷ all_filled ss (drop (values_taken s) ds)
@@ -91,7 +104,7 @@ back_to next (f ∷ fs) d = next fs f.place (d ∷ f.stack) f.slots
 
 -- into the function that begins at a place
 abbrev pub enter : Next → List Frame → Option ℕ → Frame → List Datum → Run Flow
-enter next fs None frame ds = fails WrongKind
+enter next fs None frame ds = fails lacking
 enter next fs (Some place) frame ds = if length fs == MOST_CALL_DEPTH then fails TooDeep else next (frame ∷ fs) place [] ds
 
 -- ---- loops over a list
@@ -107,7 +120,7 @@ turn next fs out back whole st vs (Err f) = charge_for whole >> fails f
 module _ (request : Request) (functions : List ℕ) where
   -- one instruction, and what is next
   abbrev pub step : Option Instruction → Next → Next
-  step None next fs pc st vs = fails WrongKind
+  step None next fs pc st vs = fails lacking
   step (Some (Push d)) next fs pc st vs = node [] (Ok d) >>= λ x. next fs (pc + 1) (x ∷ st) vs
   step (Some (Load i)) next fs pc st vs = seen (slice_index_or vs i v.null) >>= λ x. next fs (pc + 1) (x ∷ st) vs
   step (Some (Unary op)) next fs pc st vs = on_one st (λ x rest. node (x ∷ []) (unary_answer op x) >>= λ d. next fs (pc + 1) (d ∷ rest) vs)
@@ -148,5 +161,5 @@ module _ (request : Request) (functions : List ℕ) where
 
   -- at most n instructions
   abbrev pub exec : Instructions → ℕ → Next
-  exec code zero fs pc st vs = fails WrongKind
+  exec code zero fs pc st vs = fails lacking
   exec code (suc n) fs pc st vs = step (slice_get code pc) (exec code n) fs pc st vs

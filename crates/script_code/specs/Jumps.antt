@@ -19,6 +19,7 @@ branch_beyond n = Branch (n + 1)
 abbrev pub scoped_block : Program → Names → List Statement → Instructions
 scoped_block program ns body = scoped_code ns (block_code program ns (statements_of body))
 
+-- the same of an `else`
 abbrev pub scoped_else : Program → Names → Else → Instructions
 scoped_else program ns other = scoped_code ns (else_code program ns other)
 

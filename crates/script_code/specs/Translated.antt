@@ -15,6 +15,7 @@ use Rattle.script_code.specs.declared.translate.PageEntry.{PageEntry}
 abbrev pub at_path : BTreeMap (List ℕ) PageEntry → List ℕ → Option PageEntry
 at_path map path = get_by (λ key. slice_cmp nat_cmp path key) map
 
+-- an entry, as the definition sees it
 abbrev pub entry_of : PageEntry → Entry
 entry_of page = record { number = page.number; place = page.place }
 

@@ -1,6 +1,4 @@
-ghost use Rattle.std.specs.Prelude.{◌≡◌, ℕ, length, IfOk};
-ghost use Rattle.script_tree.specs.ExpressionView.{expression_of};
-ghost use Rattle.script_tree.specs.Syntax.{expression, Expressions as Several};
+ghost use Rattle.std.specs.Prelude.{◌≡◌, length, IfOk};
 ghost use Rattle.script_tree.specs.SyntaxLists.{expressions_of};
 ghost use Rattle.script_meaning.specs.Evaluate.{store_name};
 ghost use Rattle.script_tree.specs.Builtins.{takes_store};
@@ -8,8 +6,9 @@ ghost use Rattle.script_code.specs.Callees.{call_of, has_store_first};
 ghost use Rattle.script_code.specs.Code.{builtin_code};
 
 use crate::instruction::Instruction;
+use script_meaning::store_names::store_name;
 use script_tree::syntax::builtin::Builtin;
-use script_tree::syntax::expression::{Expression, ExpressionNode};
+use script_tree::syntax::expression::Expression;
 use script_tree::text::Text;
 use std::alloc::{AllocError, Global};
 
@@ -64,37 +63,5 @@ fn builtin_call(
         Ok(Instruction::CallStore(builtin, store, operands.len().saturating_sub(1)))
     } else {
         Ok(Instruction::CallBuiltin(builtin, operands.len()))
-    }
-}
-
-/// The bare name of a store that a call's arguments begin with.
-fn store_name(operands: &[Expression]) -> &[u8]
-    ensures { result.now ≡ store_name (expressions_of operands.now) }
-{
-    match operands.first() {
-        Some(first) => bare_name(&first.node),
-        None => &[],
-    }
-}
-
-fn bare_name(node: &ExpressionNode) -> &[u8]
-    ensures { (at : ℕ) (es : Several)
-        → result.now ≡ store_name (expression (expression_of at node.now) es) }
-{
-    match node {
-        ExpressionNode::Variable(name) => name.as_bytes(),
-        ExpressionNode::Number(_)
-        | ExpressionNode::Text(_)
-        | ExpressionNode::Bool(_)
-        | ExpressionNode::Null
-        | ExpressionNode::Bracket(_)
-        | ExpressionNode::Call(_, _)
-        | ExpressionNode::List(_)
-        | ExpressionNode::Transact(_)
-        | ExpressionNode::Unary(_, _)
-        | ExpressionNode::Binary(_, _, _)
-        | ExpressionNode::And(_, _)
-        | ExpressionNode::Or(_, _)
-        | ExpressionNode::Index(_, _) => &[],
     }
 }

@@ -1,13 +1,13 @@
 ghost use Rattle.std.specs.Prelude.{◌≡◌, ◌++◌, ◌∷◌, [], IfOk, OnOk};
 ghost use Rattle.script_check.specs.Indexes.{Puts};
-ghost use Rattle.script_index.specs.Found.{table_of};
+ghost use Rattle.script_check.specs.FoundByName.{table_of};
 ghost use Rattle.script_tree.specs.Declarations.{table_in};
 ghost use Rattle.script_code.specs.Callees.{callee_named, TellsNumbers};
 
 use crate::callee::Callee;
 use crate::instruction::Instruction;
+use script_check::lookup::{FoundTable, Index};
 use script_check::program::Program;
-use script_index::{FoundTable, Index};
 use script_tree::syntax::builtin::Builtin;
 use script_tree::syntax::declaration::Declaration;
 use script_tree::syntax::name::Name;
@@ -57,7 +57,7 @@ impl<'a> Emitter<'a> {
     {
         match self.functions.get(name.as_bytes()) {
             Some(number) => Callee::Own(*number),
-            None => match Builtin::named(name.as_bytes()) {
+            None => match Builtin::named(self.index.program().version(), name.as_bytes()) {
                 Some(builtin) => Callee::Builtin(builtin),
                 None => Callee::Unknown,
             },

@@ -2,13 +2,13 @@ ghost use Rattle.std.specs.Prelude.{◌≡◌, map, IfOk};
 ghost use Rattle.script_tree.specs.Declarations.{column_in};
 ghost use Rattle.script_tree.specs.ExpressionView.{query_of, condition_of, assignment_of};
 ghost use Rattle.script_tree.specs.SyntaxLists.{queries_of, conditions_of, assignments_of};
-ghost use Rattle.script_index.specs.Found.{table_of};
+ghost use Rattle.script_check.specs.FoundByName.{table_of};
 ghost use Rattle.script_code.specs.Code.{shape_of, shapes_of, tests_in, changes_in};
 
 use crate::emitter::Emitter;
 use crate::instruction::{Shape, TestShape};
 use basis::Items;
-use script_index::FoundTable;
+use script_check::lookup::FoundTable;
 use script_tree::syntax::expression::{Assignments, Conditions, Queries, Query, QueryNode};
 use script_tree::syntax::name::Names;
 use std::alloc::{AllocError, Global};

@@ -1,3 +1,5 @@
+pub mod ActOf
+pub mod ActTested
 pub mod Changed
 pub mod OfProgram
 pub mod Stay

@@ -1,5 +1,5 @@
 -- An operation fits a program exactly where it is of the program and its values are within the limits.
-use Rattle.std.proofs.Common.{◌≡◌, ℕ, zero, suc, ◌<◌, ◌≤◌, Bool, true, false, ◌&&◌, List, [], ◌∷◌, length, map, Option, Some, None, ℤ, pos, negsuc, refl, sym, ap, subst, ◌∙◌, arith, true≢false, nat_eq, nat_lt, nat_le, int_le}
+use Rattle.std.proofs.Common.{◌≡◌, ℕ, zero, suc, Bool, true, false, ◌&&◌, List, [], ◌∷◌, length, map, Option, Some, None, ℤ, pos, negsuc, refl, sym, ap, subst, ◌∙◌, arith, true≢false, nat_eq, nat_lt, int_le}
 use Rattle.std.specs.Prelude.{◌≤ℤ◌}
 use Rattle.std.specs.List.{list_all}
 use Rattle.std.proofs.lemmas.Int.{ints}
@@ -25,7 +25,7 @@ use Rattle.script_fit.specs.FitsTransaction.{FitColumns, FitTests, FitChanges, F
 use Rattle.script_fit.specs.OfProgram.{is_key, is_row_key, row_is_of, tests_are_of, changes_are_of, is_of_width, if_there, statement_is_of, is_of_program, FittingIsTested}
 
 -- a test passes exactly where this holds
-abbrev Tells : Bool → Type 0 → Type 0
+abbrev pub Tells : Bool → Type 0 → Type 0
 Tells b P = (P → b ≡ true) × (b ≡ true → P)
 
 -- this holds exactly where a test passes and limits are kept
@@ -34,7 +34,7 @@ Splits b L P = (P → (b ≡ true) × L) × (b ≡ true → L → P)
 
 -- ---- keys
 
-key_tells : (k : List ℕ) → Tells (is_key k) (IsKey k)
+pub key_tells : (k : List ℕ) → Tells (is_key k) (IsKey k)
 key_tells k = (le-leb (length k) MOST_KEY_BYTES, leb-true (length k) MOST_KEY_BYTES)
 
 abbrev text_in : Datum → List ℕ
@@ -54,7 +54,7 @@ IsText (list ds) = ⊥
 not_a_key : (d : Datum) → (IsText d → ⊥) → Tells false (IsRowKey d)
 not_a_key d n = (λ h. absurd (n (subst (λ x. IsText x) (sym h.1) tt)), λ e. absurd (true≢false (sym e)))
 
-row_key_tells : (d : Datum) → Tells (is_row_key d) (IsRowKey d)
+pub row_key_tells : (d : Datum) → Tells (is_row_key d) (IsRowKey d)
 row_key_tells null = not_a_key null (λ x. x)
 row_key_tells (bool b) = not_a_key (bool b) (λ x. x)
 row_key_tells (number n) = not_a_key (number n) (λ x. x)
@@ -79,7 +79,7 @@ row_splits width row = (
       record { columns = eqb-true (length row) width p.0; key = (row_key_tells (key row)).1 p.1; values = each_within row l },
 )
 
-columns_tell : (width : ℕ) (cs : List ℕ) → Tells (list_all (λ c. nat_lt c width) cs) (FitColumns width cs)
+pub columns_tell : (width : ℕ) (cs : List ℕ) → Tells (list_all (λ c. nat_lt c width) cs) (FitColumns width cs)
 columns_tell width [] = (λ h. refl, λ e. tt)
 columns_tell width (c ∷ cs) = (
   λ h. and_from _ _ (lt-ltb c width h.0) ((columns_tell width cs).0 h.1),
@@ -138,7 +138,8 @@ statement_splits widths s = by (nth widths (table_of s)) refl
       λ t l. (w, e, (width_splits s w).1 t l),
     )
 
-statements_split : (widths : List ℕ) (ss : List Statement) → Splits (list_all (statement_is_of widths) ss) (AreStatementsWithinLimits ss) (FitStatements widths ss)
+statements_split : (widths : List ℕ) (ss : List Statement)
+    → Splits (list_all (statement_is_of widths) ss) (AreStatementsWithinLimits ss) (FitStatements widths ss)
 statements_split widths [] = (λ h. (refl, tt), λ e l. tt)
 statements_split widths (s ∷ ss) = (
   λ h.
@@ -151,11 +152,13 @@ statements_split widths (s ∷ ss) = (
 
 -- ---- operations
 
-bound_tells : (z : ℤ) → Tells (int_le (pos 1) z) (pos 1 ≤ℤ z)
+pub bound_tells : (z : ℤ) → Tells (int_le (pos 1) z) (pos 1 ≤ℤ z)
 bound_tells (pos n) = (λ h. le-leb 1 n (omega (arith, ints, h)), λ e. let l = leb-true 1 n e in omega (arith, ints, l))
 bound_tells (negsuc n) = (λ h. absurd (omega (arith, ints, h)), λ e. absurd (true≢false (sym e)))
 
-act_splits : (P : Program) (o : Object) (a : Act) → Splits (is_of_program P o a) (IsActWithinLimits a) (FitsAct (declares_store P.declarations) (table_widths P.declarations) o a)
+act_splits : (P : Program) (o : Object) (a : Act)
+    → Splits (is_of_program P o a) (IsActWithinLimits a)
+    (FitsAct (declares_store P.declarations) (table_widths P.declarations) o a)
 act_splits P (Register x) Read = (λ h. ((key_tells x).0 h, tt), λ e l. (key_tells x).1 e)
 act_splits P (Register x) (Write d) = (λ h. ((key_tells x).0 h.0, h.1), λ e l. ((key_tells x).1 e, l))
 act_splits P (Store s) (Get k) = (

@@ -30,7 +30,8 @@ same_object Clock Clock e = refl
 same_object Dice Dice e = refl
 same_object a b e = cc
 
-entry_with : (k : List ℕ) (d : Option Datum) (m : List ℕ → Option Datum) → IsEntry k d → ((x : List ℕ) → IsEntry x (m x)) → (x : List ℕ) → IsEntry x (with_key k d m x)
+entry_with : (k : List ℕ) (d : Option Datum) (m : List ℕ → Option Datum) → IsEntry k d
+    → ((x : List ℕ) → IsEntry x (m x)) → (x : List ℕ) → IsEntry x (with_key k d m x)
 entry_with k d m h s x = by (bytes_eq x k) refl
   where
     by : (b : Bool) → bytes_eq x k ≡ b → IsEntry x (cond b d (m x))
@@ -109,7 +110,9 @@ dice_stay (Roll bound) Nothing f = refl
 dice_stay (Roll bound) (Number n) f = refl
 
 -- The object that an act is of still holds what it may.
-object_stays : (program : Program) (o : Object) (act : Act) (choice : Choice) (cell : Cell) → FitsObject program o cell → FitsAct (declares_store program.declarations) (table_widths program.declarations) o act
+object_stays : (program : Program) (o : Object) (act : Act) (choice : Choice) (cell : Cell)
+    → FitsObject program o cell → FitsAct (declares_store program.declarations)
+    (table_widths program.declarations) o act
     → plausible act choice cell ≡ true → FitsObject program o (acted act choice cell).0
 object_stays program (Register x) act choice cell h f p =
     let s = register_stays x act choice h.0 h.2 f in (s.0, ap (λ c. (acted act choice c).0) h.1 ∙ s.1, s.2)

@@ -45,6 +45,7 @@ FitsTables widths (Transact statements) = FitsTransaction widths statements
 FitsTables widths Now = ⊥
 FitsTables widths (Roll bound) = ⊥
 
+-- the clock, which is read
 abbrev pub FitsClock : Act → Type 0
 FitsClock Read = ⊥
 FitsClock (Write d) = ⊥
@@ -55,6 +56,7 @@ FitsClock (Transact statements) = ⊥
 FitsClock Now = Unit {0}
 FitsClock (Roll bound) = ⊥
 
+-- the dice, which are rolled with a bound of at least 1
 abbrev pub FitsDice : Act → Type 0
 FitsDice Read = ⊥
 FitsDice (Write d) = ⊥
@@ -75,5 +77,6 @@ FitsAct stores widths Tables act = FitsTables widths act
 FitsAct stores widths Clock act = FitsClock act
 FitsAct stores widths Dice act = FitsDice act
 
+-- the act fits its object, where the program's stores and tables are there
 abbrev pub FitsOperation : Program → Op → Type 0
 FitsOperation program op = FitsAct (declares_store program.declarations) (table_widths program.declarations) op.object op.act

@@ -1,7 +1,7 @@
 -- When statements fit tables of these widths, the width of a table being how many columns it has.
 use Rattle.std.specs.Prelude.{◌≡◌, ◌<◌, ℕ, List, [], ◌∷◌, length, Some}
 use Rattle.basis.specs.Lists.{nth}
-use Rattle.script_tree.specs.Datum.{Datum, IsWithinLimits}
+use Rattle.script_tree.specs.Datum.{IsWithinLimits}
 use Rattle.script_tree.specs.Fit.{IsRow}
 use Rattle.script_tree.specs.Transactions.{Row}
 use Rattle.script_tree.specs.declared.transaction.Test.{Test}
@@ -39,6 +39,7 @@ FitsWidth width (Update t changes tests) =
 FitsWidth width (Delete t tests) = FitTests width tests
 FitsWidth width (Expect n t tests) = FitTests width tests
 
+-- the number of its table
 abbrev pub table_of : Statement → ℕ
 table_of (Insert t row) = t
 table_of (Select t columns tests) = t
@@ -50,6 +51,7 @@ table_of (Expect n t tests) = t
 abbrev pub FitsStatement : List ℕ → Statement → Type 0
 FitsStatement widths s = (width : ℕ) × (nth widths (table_of s) ≡ Some width) × FitsWidth width s
 
+-- each of the statements fits
 abbrev pub FitStatements : List ℕ → List Statement → Type 0
 FitStatements widths [] = Unit {0}
 FitStatements widths (s ∷ ss) = FitsStatement widths s × FitStatements widths ss

@@ -11,6 +11,7 @@ use Rattle.script_fit.specs.FitsOperation.{FitsOperation}
 abbrev pub objects_after : Op → Choice → Objects → Objects
 objects_after op choice objects = holding op.object (acted op.act choice (objects op.object)).0 objects
 
+-- objects that fit a program fit it after an operation that fits it, with a choice that the object takes
 abbrev pub StayFit : Type 0
 StayFit = (program : Program) (objects : Objects) (op : Op) (choice : Choice) → Fit program objects → FitsOperation program op
     → plausible op.act choice (objects op.object) ≡ true → Fit program (objects_after op choice objects)

@@ -67,21 +67,26 @@ statement_is_of widths s = if_there (is_of_width s) (nth widths (table_of s))
 
 -- ---- operations
 
+-- the act is one of the object's, and names only what is there: these stores, and tables of so many columns each
+abbrev pub is_act_of : (List ℕ → Bool) → List ℕ → Object → Act → Bool
+is_act_of stores widths (Register x) Read = is_key x
+is_act_of stores widths (Register x) (Write d) = is_key x
+is_act_of stores widths (Store s) (Get k) = stores s && is_key k
+is_act_of stores widths (Store s) (Put k d) = stores s && is_key k
+is_act_of stores widths (Store s) (Remove k) = stores s && is_key k
+is_act_of stores widths Tables (Transact ss) = nat_lt 0 (length ss) && list_all (statement_is_of widths) ss
+is_act_of stores widths Clock Now = true
+is_act_of stores widths Dice (Roll bound) = int_le (pos 1) bound
+is_act_of stores widths (Register x) act = false
+is_act_of stores widths (Store s) act = false
+is_act_of stores widths Tables act = false
+is_act_of stores widths Clock act = false
+is_act_of stores widths Dice act = false
+
 -- the act is one of the object's, and names only what the program declares
 abbrev pub is_of_program : Program → Object → Act → Bool
-is_of_program program (Register x) Read = is_key x
-is_of_program program (Register x) (Write d) = is_key x
-is_of_program program (Store s) (Get k) = declares_store program.declarations s && is_key k
-is_of_program program (Store s) (Put k d) = declares_store program.declarations s && is_key k
-is_of_program program (Store s) (Remove k) = declares_store program.declarations s && is_key k
-is_of_program program Tables (Transact ss) = nat_lt 0 (length ss) && list_all (statement_is_of (table_widths program.declarations)) ss
-is_of_program program Clock Now = true
-is_of_program program Dice (Roll bound) = int_le (pos 1) bound
-is_of_program program (Register x) act = false
-is_of_program program (Store s) act = false
-is_of_program program Tables act = false
-is_of_program program Clock act = false
-is_of_program program Dice act = false
+is_of_program program object act =
+    is_act_of (declares_store program.declarations) (table_widths program.declarations) object act
 
 -- ---- choices
 

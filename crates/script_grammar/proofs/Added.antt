@@ -86,7 +86,8 @@ pub all_names : (xs ys : List Name) (vs : List Val) → with_names xs (of_names 
 all_names [] ys vs = ap (λ l. of_names l ∷ vs) (sym (append-nil ys))
 all_names (x ∷ xs) ys vs = all_names xs (ys ++ x ∷ []) vs ∙ ap (λ l. of_names l ∷ vs) (append_assoc ys (x ∷ []) xs)
 
-pub all_expressions : (es : Expressions) (xs : List Expression) (vs : List Val) → with_expressions es (of_expressions xs ∷ vs) ≡ of_expressions (xs ++ expressions_in es) ∷ vs
+pub all_expressions : (es : Expressions) (xs : List Expression) (vs : List Val)
+    → with_expressions es (of_expressions xs ∷ vs) ≡ of_expressions (xs ++ expressions_in es) ∷ vs
 all_expressions no_expression xs vs = ap (λ l. of_expressions l ∷ vs) (sym (append-nil xs))
 all_expressions (expression e es) xs vs = all_expressions es (xs ++ e ∷ []) vs ∙ ap (λ l. of_expressions l ∷ vs) (append_assoc xs (e ∷ []) (expressions_in es))
 
@@ -106,7 +107,8 @@ all_assignments (assignment x e ss) xs vs =
     let d : Assignment = record { column = x; value = e } in
     all_assignments ss (xs ++ d ∷ []) vs ∙ ap (λ l. of_sets l ∷ vs) (append_assoc xs (d ∷ []) (assignments_in ss))
 
-pub all_statements : (ss : Statements) (xs : List Statement) (vs : List Val) → with_statements ss (of_statements xs ∷ vs) ≡ of_statements (xs ++ statements_in ss) ∷ vs
+pub all_statements : (ss : Statements) (xs : List Statement) (vs : List Val)
+    → with_statements ss (of_statements xs ∷ vs) ≡ of_statements (xs ++ statements_in ss) ∷ vs
 all_statements no_statement xs vs = ap (λ l. of_statements l ∷ vs) (sym (append-nil xs))
 all_statements (statement s ss) xs vs = all_statements ss (xs ++ s ∷ []) vs ∙ ap (λ l. of_statements l ∷ vs) (append_assoc xs (s ∷ []) (statements_in ss))
 

@@ -1,17 +1,20 @@
 -- The machine reads exactly the trees of the grammar, and is stuck exactly at the first fault.
 use Rattle.std.proofs.Common.{◌≡◌, ◌≤◌, pos, List, [], ◌∷◌, ◌++◌, Option, Some, None, refl, sym, ap, ◌∙◌, subst, arith, append_assoc, append-nil, codes}
+use Rattle.script_tree.specs.Programs.{Program, program_of}
 use Rattle.script_tree.specs.Syntax.{Expression, number, Expressions, no_expression, Query, delete, no_query, no_condition, no_assignment, Statement, do_, no_else, no_statement}
 use Rattle.script_tree.specs.Syntax as tree
 use Rattle.script_tree.specs.declared.comparison.Comparison.TheVariants as compared
 use Rattle.script_tree.specs.declared.syntax.name.Name.{Name}
 use Rattle.script_tree.specs.declared.syntax.declaration.Declaration.{Declaration}
+use Rattle.script_tree.specs.declared.syntax.tree.Version.{Version}
+use Rattle.script_tree.specs.declared.syntax.tree.Version.TheVariants.{First}
 use Rattle.script_tokens.specs.Kinds as kind
 use Rattle.script_tokens.specs.Kinds.{Kind, Token, token}
 use Rattle.script_tokens.specs.declared.word.Word.TheVariants as w
 use Rattle.script_grammar.specs.Grammar.{IsTreeOf, AreSpelled, Begins, IsFaultAt}
-use Rattle.script_grammar.specs.Spelling.{declaration_spelling, program_spelling, AreTokens}
+use Rattle.script_grammar.specs.Spelling.{declaration_spelling, declarations_spelling, AreTokens}
 use Rattle.script_grammar.specs.Grouping.{level}
-use Rattle.script_grammar.specs.Machine.{Val, of_name, of_expression, of_comparison, of_query, of_statement, of_else, of_declarations, apply, Symbol, act, word, a_name, a_path, a_comparison, operand, prefixes, atom, tail, name_tail, arguments, more_arguments, parameters, more_names, a_query, more_queries, filter, more_tests, more_sets, a_statement, statements, else_part, declarations, State, feed, Outcome, done, stuck, settle, fed, run, run_file}
+use Rattle.script_grammar.specs.Machine.{Val, of_name, of_expression, of_comparison, of_query, of_statement, of_else, of_declarations, apply, Symbol, act, word, a_name, a_path, a_comparison, operand, prefixes, atom, tail, name_tail, arguments, more_arguments, parameters, more_names, a_query, more_queries, filter, more_tests, more_sets, a_statement, statements, else_part, declarations, State, feed, Parsing, done, stuck, settle, fed, run, run_file}
 use Rattle.script_grammar.proofs.Added.{all_declarations}
 use Rattle.script_grammar.proofs.Back.{back}
 use Rattle.script_grammar.proofs.Complete.{whole_read}
@@ -42,7 +45,8 @@ settled (else_part ∷ k) vs out h = (no_else, [], tt, λ n g. g, settled k (of_
 settled (declarations ∷ k) vs out h = ([], [], tt, λ n g. g, settled k vs out h)
 settled (s ∷ k) vs out h = never_done [] out h
 
-fed_back : (t : Token) (ts : List Token) (k : List Symbol) (vs out : List Val) → ((k : List Symbol) (vs : List Val) → run ts k vs ≡ done out → Yields k vs ts out)
+fed_back : (t : Token) (ts : List Token) (k : List Symbol) (vs out : List Val)
+    → ((k : List Symbol) (vs : List Val) → run ts k vs ≡ done out → Yields k vs ts out)
     → (o : Option State) → feed t k vs ≡ o → fed t ts o (λ l us. run ts l us) ≡ done out → Yields k vs (t ∷ ts) out
 fed_back t ts k vs out more None e h = never_done (t ∷ ts) out h
 fed_back t ts k vs out more (Some s) e h = back t k vs s e ts out (more s.0 s.1 h)
@@ -143,12 +147,14 @@ none_left (else_part ∷ k) vs rest h = none_left k (of_else no_else ∷ vs) res
 none_left (declarations ∷ k) vs rest h = none_left k vs rest h
 none_left (s ∷ k) vs rest h = the_rest [] rest h
 
-refused : (t : Token) (ts : List Token) (k : List Symbol) (vs : List Val) (u : Token) (q l : List Token) → feed t k vs ≡ None → t ∷ ts ≡ u ∷ q → run (u ∷ l) k vs ≡ stuck (u ∷ l)
+refused : (t : Token) (ts : List Token) (k : List Symbol) (vs : List Val) (u : Token) (q l : List Token)
+    → feed t k vs ≡ None → t ∷ ts ≡ u ∷ q → run (u ∷ l) k vs ≡ stuck (u ∷ l)
 refused t ts k vs u q l e h =
     let v : u ≡ t = cc in
     rw v (ap (λ o. fed t l o (λ m us. run l m us)) e)
 
-fed_stuck : (t : Token) (ts : List Token) (k : List Symbol) (vs : List Val) (rest : List Token) → ((k : List Symbol) (vs : List Val) → run ts k vs ≡ stuck rest → StuckAt ts k vs rest)
+fed_stuck : (t : Token) (ts : List Token) (k : List Symbol) (vs : List Val) (rest : List Token)
+    → ((k : List Symbol) (vs : List Val) → run ts k vs ≡ stuck rest → StuckAt ts k vs rest)
     → (o : Option State) → feed t k vs ≡ o → fed t ts o (λ l us. run ts l us) ≡ stuck rest → StuckAt (t ∷ ts) k vs rest
 fed_stuck t ts k vs rest more None e h =
     let r : rest ≡ t ∷ ts = the_rest (t ∷ ts) rest h in
@@ -181,45 +187,66 @@ start = declarations ∷ []
 abbrev none_yet : List Val
 none_yet = of_declarations [] ∷ []
 
-before_nothing : (ds : List Declaration) → declarations_before ds [] ≡ program_spelling ds
+before_nothing : (ds : List Declaration) → declarations_before ds [] ≡ declarations_spelling ds
 before_nothing [] = refl
 before_nothing (d ∷ ds) = ap (declaration_spelling d) (before_nothing ds)
 
-pub whole_back : (ts : List Token) (out : List Val) → Yields start none_yet ts out → (ds : List Declaration) × (out ≡ of_declarations ds ∷ []) × IsTreeOf ts ds
-whole_back ts out y = (y.0, y.4.1 ∙ all_declarations y.0 [] [], record { spelled = subst (λ z. AreTokens z ts) (before_nothing y.0) (y.3 [] y.4.0); grouped = y.2 })
+pub whole_back : (ts : List Token) (out : List Val) → Yields start none_yet ts out
+    → (ds : List Declaration) × (out ≡ of_declarations ds ∷ []) × IsTreeOf ts (program_of ds)
+whole_back ts out y = (
+  y.0,
+  y.4.1 ∙ all_declarations y.0 [] [],
+  record { spelled = subst (λ z. AreTokens z ts) (before_nothing y.0) (y.3 [] y.4.0); grouped = y.2 },
+)
 
 begins_before : (read more : List Token) (out : List Val) → AreSpelled more → Yields start none_yet (read ++ more) out → Begins read
-begins_before read more out real y = let p = whole_back (read ++ more) out y in record { more = more; tree = p.0; real = real; whole = p.2 }
+begins_before read more out real y = let p = whole_back (read ++ more) out y in record { more = more; tree = program_of p.0; real = real; whole = p.2 }
 
 pub begins_whole : (ts read : List Token) → ts ≡ read ++ [] → Begins read → Begins ts
 begins_whole ts read e b = let q : read ≡ ts = sym (append-nil read) ∙ sym e in subst Begins q b
 
 -- what the machine's outcome says of the tokens
-abbrev pub Answers : List Token → Outcome → Type 0
-Answers ts (done out) = (ds : List Declaration) × (out ≡ of_declarations ds ∷ []) × IsTreeOf ts ds
+abbrev pub Answers : List Token → Parsing → Type 0
+Answers ts (done out) = (ds : List Declaration) × (out ≡ of_declarations ds ∷ []) × IsTreeOf ts (program_of ds)
 Answers ts (stuck rest) = IsFaultAt ts rest
 
-pub tree_read : (ts : List Token) (ds : List Declaration) → IsTreeOf ts ds → run_file ts ≡ done (of_declarations ds ∷ [])
-tree_read ts ds h = whole_read ts ds h.spelled h.grouped
+first_version : (v : Version) → First ≡ v
+first_version First = refl
 
-exact_of : (ts : List Token) (o : Outcome) → run_file ts ≡ o → Answers ts o
+-- a program is of the first version, since there is no other
+of_first : (tree : Program) → program_of tree.declarations ≡ tree
+of_first tree = ap (λ v. record { version = v; declarations = tree.declarations }) (first_version tree.version)
+
+first_read : (ts : List Token) (ds : List Declaration) → IsTreeOf ts (program_of ds) → run_file ts ≡ done (of_declarations ds ∷ [])
+first_read ts ds h = whole_read ts ds h.spelled h.grouped
+
+pub tree_read : (ts : List Token) (tree : Program) → IsTreeOf ts tree → run_file ts ≡ done (of_declarations tree.declarations ∷ [])
+tree_read ts tree h = first_read ts tree.declarations (subst (IsTreeOf ts) (sym (of_first tree)) h)
+
+exact_of : (ts : List Token) (o : Parsing) → run_file ts ≡ o → Answers ts o
 exact_of ts (done out) h = whole_back ts out (done_back ts start none_yet out h)
 exact_of ts (stuck []) h =
-    let s : StuckAt ts start none_yet [] = stuck_at ts start none_yet [] h in
-    (begins_whole ts s.read s.split (begins_before s.read s.more s.out s.real s.yields), λ ds g. never_stuck [] (of_declarations ds ∷ []) (sym (tree_read ts ds g) ∙ h))
+    let s : StuckAt ts start none_yet [] = stuck_at ts start none_yet [] h in (
+      begins_whole ts s.read s.split (begins_before s.read s.more s.out s.real s.yields),
+      λ tree g. never_stuck [] (of_declarations tree.declarations ∷ []) (sym (tree_read ts tree g) ∙ h),
+    )
 exact_of ts (stuck (t ∷ r)) h =
     let s : StuckAt ts start none_yet (t ∷ r) = stuck_at ts start none_yet (t ∷ r) h in (
       s.read,
       s.split,
       begins_before s.read s.more s.out s.real s.yields,
-      λ b. never_done (t ∷ b.more) (of_declarations b.tree ∷ []) (sym (s.none t r b.more refl) ∙ tree_read (s.read ++ t ∷ b.more) b.tree (subst (λ z. IsTreeOf z b.tree) (append_assoc s.read (t ∷ []) b.more) b.whole)),
+      λ b. never_done (t ∷ b.more) (of_declarations b.tree.declarations ∷ [])
+          (sym (s.none t r b.more refl) ∙ tree_read (s.read ++ t ∷ b.more) b.tree
+          (subst (λ z. IsTreeOf z b.tree) (append_assoc s.read (t ∷ []) b.more) b.whole)),
     )
 
 pub exact : (ts : List Token) → Answers ts (run_file ts)
 exact ts = exact_of ts (run_file ts) refl
 
-the_tree : (x y : List Declaration) → done (of_declarations x ∷ []) ≡ done (of_declarations y ∷ []) → x ≡ y
-the_tree x y h = cc
+same_declarations : (x y : List Declaration) → done (of_declarations x ∷ []) ≡ done (of_declarations y ∷ []) → x ≡ y
+same_declarations x y h = cc
 
-pub one_tree : (ts : List Token) (x y : List Declaration) → IsTreeOf ts x → IsTreeOf ts y → x ≡ y
-one_tree ts x y p q = the_tree x y (sym (tree_read ts x p) ∙ tree_read ts y q)
+pub one_tree : (ts : List Token) (x y : Program) → IsTreeOf ts x → IsTreeOf ts y → x ≡ y
+one_tree ts x y p q =
+    let e : x.declarations ≡ y.declarations = same_declarations x.declarations y.declarations (sym (tree_read ts x p) ∙ tree_read ts y q) in
+    sym (of_first x) ∙ ap program_of e ∙ of_first y

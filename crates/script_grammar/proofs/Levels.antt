@@ -29,14 +29,16 @@ no_joint j h = cc
 pub free : (l : ℕ) (v : Word) → is_word w.Open (kind.fixed v) ≡ false → word_joint v ≡ None → From l (kind.fixed v)
 free l v o n = (o, λ j e. absurd (no_joint j (sym n ∙ e)))
 
-pub not_joined : (o : Option Joint) (l left : ℕ) (k : List Symbol) (vs : List Val) (other : Option State) → ((j : Joint) → o ≡ Some j → suc l ≤ joint_level j) → joined_on o l left k vs other ≡ other
+pub not_joined : (o : Option Joint) (l left : ℕ) (k : List Symbol) (vs : List Val) (other : Option State)
+    → ((j : Joint) → o ≡ Some j → suc l ≤ joint_level j) → joined_on o l left k vs other ≡ other
 not_joined None l left k vs other h = refl
 not_joined (Some j) l left k vs other h =
     let g : suc l ≤ joint_level j = h j refl in
     let e : nat_eq (joint_level j) l ≡ false = grind (arith, nat_tests, g) in
     rw e refl
 
-pub tail_ends : (l left : ℕ) (m : List Mark) (ts : List Token) → First (From (suc l)) m → AreTokens m ts → (k : List Symbol) (vs : List Val) → run ts (tail l left ∷ k) vs ≡ run ts k vs
+pub tail_ends : (l left : ℕ) (m : List Mark) (ts : List Token) → First (From (suc l)) m → AreTokens m ts
+    → (k : List Symbol) (vs : List Val) → run ts (tail l left ∷ k) vs ≡ run ts k vs
 tail_ends l left m [] f h k vs = refl
 tail_ends l left m (t ∷ ts) f h k vs =
     let g : From (suc l) t.kind = first_is (From (suc l)) m t ts f h in
@@ -63,7 +65,8 @@ pub record Part (l : ℕ) (e : Expression) (m n : List Mark) : Type 0 where
 abbrev pub Whole : ℕ → Expression → List Mark → List Mark → Type 0
 Whole l e m n = Reads (opening l (most_repeats l)) (λ vs. of_expression e ∷ vs) m n
 
-pub closes : (l left : ℕ) (n : List Mark) (rest : List Token) → First (From (suc l)) n → AreTokens n rest → (k : List Symbol) (vs : List Val) → run rest (closing l left k) vs ≡ run rest k vs
+pub closes : (l left : ℕ) (n : List Mark) (rest : List Token) → First (From (suc l)) n → AreTokens n rest
+    → (k : List Symbol) (vs : List Val) → run rest (closing l left k) vs ≡ run rest k vs
 closes zero left n rest f h k vs = tail_ends 0 left n rest f h k vs
 closes (suc zero) left n rest f h k vs = refl
 closes (suc (suc r)) left n rest f h k vs = tail_ends (suc (suc r)) left n rest f h k vs
@@ -72,8 +75,12 @@ pub whole_of : (l : ℕ) (e : Expression) (m n : List Mark) → First (From (suc
 whole_of l e m n f b p = record {
   goes = λ ts h.
       let a = p.goes ts h in
-      let q : repeats l e + (most_repeats l - repeats l e) ≡ most_repeats l = omega (arith, b) in
-      (a.0, a.1, λ k vs. ap (λ x. run ts (opening l x k) vs) (sym q) ∙ a.2 (most_repeats l - repeats l e) k vs ∙ closes l (most_repeats l - repeats l e) n a.0 f a.1 k (of_expression e ∷ vs));
+      let q : repeats l e + (most_repeats l - repeats l e) ≡ most_repeats l = omega (arith, b) in (
+        a.0,
+        a.1,
+        λ k vs. ap (λ x. run ts (opening l x k) vs) (sym q) ∙ a.2 (most_repeats l - repeats l e) k vs
+            ∙ closes l (most_repeats l - repeats l e) n a.0 f a.1 k (of_expression e ∷ vs),
+      );
 }
 
 -- ---- one level up
@@ -81,7 +88,9 @@ whole_of l e m n f b p = record {
 abbrev pub IsNoPrefix : Kind → Type 0
 IsNoPrefix t = prefix_of t ≡ None
 
-pub no_prefix : (left : ℕ) (m : List Mark) (ts : List Token) → First IsNoPrefix m → AreTokens m ts → (k : List Symbol) (vs : List Val) → run ts (prefixes left ∷ k) vs ≡ run ts (atom ∷ tail 0 (most_repeats 0) ∷ k) vs
+pub no_prefix : (left : ℕ) (m : List Mark) (ts : List Token) → First IsNoPrefix m → AreTokens m ts
+    → (k : List Symbol) (vs : List Val) → run ts (prefixes left ∷ k) vs
+    ≡ run ts (atom ∷ tail 0 (most_repeats 0) ∷ k) vs
 no_prefix left m [] f h k vs = refl
 no_prefix left m (t ∷ ts) f h k vs =
     let g : prefix_of t.kind ≡ None = first_is IsNoPrefix m t ts f h in
@@ -92,7 +101,8 @@ no_repeats l e h =
     let q : nat_eq (level e) l ≡ false = grind (arith, nat_tests, h) in
     rw q refl
 
-pub lifted : (l d : ℕ) (e : Expression) (m n : List Mark) (ts : List Token) → (l ≡ 0 → First IsNoPrefix m) → (h : AreTokens m ts) → (w : Whole l e m n) → (k : List Symbol) (vs : List Val)
+pub lifted : (l d : ℕ) (e : Expression) (m n : List Mark) (ts : List Token) → (l ≡ 0 → First IsNoPrefix m)
+    → (h : AreTokens m ts) → (w : Whole l e m n) → (k : List Symbol) (vs : List Val)
     → run ts (opening (suc l) d k) vs ≡ run (w.goes ts h).0 (closing (suc l) d k) (of_expression e ∷ vs)
 lifted zero d e m n ts f h w k vs = no_prefix d m ts (f refl) h k vs ∙ (w.goes ts h).2 k vs
 lifted (suc zero) d e m n ts f h w k vs = (w.goes ts h).2 (tail 2 d ∷ k) vs
@@ -114,7 +124,8 @@ last r l h = last_case (nat_eq r (suc l)) refl
     last_case false e = inl (grind (arith, nat_tests, e, h))
 
 -- from its own level to another
-pub climb : (l r : ℕ) (e : Expression) (m n : List Mark) → r ≤ l → level e ≤ r → (r ≡ 0 → First IsNoPrefix m) → First (From l) n → ((s : ℕ) → repeats s e ≤ most_repeats s) → Part r e m n → Part l e m n
+pub climb : (l r : ℕ) (e : Expression) (m n : List Mark) → r ≤ l → level e ≤ r → (r ≡ 0 → First IsNoPrefix m)
+    → First (From l) n → ((s : ℕ) → repeats s e ≤ most_repeats s) → Part r e m n → Part l e m n
 climb zero r e m n h b f g few p = let q : r ≡ 0 = omega (arith, h) in subst (λ x. Part x e m n) q p
 climb (suc l) r e m n h b f g few p = elim (last r l h) [
   | inl c ↦

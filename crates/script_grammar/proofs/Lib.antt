@@ -1,6 +1,8 @@
 pub mod Added
 pub mod Back
+pub mod BackExpressions
 pub mod Complete
+pub mod CompleteParts
 pub mod Exact
 pub mod Levels
 pub mod Real

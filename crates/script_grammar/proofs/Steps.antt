@@ -31,10 +31,13 @@ operand_runs l (t ∷ ts) k vs = refl
 
 -- The tokens of m are read: from the symbols of f on, with the values changed by p, up to those of n.
 pub record Reads (f : List Symbol → List Symbol) (p : List Val → List Val) (m n : List Mark) : Type 0 where
-  pub goes : (ts : List Token) → AreTokens m ts → (rest : List Token) × AreTokens n rest × ((k : List Symbol) (vs : List Val) → run ts (f k) vs ≡ run rest k (p vs))
+  pub goes : (ts : List Token) → AreTokens m ts
+      → (rest : List Token) × AreTokens n rest
+      × ((k : List Symbol) (vs : List Val) → run ts (f k) vs ≡ run rest k (p vs))
 
 infixl 10 ◌then◌
-pub ◌then◌ : {f g : List Symbol → List Symbol} {p q : List Val → List Val} {m n o : List Mark} → Reads f p m n → Reads g q n o → Reads (λ k. f (g k)) (λ vs. q (p vs)) m o
+pub ◌then◌ : {f g : List Symbol → List Symbol} {p q : List Val → List Val} {m n o : List Mark} → Reads f p m n
+    → Reads g q n o → Reads (λ k. f (g k)) (λ vs. q (p vs)) m o
 ◌then◌ {f} {g} {p} {q} {m} {n} {o} r s = record {
   goes = λ ts h.
       let a = r.goes ts h in
@@ -43,7 +46,9 @@ pub ◌then◌ : {f g : List Symbol → List Symbol} {p q : List Val → List Va
 }
 
 -- the same tokens, from other symbols on that do the same
-pub instead : {f g : List Symbol → List Symbol} {p : List Val → List Val} {m n : List Mark} → ((ts : List Token) → AreTokens m ts → (k : List Symbol) (vs : List Val) → run ts (f k) vs ≡ run ts (g k) vs) → Reads g p m n → Reads f p m n
+pub instead : {f g : List Symbol → List Symbol} {p : List Val → List Val} {m n : List Mark}
+    → ((ts : List Token) → AreTokens m ts → (k : List Symbol) (vs : List Val) → run ts (f k) vs ≡ run ts (g k) vs)
+    → Reads g p m n → Reads f p m n
 instead e r = record {
   goes = λ ts h.
       let a = r.goes ts h in

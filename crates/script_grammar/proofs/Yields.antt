@@ -76,22 +76,38 @@ Yields (act a ∷ k) vs ts out = Yields k (apply a vs) ts out
 Yields (word v ∷ k) vs ts out = (p : ℕ) × (mid : List Token) × (ts ≡ token p (kind.fixed v) ∷ mid) × Yields k vs mid out
 Yields (a_name ∷ k) vs ts out = (x : Name) × (mid : List Token) × (ts ≡ token x.at (kind.name x.text) ∷ mid) × Yields k (of_name x ∷ vs) mid out
 Yields (a_path ∷ k) vs ts out = (x : Name) × (mid : List Token) × (ts ≡ token x.at (kind.text x.text) ∷ mid) × Yields k (of_name x ∷ vs) mid out
-Yields (a_comparison ∷ k) vs ts out = (c : Comparison) × (p : ℕ) × (mid : List Token) × (ts ≡ token p (kind.fixed (comparison_word c)) ∷ mid) × Yields k (of_comparison c ∷ vs) mid out
+Yields (a_comparison ∷ k) vs ts out = (c : Comparison) × (p : ℕ) × (mid : List Token)
+    × (ts ≡ token p (kind.fixed (comparison_word c)) ∷ mid) × Yields k (of_comparison c ∷ vs) mid out
 Yields (operand l ∷ k) vs ts out = (e : Read ts) × (level e.tree ≤ most_level l) × Yields k (of_expression e.tree ∷ vs) e.next out
-Yields (prefixes left ∷ k) vs ts out = (left ≤ most_repeats 1) → (e : Read ts) × (level e.tree ≤ 1) × (repeats 1 e.tree ≤ left) × Yields k (of_expression e.tree ∷ vs) e.next out
+Yields (prefixes left ∷ k) vs ts out = (left ≤ most_repeats 1)
+    → (e : Read ts) × (level e.tree ≤ 1) × (repeats 1 e.tree ≤ left) × Yields k (of_expression e.tree ∷ vs) e.next out
 Yields (atom ∷ k) vs ts out = (e : Read ts) × (level e.tree ≤ 0) × (row e.tree ≡ 0) × Yields k (of_expression e.tree ∷ vs) e.next out
 Yields (tail l left ∷ k) vs ts out = (m : ℕ) × (mid : List Token) × (new : List Val) × (m ≤ left) × Turns l m ts mid vs new × Yields k new mid out
-Yields (name_tail at x ∷ k) vs ts out = (e : Read (token at (kind.name x) ∷ ts)) × (level e.tree ≤ 0) × (row e.tree ≡ 0) × Yields k (of_expression e.tree ∷ vs) e.next out
-Yields (arguments close ∷ k) vs ts out = (es : Expressions) × (mid : List Token) × AreGrouped es × Spelled (λ n. list_spelling es (mark.word close ∷ n)) ts mid × Yields k (with_expressions es vs) mid out
-Yields (more_arguments close ∷ k) vs ts out = (es : Expressions) × (mid : List Token) × AreGrouped es × Spelled (λ n. more_spelling es (mark.word close ∷ n)) ts mid × Yields k (with_expressions es vs) mid out
-Yields (parameters ∷ k) vs ts out = (xs : List Name) × (mid : List Token) × Spelled (λ n. names xs (mark.word w.Close ∷ n)) ts mid × Yields k (with_names xs vs) mid out
-Yields (more_names close ∷ k) vs ts out = (xs : List Name) × (mid : List Token) × Spelled (λ n. names_before xs (mark.word close ∷ n)) ts mid × Yields k (with_names xs vs) mid out
+Yields (name_tail at x ∷ k) vs ts out = (e : Read (token at (kind.name x) ∷ ts)) × (level e.tree ≤ 0)
+    × (row e.tree ≡ 0) × Yields k (of_expression e.tree ∷ vs) e.next out
+Yields (arguments close ∷ k) vs ts out = (es : Expressions) × (mid : List Token) × AreGrouped es
+    × Spelled (λ n. list_spelling es (mark.word close ∷ n)) ts mid × Yields k (with_expressions es vs) mid out
+Yields (more_arguments close ∷ k) vs ts out =
+    (es : Expressions) × (mid : List Token) × AreGrouped es
+    × Spelled (λ n. more_spelling es (mark.word close ∷ n)) ts mid × Yields k (with_expressions es vs) mid out
+Yields (parameters ∷ k) vs ts out = (xs : List Name) × (mid : List Token)
+    × Spelled (λ n. names xs (mark.word w.Close ∷ n)) ts mid × Yields k (with_names xs vs) mid out
+Yields (more_names close ∷ k) vs ts out = (xs : List Name) × (mid : List Token)
+    × Spelled (λ n. names_before xs (mark.word close ∷ n)) ts mid × Yields k (with_names xs vs) mid out
 Yields (a_query ∷ k) vs ts out = (q : Query) × (mid : List Token) × IsGroupedQuery q × Spelled (query_spelling q) ts mid × Yields k (of_query q ∷ vs) mid out
-Yields (more_queries ∷ k) vs ts out = (qs : Queries) × (mid : List Token) × AreGroupedQueries qs × Spelled (λ n. queries_spelling qs (mark.word w.BraceClose ∷ n)) ts mid × Yields k (with_queries qs vs) mid out
-Yields (filter ∷ k) vs ts out = (cs : Conditions) × (mid : List Token) × AreGroupedTests cs × Spelled (where_spelling cs) ts mid × Yields k (with_conditions cs vs) mid out
-Yields (more_tests ∷ k) vs ts out = (cs : Conditions) × (mid : List Token) × AreGroupedTests cs × Spelled (and_spelling cs) ts mid × Yields k (with_conditions cs vs) mid out
-Yields (more_sets ∷ k) vs ts out = (ss : Assignments) × (mid : List Token) × AreGroupedSets ss × Spelled (more_sets_spelling ss) ts mid × Yields k (with_assignments ss vs) mid out
-Yields (a_statement ∷ k) vs ts out = (s : Statement) × (mid : List Token) × IsGroupedStatement s × Spelled (statement_spelling s) ts mid × Yields k (of_statement s ∷ vs) mid out
-Yields (statements ∷ k) vs ts out = (ss : Statements) × (mid : List Token) × AreGroupedStatements ss × Spelled (λ n. statements_spelling ss (mark.word w.BraceClose ∷ n)) ts mid × Yields k (with_statements ss vs) mid out
+Yields (more_queries ∷ k) vs ts out = (qs : Queries) × (mid : List Token) × AreGroupedQueries qs
+    × Spelled (λ n. queries_spelling qs (mark.word w.BraceClose ∷ n)) ts mid × Yields k (with_queries qs vs) mid out
+Yields (filter ∷ k) vs ts out = (cs : Conditions) × (mid : List Token) × AreGroupedTests cs
+    × Spelled (where_spelling cs) ts mid × Yields k (with_conditions cs vs) mid out
+Yields (more_tests ∷ k) vs ts out = (cs : Conditions) × (mid : List Token) × AreGroupedTests cs
+    × Spelled (and_spelling cs) ts mid × Yields k (with_conditions cs vs) mid out
+Yields (more_sets ∷ k) vs ts out = (ss : Assignments) × (mid : List Token) × AreGroupedSets ss
+    × Spelled (more_sets_spelling ss) ts mid × Yields k (with_assignments ss vs) mid out
+Yields (a_statement ∷ k) vs ts out = (s : Statement) × (mid : List Token) × IsGroupedStatement s
+    × Spelled (statement_spelling s) ts mid × Yields k (of_statement s ∷ vs) mid out
+Yields (statements ∷ k) vs ts out = (ss : Statements) × (mid : List Token) × AreGroupedStatements ss
+    × Spelled (λ n. statements_spelling ss (mark.word w.BraceClose ∷ n)) ts mid
+    × Yields k (with_statements ss vs) mid out
 Yields (else_part ∷ k) vs ts out = (o : Else) × (mid : List Token) × IsGroupedElse o × Spelled (else_spelling o) ts mid × Yields k (of_else o ∷ vs) mid out
-Yields (declarations ∷ k) vs ts out = (ds : List Declaration) × (mid : List Token) × AreGroupedDeclarations ds × Spelled (declarations_before ds) ts mid × Yields k (with_declarations ds vs) mid out
+Yields (declarations ∷ k) vs ts out = (ds : List Declaration) × (mid : List Token) × AreGroupedDeclarations ds
+    × Spelled (declarations_before ds) ts mid × Yields k (with_declarations ds vs) mid out

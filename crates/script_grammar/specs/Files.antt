@@ -2,7 +2,7 @@
 use Rattle.std.specs.Prelude.{◌≡◌, ◌⊎◌, ℕ, List, [], ◌∷◌, Result}
 use Rattle.basis.specs.UnlessMemory.{UnlessMemory}
 use Rattle.basis.specs.declared.or_memory.OrMemory.{OrMemory}
-use Rattle.script_tree.specs.declared.syntax.declaration.Declaration.{Declaration}
+use Rattle.script_tree.specs.Programs.{Program}
 use Rattle.script_tokens.specs.Kinds.{Token}
 use Rattle.script_tokens.specs.Scans.{scan_of}
 use Rattle.script_tokens.specs.declared.fault.End.{End}
@@ -16,10 +16,12 @@ abbrev pub IsWhole : End → Type 0
 IsWhole (File length) = Unit {0}
 IsWhole (Fault fault) = ⊥
 
-pub record Spells (bytes : List ℕ) (tree : List Declaration) : Type 0 where
+-- The bytes are tokens up to the end of the file, and these are the tree's.
+pub record Spells (bytes : List ℕ) (tree : Program) : Type 0 where
   pub whole : IsWhole (scan_of bytes).end
   pub tree_is : IsTreeOf (scan_of bytes).tokens tree
 
+-- the fault of the grammar at this place
 abbrev pub ungrammatical : ℕ → SyntaxFault
 ungrammatical at = record { at = at; kind = Grammar }
 
@@ -35,18 +37,20 @@ abbrev pub IsAtEnd : End → List Token → SyntaxFault → Type 0
 IsAtEnd (File length) ts fault = IsFaultAt ts [] × (fault ≡ ungrammatical length)
 IsAtEnd (Fault behind) ts fault = Begins ts × (fault ≡ behind)
 
+-- the first fault of a text: at one of its tokens, or behind them all
 abbrev pub IsSyntaxFault : List ℕ → SyntaxFault → Type 0
 IsSyntaxFault bytes fault = IsAtToken (scan_of bytes).tokens fault ⊎ IsAtEnd (scan_of bytes).end (scan_of bytes).tokens fault
 
 -- the one tree that they spell
-pub record SpellsOnly (bytes : List ℕ) (tree : List Declaration) : Type 0 where
+pub record SpellsOnly (bytes : List ℕ) (tree : Program) : Type 0 where
   pub spells : Spells bytes tree
-  pub only : (other : List Declaration) → Spells bytes other → other ≡ tree
+  pub only : (other : Program) → Spells bytes other → other ≡ tree
 
 -- the first fault, where they spell none
 pub record SpellsNone (bytes : List ℕ) (fault : SyntaxFault) : Type 0 where
   pub fault_is : IsSyntaxFault bytes fault
-  pub none : (tree : List Declaration) → Spells bytes tree → ⊥
+  pub none : (tree : Program) → Spells bytes tree → ⊥
 
-abbrev pub IsParsed : List ℕ → Result (List Declaration) (OrMemory SyntaxFault) → Type 0
+-- the one tree that the bytes spell, or their first fault, unless memory runs out
+abbrev pub IsParsed : List ℕ → Result Program (OrMemory SyntaxFault) → Type 0
 IsParsed bytes result = UnlessMemory (SpellsOnly bytes) (SpellsNone bytes) result

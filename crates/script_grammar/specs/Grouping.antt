@@ -17,6 +17,7 @@ operator_level two.Times = 2
 operator_level two.Quotient = 2
 operator_level two.Remainder = 2
 
+-- the level of the operator that is applied last; 0 of an expression without one
 abbrev pub level : Expression → ℕ
 level (number at n) = 0
 level (text at bytes) = 0
@@ -69,16 +70,19 @@ pub record IsJoined (l at : ℕ) (left right : Expression) : Type 0 where
   pub right_level : level right < l
   pub few : repeats l left < most_repeats l
 
+-- an expression that may stand behind a prefix: of level 1 at most, and without too many prefixes
 pub record IsPrefixed (e : Expression) : Type 0 where
   pub level_is : level e ≤ 1
   pub few : repeats 1 e < most_repeats 1
 
+-- an expression that may be indexed at this place: of level 0, and without too many indexes
 pub record IsIndexed (at : ℕ) (whole : Expression) : Type 0 where
   pub place : at ≡ place_of whole
   pub level_is : level whole ≤ 0
   pub few : repeats 0 whole < most_repeats 0
 
 abbrev mutual
+  -- Each operator in an expression has operands that may stand there without brackets, and no transaction is empty.
   pub IsGrouped : Expression → Type 0
   IsGrouped (number at n) = Unit {0}
   IsGrouped (text at bytes) = Unit {0}
@@ -95,6 +99,7 @@ abbrev mutual
   IsGrouped (or_ at left right) = IsJoined 6 at left right × IsGrouped left × IsGrouped right
   IsGrouped (index at whole place) = IsIndexed at whole × IsGrouped whole × IsGrouped place
 
+  -- the same of each of these
   pub AreGrouped : Expressions → Type 0
   AreGrouped no_expression = Unit {0}
   AreGrouped (expression e es) = IsGrouped e × AreGrouped es
@@ -107,6 +112,7 @@ abbrev mutual
   IsGroupedQuery (delete at t cs) = AreGroupedTests cs
   IsGroupedQuery (expect at e t cs) = IsGrouped e × AreGroupedTests cs
 
+  -- the same of each statement of a transaction
   pub AreGroupedQueries : Queries → Type 0
   AreGroupedQueries no_query = Unit {0}
   AreGroupedQueries (query q qs) = IsGroupedQuery q × AreGroupedQueries qs
@@ -116,11 +122,13 @@ abbrev mutual
   AreGroupedTests no_condition = Unit {0}
   AreGroupedTests (condition x c e cs) = (level e ≤ 3) × IsGrouped e × AreGroupedTests cs
 
+  -- the same of each value that is assigned
   pub AreGroupedSets : Assignments → Type 0
   AreGroupedSets no_assignment = Unit {0}
   AreGroupedSets (assignment x e sets) = IsGrouped e × AreGroupedSets sets
 
 abbrev mutual
+  -- the same of the expressions and the blocks of a statement
   pub IsGroupedStatement : Statement → Type 0
   IsGroupedStatement (let_ at x e) = IsGrouped e
   IsGroupedStatement (set_ at x e) = IsGrouped e
@@ -132,14 +140,17 @@ abbrev mutual
   IsGroupedStatement (return at e) = IsGrouped e
   IsGroupedStatement (do_ at e) = IsGrouped e
 
+  -- the same of an else, where there is one
   pub IsGroupedElse : Else → Type 0
   IsGroupedElse no_else = Unit {0}
   IsGroupedElse (else_ body) = AreGroupedStatements body
 
+  -- the same of each statement of a block
   pub AreGroupedStatements : Statements → Type 0
   AreGroupedStatements no_statement = Unit {0}
   AreGroupedStatements (statement s ss) = IsGroupedStatement s × AreGroupedStatements ss
 
+-- the same of each statement of a function or a page
 abbrev pub IsGroupedBlock : List Statement → Type 0
 IsGroupedBlock [] = Unit {0}
 IsGroupedBlock (s ∷ ss) = IsGroupedStatement s × IsGroupedBlock ss
@@ -151,6 +162,7 @@ IsGroupedDeclaration (declared.Table at name columns) = columns ≢ []
 IsGroupedDeclaration (declared.Function at name parameters body) = IsGroupedBlock body
 IsGroupedDeclaration (declared.Page at path body) = IsGroupedBlock body
 
+-- the same of all declarations
 abbrev pub AreGroupedDeclarations : List Declaration → Type 0
 AreGroupedDeclarations [] = Unit {0}
 AreGroupedDeclarations (d ∷ ds) = IsGroupedDeclaration d × AreGroupedDeclarations ds

@@ -21,18 +21,21 @@ use Rattle.script_grammar.specs.Grouping.{operator_level, most_repeats}
 use Rattle.script_grammar.specs.declared.joint.Joint.{Joint}
 use Rattle.script_grammar.specs.declared.joint.Joint.TheVariants.{Indexing, And, Or, Operator}
 
+-- the level of a joint: 0 for indexing, 2 to 4 for operators, 5 for and, 6 for or
 abbrev pub joint_level : Joint → ℕ
 joint_level Indexing = 0
 joint_level And = 5
 joint_level Or = 6
 joint_level (Operator operator) = operator_level operator
 
+-- two operands with this joint between them
 abbrev pub joined : Joint → Expression → Expression → Expression
 joined Indexing left right = tree.index (place_of left) left right
 joined And left right = tree.and_ (place_of left) left right
 joined Or left right = tree.or_ (place_of left) left right
 joined (Operator operator) left right = tree.binary (place_of left) operator left right
 
+-- the joint that a word is, where it is one
 abbrev pub word_joint : Word → Option Joint
 word_joint w.SquareOpen = Some Indexing
 word_joint w.And = Some And
@@ -50,23 +53,27 @@ word_joint w.Greater = Some (Operator (two.Compare compared.Greater))
 word_joint w.AtLeast = Some (Operator (two.Compare compared.AtLeast))
 word_joint v = None
 
+-- the joint that a token is, where it is one
 abbrev pub joint_of : Kind → Option Joint
 joint_of (kind.fixed v) = word_joint v
 joint_of (kind.name x) = None
 joint_of (kind.number n) = None
 joint_of (kind.text x) = None
 
+-- the prefix that a word is, where it is one
 abbrev pub word_prefix : Word → Option UnaryOperator
 word_prefix w.Not = Some one.Not
 word_prefix w.Minus = Some one.Negate
 word_prefix v = None
 
+-- the prefix that a token is, where it is one
 abbrev pub prefix_of : Kind → Option UnaryOperator
 prefix_of (kind.fixed v) = word_prefix v
 prefix_of (kind.name x) = None
 prefix_of (kind.number n) = None
 prefix_of (kind.text x) = None
 
+-- the comparison that a word is, where it is one
 abbrev pub word_comparison : Word → Option Comparison
 word_comparison w.Equal = Some compared.Equal
 word_comparison w.Unequal = Some compared.Unequal
@@ -76,6 +83,7 @@ word_comparison w.Greater = Some compared.Greater
 word_comparison w.AtLeast = Some compared.AtLeast
 word_comparison v = None
 
+-- the comparison that a token is, where it is one
 abbrev pub comparison_of : Kind → Option Comparison
 comparison_of (kind.fixed v) = word_comparison v
 comparison_of (kind.name x) = None
@@ -84,6 +92,7 @@ comparison_of (kind.text x) = None
 
 -- ---- what was read
 
+-- a part of a tree that was read
 pub data Val : Type 0 where
   of_name : Name → Val
   of_names : List Name → Val
@@ -134,6 +143,7 @@ pub data Act : Type 0 where
   defined : (at : ℕ) → Act
   paged : (at : ℕ) → Act
 
+-- the values after an act; the last one stands first
 abbrev pub apply : Act → List Val → List Val
 apply (puts v) vs = v ∷ vs
 apply adds_name (of_name x ∷ of_names xs ∷ vs) = of_names (xs ++ x ∷ []) ∷ vs
@@ -168,6 +178,7 @@ apply a vs = vs
 
 -- ---- what may come next
 
+-- what may come next: an act, for which no token is read, a token, or a part of the grammar
 pub data Symbol : Type 0 where
   act : Act → Symbol
   word : Word → Symbol
@@ -197,6 +208,7 @@ pub data Symbol : Type 0 where
   else_part : Symbol
   declarations : Symbol
 
+-- what may still come, and what was read
 abbrev pub State : Type 0
 State = List Symbol × List Val
 
@@ -214,12 +226,15 @@ test k = a_name ∷ a_comparison ∷ operand 3 ∷ act adds_test ∷ k
 abbrev pub assignment : List Symbol → List Symbol
 assignment k = a_name ∷ word w.Becomes ∷ operand 6 ∷ act adds_set ∷ k
 
+-- a where or none, and the semicolon behind it
 abbrev pub filtered : List Symbol → List Symbol
 filtered k = act (puts (of_tests [])) ∷ filter ∷ word w.Semicolon ∷ k
 
+-- a block, from its opening brace to its closing one
 abbrev pub block : List Symbol → List Symbol
 block k = word w.BraceOpen ∷ act (puts (of_statements [])) ∷ statements ∷ k
 
+-- the state behind a word that begins an expression
 abbrev pub begin_word : ℕ → Word → List Symbol → List Val → Option State
 begin_word at w.True k vs = Some (k, of_expression (tree.truth at true) ∷ vs)
 begin_word at w.False k vs = Some (k, of_expression (tree.truth at false) ∷ vs)
@@ -229,45 +244,59 @@ begin_word at w.SquareOpen k vs = Some (arguments w.SquareClose ∷ act (listed 
 begin_word at w.Transact k vs = Some (word w.BraceOpen ∷ a_query ∷ act adds_query ∷ more_queries ∷ act (transacted at) ∷ k, of_queries [] ∷ vs)
 begin_word at v k vs = None
 
+-- the state behind a token that begins an expression without a prefix
 abbrev pub begin_atom : ℕ → Kind → List Symbol → List Val → Option State
 begin_atom at (kind.fixed v) k vs = begin_word at v k vs
 begin_atom at (kind.name x) k vs = Some (name_tail at x ∷ k, vs)
 begin_atom at (kind.number n) k vs = Some (k, of_expression (tree.number at n) ∷ vs)
 begin_atom at (kind.text x) k vs = Some (k, of_expression (tree.text at x) ∷ vs)
 
+-- the state behind a prefix, where at most so many may stand; the other state where there is none
 abbrev pub begin_prefix : ℕ → Option UnaryOperator → (left : ℕ) → List Symbol → List Val → Option State → Option State
 begin_prefix at None left k vs other = other
 begin_prefix at (Some operator) zero k vs other = None
 begin_prefix at (Some operator) (suc left) k vs other = Some (prefixes left ∷ act (prefixed at operator) ∷ k, vs)
 
+-- the state behind a token that begins an expression of level 1 with so many prefixes at most
 abbrev pub begin_prefixed : ℕ → Kind → (left : ℕ) → List Symbol → List Val → Option State
 begin_prefixed at t left k vs = begin_prefix at (prefix_of t) left k vs (begin_atom at t (tail 0 (most_repeats 0) ∷ k) vs)
 
+-- the state behind a token that begins an expression of this level at most
 abbrev pub begin_operand : ℕ → Kind → (level : ℕ) → List Symbol → List Val → Option State
 begin_operand at t level k vs = begin_prefixed at t (most_repeats 1) (chain level k) vs
 
+-- what may come behind a joint of this level, with so many further operands
 abbrev pub after_joint : Joint → (level left : ℕ) → List Symbol → List Symbol
 after_joint Indexing level left k = operand 6 ∷ word w.SquareClose ∷ act (joined_by Indexing) ∷ tail level left ∷ k
 after_joint And level left k = operand (level - 1) ∷ act (joined_by And) ∷ tail level left ∷ k
 after_joint Or level left k = operand (level - 1) ∷ act (joined_by Or) ∷ tail level left ∷ k
 after_joint (Operator operator) level left k = operand (level - 1) ∷ act (joined_by (Operator operator)) ∷ tail level left ∷ k
 
+-- the state behind a joint, where at most so many may stand
 abbrev pub go_on : Joint → (level left : ℕ) → List Symbol → List Val → Option State
 go_on j level zero k vs = None
 go_on j level (suc left) k vs = Some (after_joint j level left k, vs)
 
+-- the state behind a joint of this level; the other state where there is none
 abbrev pub joined_on : Option Joint → (level left : ℕ) → List Symbol → List Val → Option State → Option State
 joined_on None level left k vs other = other
 joined_on (Some j) level left k vs other = if joint_level j == level then go_on j level left k vs else other
 
+-- the state behind a word that begins a transaction's statement
 abbrev pub begin_query : ℕ → Word → List Symbol → List Val → Option State
-begin_query at w.Insert k vs = Some (a_name ∷ word w.Open ∷ act (puts (of_expressions [])) ∷ operand 6 ∷ act adds_expression ∷ more_arguments w.Close ∷ word w.Semicolon ∷ act (inserted at) ∷ k, vs)
+begin_query at w.Insert k vs = Some (
+  a_name ∷ word w.Open ∷ act
+      (puts (of_expressions [])) ∷ operand 6 ∷ act adds_expression ∷ more_arguments w.Close ∷ word w.Semicolon ∷ act
+      (inserted at) ∷ k,
+  vs,
+)
 begin_query at w.Select k vs = Some (a_name ∷ act adds_name ∷ more_names w.From ∷ a_name ∷ filtered (act (selected at) ∷ k), of_names [] ∷ vs)
 begin_query at w.Update k vs = Some (a_name ∷ word w.Set ∷ act (puts (of_sets [])) ∷ assignment (more_sets ∷ filtered (act (updated at) ∷ k)), vs)
 begin_query at w.Delete k vs = Some (a_name ∷ filtered (act (deleted at) ∷ k), vs)
 begin_query at w.Expect k vs = Some (operand 6 ∷ word w.From ∷ a_name ∷ filtered (act (expected at) ∷ k), vs)
 begin_query at v k vs = None
 
+-- the state behind a word that begins a statement
 abbrev pub begin_statement : ℕ → Word → List Symbol → List Val → Option State
 begin_statement at w.Let k vs = Some (a_name ∷ word w.Becomes ∷ operand 6 ∷ word w.Semicolon ∷ act (bound (tree.let_ at)) ∷ k, vs)
 begin_statement at w.Set k vs = Some (a_name ∷ word w.Becomes ∷ operand 6 ∷ word w.Semicolon ∷ act (bound (tree.set_ at)) ∷ k, vs)
@@ -280,9 +309,14 @@ begin_statement at w.Return k vs = Some (operand 6 ∷ word w.Semicolon ∷ act 
 begin_statement at w.Do k vs = Some (operand 6 ∷ word w.Semicolon ∷ act (said (tree.do_ at)) ∷ k, vs)
 begin_statement at v k vs = None
 
+-- the state behind a word that begins a declaration
 abbrev pub begin_declaration : ℕ → Word → List Symbol → List Val → Option State
 begin_declaration at w.Store k vs = Some (a_name ∷ word w.Semicolon ∷ act (stored at) ∷ k, vs)
-begin_declaration at w.Table k vs = Some (a_name ∷ word w.Open ∷ act (puts (of_names [])) ∷ a_name ∷ act adds_name ∷ more_names w.Close ∷ word w.Semicolon ∷ act (tabled at) ∷ k, vs)
+begin_declaration at w.Table k vs = Some (
+  a_name ∷ word w.Open ∷ act
+      (puts (of_names [])) ∷ a_name ∷ act adds_name ∷ more_names w.Close ∷ word w.Semicolon ∷ act (tabled at) ∷ k,
+  vs,
+)
 begin_declaration at w.Function k vs = Some (a_name ∷ word w.Open ∷ act (puts (of_names [])) ∷ parameters ∷ block (act (defined at) ∷ k), vs)
 begin_declaration at w.Page k vs = Some (a_path ∷ block (act (paged at) ∷ k), vs)
 begin_declaration at v k vs = None
@@ -294,14 +328,17 @@ by_word begin (kind.name x) = None
 by_word begin (kind.number n) = None
 by_word begin (kind.text x) = None
 
+-- the state behind a name
 abbrev pub take_name : ℕ → Kind → List Symbol → List Val → Option State
 take_name at (kind.name x) k vs = Some (k, of_name (record { at = at; text = x }) ∷ vs)
 take_name at t k vs = None
 
+-- the state behind the path of a page, which is a text
 abbrev pub take_path : ℕ → Kind → List Symbol → List Val → Option State
 take_path at (kind.text x) k vs = Some (k, of_name (record { at = at; text = x }) ∷ vs)
 take_path at t k vs = None
 
+-- the state behind a comparison
 abbrev pub take_comparison : Option Comparison → List Symbol → List Val → Option State
 take_comparison None k vs = None
 take_comparison (Some c) k vs = Some (k, of_comparison c ∷ vs)
@@ -318,27 +355,35 @@ feed t (operand level ∷ k) vs = begin_operand t.at t.kind level k vs
 feed t (prefixes left ∷ k) vs = begin_prefixed t.at t.kind left k vs
 feed t (atom ∷ k) vs = begin_atom t.at t.kind k vs
 feed t (tail level left ∷ k) vs = joined_on (joint_of t.kind) level left k vs (feed t k vs)
-feed t (name_tail at x ∷ k) vs = if is_word w.Open t.kind then Some (arguments w.Close ∷ act (called at x) ∷ k, of_expressions [] ∷ vs) else feed t k (of_expression (tree.variable at x) ∷ vs)
+feed t (name_tail at x ∷ k) vs = if is_word w.Open t.kind then Some
+    (arguments w.Close ∷ act (called at x) ∷ k, of_expressions [] ∷ vs) else feed t k
+    (of_expression (tree.variable at x) ∷ vs)
 feed t (arguments close ∷ k) vs = if is_word close t.kind then Some (k, vs) else begin_operand t.at t.kind 6 (act adds_expression ∷ more_arguments close ∷ k) vs
-feed t (more_arguments close ∷ k) vs = if is_word close t.kind then Some (k, vs) else if is_word w.Comma t.kind then Some (operand 6 ∷ act adds_expression ∷ more_arguments close ∷ k, vs) else None
+feed t (more_arguments close ∷ k) vs = if is_word close t.kind then Some
+    (k, vs) else if is_word w.Comma t.kind then Some
+    (operand 6 ∷ act adds_expression ∷ more_arguments close ∷ k, vs) else None
 feed t (parameters ∷ k) vs = if is_word w.Close t.kind then Some (k, vs) else take_name t.at t.kind (act adds_name ∷ more_names w.Close ∷ k) vs
-feed t (more_names close ∷ k) vs = if is_word close t.kind then Some (k, vs) else if is_word w.Comma t.kind then Some (a_name ∷ act adds_name ∷ more_names close ∷ k, vs) else None
+feed t (more_names close ∷ k) vs = if is_word close t.kind then Some (k, vs) else if is_word w.Comma t.kind then Some
+    (a_name ∷ act adds_name ∷ more_names close ∷ k, vs) else None
 feed t (a_query ∷ k) vs = by_word (λ v. begin_query t.at v k vs) t.kind
-feed t (more_queries ∷ k) vs = if is_word w.BraceClose t.kind then Some (k, vs) else by_word (λ v. begin_query t.at v (act adds_query ∷ more_queries ∷ k) vs) t.kind
+feed t (more_queries ∷ k) vs = if is_word w.BraceClose t.kind then Some (k, vs) else by_word
+    (λ v. begin_query t.at v (act adds_query ∷ more_queries ∷ k) vs) t.kind
 feed t (filter ∷ k) vs = if is_word w.Where t.kind then Some (test (more_tests ∷ k), vs) else feed t k vs
 feed t (more_tests ∷ k) vs = if is_word w.And t.kind then Some (test (more_tests ∷ k), vs) else feed t k vs
 feed t (more_sets ∷ k) vs = if is_word w.Comma t.kind then Some (assignment (more_sets ∷ k), vs) else feed t k vs
 feed t (a_statement ∷ k) vs = by_word (λ v. begin_statement t.at v k vs) t.kind
-feed t (statements ∷ k) vs = if is_word w.BraceClose t.kind then Some (k, vs) else by_word (λ v. begin_statement t.at v (act adds_statement ∷ statements ∷ k) vs) t.kind
+feed t (statements ∷ k) vs = if is_word w.BraceClose t.kind then Some (k, vs) else by_word
+    (λ v. begin_statement t.at v (act adds_statement ∷ statements ∷ k) vs) t.kind
 feed t (else_part ∷ k) vs = if is_word w.Else t.kind then Some (block (act otherwise ∷ k), vs) else feed t k (of_else tree.no_else ∷ vs)
 feed t (declarations ∷ k) vs = by_word (λ v. begin_declaration t.at v (act adds_declaration ∷ declarations ∷ k) vs) t.kind
 
-pub data Outcome : Type 0 where
-  done : List Val → Outcome
-  stuck : (rest : List Token) → Outcome
+-- all tokens are read, and these are the values; or the machine is stuck before these tokens
+pub data Parsing : Type 0 where
+  done : List Val → Parsing
+  stuck : (rest : List Token) → Parsing
 
 -- where no token is left
-abbrev pub settle : List Symbol → List Val → Outcome
+abbrev pub settle : List Symbol → List Val → Parsing
 settle [] vs = done vs
 settle (act a ∷ k) vs = settle k (apply a vs)
 settle (tail level left ∷ k) vs = settle k vs
@@ -350,14 +395,16 @@ settle (else_part ∷ k) vs = settle k (of_else tree.no_else ∷ vs)
 settle (declarations ∷ k) vs = settle k vs
 settle (s ∷ k) vs = stuck []
 
-abbrev pub fed : Token → List Token → Option State → (List Symbol → List Val → Outcome) → Outcome
+-- what follows from the state to which a token led; without a state the machine is stuck before the token
+abbrev pub fed : Token → List Token → Option State → (List Symbol → List Val → Parsing) → Parsing
 fed t ts None more = stuck (t ∷ ts)
 fed t ts (Some s) more = more s.0 s.1
 
-abbrev pub run : List Token → List Symbol → List Val → Outcome
+-- what comes of these tokens, where these symbols may come next and these values were read
+abbrev pub run : List Token → List Symbol → List Val → Parsing
 run [] k vs = settle k vs
 run (t ∷ ts) k vs = fed t ts (feed t k vs) (λ l us. run ts l us)
 
 -- of a whole file
-abbrev pub run_file : List Token → Outcome
+abbrev pub run_file : List Token → Parsing
 run_file ts = run ts (declarations ∷ []) (of_declarations [] ∷ [])

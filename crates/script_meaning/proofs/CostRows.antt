@@ -10,10 +10,10 @@ use Rattle.script_tree.specs.SyntaxLists.{statements_of}
 use Rattle.script_tree.specs.declared.limits.TheConstants.{MOST_STEPS}
 use Rattle.script_meaning.specs.Conduct.{start}
 use Rattle.script_meaning.specs.Evaluate.{Flow, run}
-use Rattle.script_meaning.specs.Run.{Cost, taking, taking_request, issuing, Outcome, goes, stops}
+use Rattle.script_meaning.specs.Run.{Cost, taking, taking_request, issuing, Ran, goes, stops}
 use Rattle.script_meaning.proofs.Programs as p
 
-abbrev costs_in : Outcome Flow → Option (List Cost)
+abbrev costs_in : Ran Flow → Option (List Cost)
 costs_in (goes flow q) = q.costs
 costs_in (stops stop q) = q.costs
 

@@ -5,13 +5,13 @@ use Rattle.std.proofs.lemmas.Bool.Decides.{nat_tests}
 use Rattle.basis.specs.Lists.{nth, first_answer, or_else}
 use Rattle.script_tree.specs.Objects.{acted, plausible, nothing_stored}
 use Rattle.script_tree.specs.Requests.{Request}
-use Rattle.script_tree.specs.Traces.{request_of, response_of, Precedes}
+use Rattle.period.specs.Traces.{request_of, response_of, Precedes}
 use Rattle.script_tree.specs.declared.operation.Choice.{Choice}
 use Rattle.script_tree.specs.declared.operation.Choice.TheVariants.{Nothing}
-use Rattle.script_tree.specs.declared.schedule.Moment.{Moment}
-use Rattle.script_tree.specs.declared.schedule.Moment.TheVariants.{Arrive, Act, Depart}
-use Rattle.script_tree.specs.declared.trace.TraceEvent.{TraceEvent}
-use Rattle.script_tree.specs.declared.trace.TraceEvent.TheVariants.{Asked, Answered}
+use Rattle.period.specs.declared.schedule.Moment.{Moment}
+use Rattle.period.specs.declared.schedule.Moment.TheVariants.{Arrive, Act, Depart}
+use Rattle.period.specs.declared.trace.TraceEvent.{TraceEvent}
+use Rattle.period.specs.declared.trace.TraceEvent.TheVariants.{Asked, Answered}
 use Rattle.script_tree.specs.declared.path.End.TheVariants.{Normal}
 use Rattle.script_tree.specs.declared.path.Path.{Path}
 use Rattle.script_tree.specs.declared.request.Response.{Response}

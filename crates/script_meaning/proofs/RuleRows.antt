@@ -102,7 +102,8 @@ unfolding digits
 returned = refl
 
 -- function g() { return g(); } page "/p" { echo g(); } calls at depth 0 to 64, and the last of these 65 faults
-too_deep : run_of (Function 0 (p.name (codes "g")) [] (return 0 (call 0 (codes "g") no_expression) ∷ []) ∷ on_page (echo 0 (call 0 (codes "g") no_expression) ∷ []))
+too_deep : run_of (Function 0 (p.name (codes "g")) [] (return 0 (call 0 (codes "g") no_expression) ∷ []) ∷ on_page
+    (echo 0 (call 0 (codes "g") no_expression) ∷ []))
     ≡ faults (codes "fault 8\n") [] 65 TooDeep
 unfolding digits
 too_deep = refl

@@ -24,7 +24,8 @@ use Rattle.script_meaning.specs.Operators.{Answer, in_64_bits, if_in_64_bits, if
 use Rattle.script_meaning.specs.Results.{◌>>=◌}
 use Rattle.script_meaning.specs.ValueFaults.{is_of_values, FailsByValues}
 
-pub in_turn : {A B : Type 0} (r : Result A ScriptFault) (f : A → Result B ScriptFault) → FailsByValues r → ((x : A) → FailsByValues (f x)) → FailsByValues (r >>= f)
+pub in_turn : {A B : Type 0} (r : Result A ScriptFault) (f : A → Result B ScriptFault) → FailsByValues r
+    → ((x : A) → FailsByValues (f x)) → FailsByValues (r >>= f)
 in_turn (Ok x) f h k = k x
 in_turn (Err e) f h k = h
 

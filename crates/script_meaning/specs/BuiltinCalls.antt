@@ -26,6 +26,7 @@ abbrev pub parameter : List ℕ → List Parameter → Datum
 parameter x [] = v.null
 parameter x (p ∷ ps) = if bytes_eq x p.name then v.text p.value else parameter x ps
 
+-- the parameter that a text names in a request, else null
 abbrev pub parameter_in : Request → Datum → Answer
 parameter_in q d = do
   x ← text_in d

@@ -48,6 +48,7 @@ issue_unless_fault op = unless_fault op >>= issue
 
 -- ---- calls
 
+-- the value of a call: what its body gives back, else null
 abbrev pub value_of : Flow → Datum
 value_of (on vs) = v.null
 value_of (back d) = d
@@ -64,14 +65,17 @@ call_cost q ds (plain a) = taking ds
 call_cost q ds (of_request a) = taking_request q ds
 call_cost q ds (operation op) = taking ds
 
+-- what a built-in function does once its step is spent: a value, a fault, or an operation that is issued
 abbrev pub call_made : Call → Run Datum
 call_made (plain a) = unless_fault a
 call_made (of_request a) = unless_fault a
 call_made (operation op) = issue_unless_fault op
 
+-- a call of a built-in function spends its step, and then does what it comes to
 abbrev pub call_node : Request → List Datum → Call → Run Datum
 call_node q ds c = charge (call_cost q ds c) >> call_made c
 
+-- a call with the values of its arguments, at a call depth; one of an unknown name is at fault
 abbrev pub called : Setting → Later → ℕ → Callee → (store : List ℕ) → List Datum → Run Datum
 called w later depth (own f) store ds = charge (taking ds) >> entered later depth f ds
 called w later depth (built b) store ds = call_node w.request ds (built_in w.request store b ds)
@@ -96,15 +100,18 @@ print bytes p =
     if nat_lt MOST_BODY_BYTES (length (p.body ++ bytes)) then stops (fault TooLarge) p
     else goes tt (record p { body = p.body ++ bytes })
 
+-- a value joins the body as the text that it prints as
 abbrev pub print_value : Datum → Run (Unit {0})
 print_value d = unless_fault (printed d) >>= print
 
+-- the response has this status
 abbrev pub set_status : ℕ → Run (Unit {0})
 set_status n p = goes tt (record p { status = n })
 
 -- ---- expressions
 
 abbrev mutual
+  -- what an expression does at a call depth, and its value
   pub eval : Setting → Later → ℕ → Variables → Expression → Run Datum
   eval w later depth vs (number at n) = node [] (Ok (v.number n))
   eval w later depth vs (text at bytes) = node [] (Ok (v.text bytes))
@@ -175,6 +182,7 @@ abbrev mutual
     tests ← tests_of w later depth vs (table_in w.program t) cs
     give (u.expect n (table_in w.program t).number tests)
 
+  -- the statements of a transaction with the values of their operands, in order
   pub operands_of_all : Setting → Later → ℕ → Variables → Queries → Run (List Unchecked)
   operands_of_all w later depth vs no_query = give []
   operands_of_all w later depth vs (query q qs) = do
@@ -182,6 +190,7 @@ abbrev mutual
     ds ← operands_of_all w later depth vs qs
     give (d ∷ ds)
 
+  -- the tests of a where, with the values that they compare with
   pub tests_of : Setting → Later → ℕ → Variables → NumberedTable → Conditions → Run (List o.Test)
   tests_of w later depth vs t no_condition = give []
   tests_of w later depth vs t (condition x comparison e cs) = do
@@ -189,6 +198,7 @@ abbrev mutual
     tests ← tests_of w later depth vs t cs
     give (record { column = column_in t x; comparison = comparison; value = d } ∷ tests)
 
+  -- the assignments of an update, with their values
   pub changes_of : Setting → Later → ℕ → Variables → NumberedTable → Assignments → Run (List o.Change)
   changes_of w later depth vs t no_assignment = give []
   changes_of w later depth vs t (assignment x e as') = do
@@ -208,6 +218,7 @@ abbrev pub left_as : Variables → Flow → Flow
 left_as vs (on us) = on (take (length vs) us)
 left_as vs (back d) = back d
 
+-- a block within these variables: what it declared ends with it
 abbrev pub scoped : Variables → Run Flow → Run Flow
 scoped vs block = block >>= λ flow. give (left_as vs flow)
 
@@ -219,11 +230,13 @@ turns whole x body vs (d ∷ ds) = do
   flow ← scoped vs (body (declared vs x d))
   then_on flow (λ us. turns whole x body us ds)
 
+-- a for over a list; over another value, its step and then its fault
 abbrev pub turns_of : (whole : Datum) → List ℕ → (Variables → Run Flow) → Variables → Result (List Datum) ScriptFault → Run Flow
 turns_of whole x body vs (Ok ds) = turns whole x body vs ds
 turns_of whole x body vs (Err f) = charge_for whole >> fails f
 
 abbrev mutual
+  -- what a statement does at a call depth, and how it goes on
   pub exec : Setting → Later → ℕ → Statement → Variables → Run Flow
   exec w later depth (let_ at x e) vs = do
     d ← eval w later depth vs e
@@ -266,10 +279,12 @@ abbrev mutual
     charge_for d
     give (on vs)
 
+  -- what the else of an if does, where it has one
   pub otherwise : Setting → Later → ℕ → Else → Variables → Run Flow
   otherwise w later depth no_else vs = give (on vs)
   otherwise w later depth (else_ ss) vs = block w later depth ss vs
 
+  -- what statements do in order, up to one that gives a value back
   pub block : Setting → Later → ℕ → Statements → Variables → Run Flow
   block w later depth no_statement vs = give (on vs)
   block w later depth (statement s ss) vs = exec w later depth s vs >>= λ flow. then_on flow (block w later depth ss)

@@ -10,9 +10,11 @@ use Rattle.script_meaning.specs.Run.{Cost, taking, taking_request, issuing}
 
 -- ---- equal costs
 
+-- whether two parameters are alike
 abbrev pub same_parameter : Parameter → Parameter → Bool
 same_parameter p q = bytes_eq p.name q.name && bytes_eq p.value q.value
 
+-- whether two requests are alike
 abbrev pub same_request : Request → Request → Bool
 same_request a b = (bytes_eq a.method b.method && bytes_eq a.path b.path) && (bytes_eq a.body b.body && each same_parameter a.parameters b.parameters)
 
@@ -39,6 +41,7 @@ heads [] = []
 heads ([] ∷ css) = heads css
 heads ((c ∷ cs) ∷ css) = c ∷ heads css
 
+-- the others of each
 abbrev pub tails : List (List Cost) → List (List Cost)
 tails [] = []
 tails ([] ∷ css) = [] ∷ tails css
@@ -49,6 +52,7 @@ abbrev pub cost_of : ℕ → List (List Cost) → ℕ
 cost_of zero css = 0
 cost_of (suc n) css = step_cost (heads css) + cost_of n (tails css)
 
+-- how many steps the first member spent
 abbrev pub first_length : List (List Cost) → ℕ
 first_length [] = 0
 first_length (cs ∷ css) = length cs

@@ -4,6 +4,7 @@ use Rattle.script_tree.specs.Datum.{Datum, null, bool, number, text, list, membe
 use Rattle.script_tree.specs.declared.fault.ScriptFault.{ScriptFault}
 use Rattle.script_tree.specs.declared.fault.ScriptFault.TheVariants.{WrongKind}
 
+-- the boolean that a value is, or fault 1
 abbrev pub bool_in : Datum → Result Bool ScriptFault
 bool_in null = Err WrongKind
 bool_in (bool b) = Ok b
@@ -11,6 +12,7 @@ bool_in (number n) = Err WrongKind
 bool_in (text bs) = Err WrongKind
 bool_in (list ds) = Err WrongKind
 
+-- the number that a value is, or fault 1
 abbrev pub number_in : Datum → Result ℤ ScriptFault
 number_in null = Err WrongKind
 number_in (bool b) = Err WrongKind
@@ -18,6 +20,7 @@ number_in (number n) = Ok n
 number_in (text bs) = Err WrongKind
 number_in (list ds) = Err WrongKind
 
+-- the text that a value is, or fault 1
 abbrev pub text_in : Datum → Result (List ℕ) ScriptFault
 text_in null = Err WrongKind
 text_in (bool b) = Err WrongKind
@@ -25,6 +28,7 @@ text_in (number n) = Err WrongKind
 text_in (text bs) = Ok bs
 text_in (list ds) = Err WrongKind
 
+-- the members of the list that a value is, or fault 1
 abbrev pub list_in : Datum → Result (List Datum) ScriptFault
 list_in null = Err WrongKind
 list_in (bool b) = Err WrongKind

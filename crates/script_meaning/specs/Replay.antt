@@ -4,16 +4,17 @@ use Rattle.script_tree.specs.Datum.{Datum}
 use Rattle.script_tree.specs.Objects.{Objects, acted, plausible, holding}
 use Rattle.script_tree.specs.Programs.{Program}
 use Rattle.script_tree.specs.Requests.{Request}
-use Rattle.script_tree.specs.Traces.{request_of, response_of}
+use Rattle.period.specs.Traces.{request_of, response_of}
 use Rattle.script_tree.specs.declared.operation.Op.{Op}
 use Rattle.script_tree.specs.declared.operation.Choice.{Choice}
 use Rattle.script_tree.specs.declared.path.Path.{Path}
 use Rattle.script_tree.specs.declared.request.Response.{Response}
-use Rattle.script_tree.specs.declared.schedule.Moment.{Moment}
-use Rattle.script_tree.specs.declared.schedule.Moment.TheVariants.{Arrive, Act, Depart}
-use Rattle.script_tree.specs.declared.trace.TraceEvent.{TraceEvent}
+use Rattle.period.specs.declared.schedule.Moment.{Moment}
+use Rattle.period.specs.declared.schedule.Moment.TheVariants.{Arrive, Act, Depart}
+use Rattle.period.specs.declared.trace.TraceEvent.{TraceEvent}
 use Rattle.script_meaning.specs.Conduct.{conduct, Ending, Wants, Ends, Undefined}
 
+-- where a request stands in a program when it has used up these answers
 unfoldable pub ending_of : Program → Request → List Datum → Ending
 ending_of program request answers = (conduct program request answers).ending
 
@@ -30,6 +31,7 @@ opening objects = record { objects = objects; answers = λ r. None }
 abbrev pub with_request : ℕ → Option (List Datum) → (ℕ → Option (List Datum)) → ℕ → Option (List Datum)
 with_request r a answers x = if nat_eq r x then a else answers x
 
+-- where a request stands; nowhere, where the trace has none or it isn't open
 abbrev pub ending_with : Program → Option Request → Option (List Datum) → Option Ending
 ending_with program (Some q) (Some answers) = Some (ending_of program q answers)
 ending_with program (Some q) None = None
@@ -54,6 +56,7 @@ IsAsTraced program trace scene (Act r choice) = Unit {0}
 IsAsTraced program trace scene (Depart r) =
     (response : Response) (path : Path) → next_of program trace scene r ≡ Some (Ends response path) → response_of trace r ≡ Some response
 
+-- the answers with one more, where the request is open
 abbrev pub and_answer : Option (List Datum) → Datum → Option (List Datum)
 and_answer None d = None
 and_answer (Some ds) d = Some (ds ++ d ∷ [])
@@ -68,6 +71,7 @@ after_act r choice (Some (Ends response path)) scene = scene
 after_act r choice (Some Undefined) scene = scene
 after_act r choice None scene = scene
 
+-- what a moment makes of a scene
 abbrev pub after : Program → List TraceEvent → Scene → Moment → Scene
 after program trace scene (Arrive r) = record scene { answers = with_request r (Some []) scene.answers }
 after program trace scene (Act r choice) = after_act r choice (next_of program trace scene r) scene
@@ -78,3 +82,8 @@ abbrev pub Plays : Program → List TraceEvent → Scene → List Moment → Typ
 Plays program trace scene [] = Unit {0}
 Plays program trace scene (m ∷ ms) =
     IsAllowed program trace scene m × IsAsTraced program trace scene m × Plays program trace (after program trace scene m) ms
+
+-- the scene in which a schedule ends, from this one on
+abbrev pub scene_after : Program → List TraceEvent → Scene → List Moment → Scene
+scene_after program trace scene [] = scene
+scene_after program trace scene (m ∷ ms) = scene_after program trace (after program trace scene m) ms

@@ -21,6 +21,7 @@ pub data Cost : Type 0 where
   -- an operation that is issued
   issuing : Cost
 
+-- what was spent and done so far
 pub record Progress : Type 0 where
   -- the steps spent, and the operations issued
   pub steps : ℕ
@@ -36,17 +37,19 @@ pub record Progress : Type 0 where
   pub body : List ℕ
 
 -- A run stops where an operation is issued and no answer is left, at a fault, and at an answer beyond the limits of a value.
-pub data Outcome (A : Type 0) : Type 0 where
-  goes : A → Progress → Outcome A
-  stops : Stop → Progress → Outcome A
+pub data Ran (A : Type 0) : Type 0 where
+  goes : A → Progress → Ran A
+  stops : Stop → Progress → Ran A
 
 -- a part of a run, which gives an A where it goes on
 abbrev pub Run : Type 0 → Type 0
-Run A = Progress → Outcome A
+Run A = Progress → Ran A
 
+-- goes on with this
 abbrev pub give : {A : Type 0} → A → Run A
 give a p = goes a p
 
+-- stops at this fault
 abbrev pub fails : {A : Type 0} → ScriptFault → Run A
 fails f p = stops (fault f) p
 
@@ -55,7 +58,8 @@ abbrev pub unless_fault : {A : Type 0} → Result A ScriptFault → Run A
 unless_fault (Ok a) = give a
 unless_fault (Err f) = fails f
 
-abbrev pub after : {A B : Type 0} → Outcome A → (A → Run B) → Outcome B
+-- what comes after a part of a run, where it goes on
+abbrev pub after : {A B : Type 0} → Ran A → (A → Run B) → Ran B
 after (goes a p) f = f a p
 after (stops e p) f = stops e p
 
@@ -65,11 +69,13 @@ abbrev pub ◌>>=◌ : {A B : Type 0} → Run A → (A → Run B) → Run B
 ◌>>=◌ m f = λ p. after (m p) f
 
 infixl 10 ◌>>◌
+-- one part after another, whatever the first gave
 abbrev pub ◌>>◌ : {A B : Type 0} → Run A → Run B → Run B
 ◌>>◌ m n = λ p. after (m p) (λ _. n)
 
 -- ---- steps
 
+-- one cost more, where they are kept
 abbrev pub and_cost : Cost → Option (List Cost) → Option (List Cost)
 and_cost c None = None
 and_cost c (Some cs) = Some (c ∷ cs)
@@ -84,6 +90,7 @@ charge c p =
 abbrev pub charge_for : Datum → Run (Unit {0})
 charge_for d = charge (taking (d ∷ []))
 
+-- a mark joins the trail
 abbrev pub note : Mark → Run (Unit {0})
 note m p = goes tt (record p { trail = p.trail ++ m ∷ [] })
 
@@ -95,6 +102,7 @@ decide_by operand d = do
   note (decided b)
   give b
 
+-- a decision on a value, which its step is spent on
 abbrev pub decide : Datum → Run Bool
 decide d = decide_by d d
 
@@ -120,8 +128,10 @@ answered op (d ∷ ds) p =
     let q : Progress = record p { answers = ds; trail = p.trail ++ issued op ∷ [] } in
     if is_within_limits d then goes d q else stops answer_fault q
 
+-- an operation takes the next of the answers that are left
 abbrev pub take_answer : Op → Run Datum
 take_answer op p = answered op p.answers p
 
+-- an operation is counted, and takes its answer
 abbrev pub issue : Op → Run Datum
 issue op = count_operation >> take_answer op

@@ -5,9 +5,11 @@ use Rattle.script_tree.specs.Datum.{Datum, null}
 use Rattle.script_tree.specs.declared.syntax.name.Name.{Name}
 pub use Rattle.script_meaning.specs.declared.run.Variable.{Variable}
 
+-- the variables that a place sees, the newest last
 abbrev pub Variables : Type 0
 Variables = List Variable
 
+-- the value of a variable, else null
 abbrev pub value_in : Variables → List ℕ → Datum
 value_in [] x = null
 value_in (v ∷ vs) x = if bytes_eq x v.name then v.value else value_in vs x

@@ -2,5 +2,7 @@
 //! specs/, on which every promise of the project stands.
 #![tactic(auto)]
 
+pub mod responses;
 pub mod run;
 pub mod status;
+pub mod store_names;

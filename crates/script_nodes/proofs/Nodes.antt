@@ -23,7 +23,7 @@ use Rattle.script_meaning.specs.Kinds.{bool_in, list_in}
 use Rattle.script_meaning.specs.Operands.{status_in}
 use Rattle.script_meaning.specs.Operators.{printed}
 use Rattle.script_meaning.specs.Results as results
-use Rattle.script_meaning.specs.Run.{Outcome, goes, stops, after, give, fails, note, charge_for, decide, decide_by}
+use Rattle.script_meaning.specs.Run.{Ran, goes, stops, after, give, fails, note, charge_for, decide, decide_by}
 use Rattle.script_meaning.specs.declared.run.Mark.TheVariants.{Decided as decided}
 use Rattle.script_code.specs.CodeRun.{Frame, Next, back_to, enter, turn}
 use Rattle.script_nodes.specs.NodeLaws.{one_node, noted, print_text, set_status_to, without, member_at}
@@ -57,15 +57,16 @@ module _ (cost : Cost) (next : Datum → Run Flow) where
 -- ---- a node of one operand
 
 module _ {B : Type 0} (q : Request) (x : Datum) where
-  passed : (o : Outcome (Unit {0})) (f : Datum → Run B) → after o (λ _. f x) ≡ after (after o (λ _. give x)) f
+  passed : (o : Ran (Unit {0})) (f : Datum → Run B) → after o (λ _. f x) ≡ after (after o (λ _. give x)) f
   passed (goes u p) f = refl
   passed (stops e p) f = refl
 
   pub passes : (f : Datum → Run B) → (charge (taking (x ∷ [])) >> f x) ≡ (one_node q node.Pass x >>= f)
   passes f = λ i p. passed (charge (taking (x ∷ [])) p) f i
 
-  decided_so : (o : Outcome (Unit {0})) (r : Result Bool ScriptFault) (f : Bool → Run B)
-      → after (after o (λ _. unless_fault r >>= λ b. note (decided b) >>= λ _. give b)) f ≡ after (after (after o (λ _. gone_on (value_made (results.◌>>=◌ r (λ b. Ok (bool b)))))) noted) f
+  decided_so : (o : Ran (Unit {0})) (r : Result Bool ScriptFault) (f : Bool → Run B)
+      → after (after o (λ _. unless_fault r >>= λ b. note (decided b) >>= λ _. give b)) f
+      ≡ after (after (after o (λ _. gone_on (value_made (results.◌>>=◌ r (λ b. Ok (bool b)))))) noted) f
   decided_so (goes u p) (Ok b) f = refl
   decided_so (goes u p) (Err e) f = refl
   decided_so (stops e p) r f = refl
@@ -73,8 +74,10 @@ module _ {B : Type 0} (q : Request) (x : Datum) where
   pub decides : (f : Bool → Run B) → (decide x >>= f) ≡ (one_node q node.Decide x >>= noted >>= f)
   decides f = λ i p. decided_so (charge (taking (x ∷ [])) p) (bool_in x) f i
 
-  echoed : (o : Outcome (Unit {0})) (r : Result (List ℕ) ScriptFault) (n : Run B)
-      → after (after o (λ _. unless_fault r >>= print)) (λ _. n) ≡ after (after (after o (λ _. gone_on (value_made (results.◌>>=◌ r (λ bytes. Ok (text bytes)))))) print_text) (λ _. n)
+  echoed : (o : Ran (Unit {0})) (r : Result (List ℕ) ScriptFault) (n : Run B)
+      → after (after o (λ _. unless_fault r >>= print)) (λ _. n)
+      ≡ after (after (after o (λ _. gone_on (value_made (results.◌>>=◌ r (λ bytes. Ok (text bytes)))))) print_text)
+      (λ _. n)
   echoed (goes u p) (Ok bytes) n = refl
   echoed (goes u p) (Err e) n = refl
   echoed (stops e p) r n = refl
@@ -82,8 +85,10 @@ module _ {B : Type 0} (q : Request) (x : Datum) where
   pub echoes : (n : Run B) → ((charge_for x >> print_value x) >> n) ≡ ((one_node q node.Echo x >>= print_text) >> n)
   echoes n = λ i p. echoed (charge (taking (x ∷ [])) p) (printed x) n i
 
-  status_set : (o : Outcome (Unit {0})) (r : Result ℕ ScriptFault) (n : Run B)
-      → after (after o (λ _. unless_fault r >>= set_status)) (λ _. n) ≡ after (after (after o (λ _. gone_on (value_made (results.◌>>=◌ r (λ k. Ok (number (pos k))))))) set_status_to) (λ _. n)
+  status_set : (o : Ran (Unit {0})) (r : Result ℕ ScriptFault) (n : Run B)
+      → after (after o (λ _. unless_fault r >>= set_status)) (λ _. n)
+      ≡ after (after (after o (λ _. gone_on (value_made (results.◌>>=◌ r (λ k. Ok (number (pos k))))))) set_status_to)
+      (λ _. n)
   status_set (goes u p) (Ok k) n = refl
   status_set (goes u p) (Err e) n = refl
   status_set (stops e p) r n = refl
@@ -92,11 +97,11 @@ module _ {B : Type 0} (q : Request) (x : Datum) where
   sets_status n = λ i p. status_set (charge (taking (x ∷ [])) p) (status_in x) n i
 
 -- a call
-called_so : {B : Type 0} (o : Outcome (Unit {0})) (x : Datum) (n : Run B) → after o (λ _. n) ≡ after (after o (λ _. give x)) (λ _. n)
+called_so : {B : Type 0} (o : Ran (Unit {0})) (x : Datum) (n : Run B) → after o (λ _. n) ≡ after (after o (λ _. give x)) (λ _. n)
 called_so (goes u p) x n = refl
 called_so (stops e p) x n = refl
 
-fails_so : {A B : Type 0} (o : Outcome (Unit {0})) (f : ScriptFault) (n : A → Run B) → after o (λ _. fails f) ≡ after (after o (λ _. fails f)) n
+fails_so : {A B : Type 0} (o : Ran (Unit {0})) (f : ScriptFault) (n : A → Run B) → after o (λ _. fails f) ≡ after (after o (λ _. fails f)) n
 fails_so (goes u p) f n = refl
 fails_so (stops e p) f n = refl
 
@@ -118,15 +123,18 @@ module _ (q : Request) (next : Next) (fs : List Frame) (out back' : ℕ) (st vs 
   abbrev told : Bool → Datum → List Datum → Run Flow
   told b d es = decide_by whole (bool b) >>= λ c. cond c (next fs back' (list (data_of es) ∷ whole ∷ st) (vs ++ d ∷ [])) (next fs out st vs)
 
-  over : (o : Outcome (Unit {0})) (d : Datum) (es : List Datum)
+  over : (o : Ran (Unit {0})) (d : Datum) (es : List Datum)
       → after (after o (λ _. unless_fault (Ok false) >>= λ b. note (decided b) >>= λ _. give b)) (λ _. next fs out st vs)
-      ≡ after (after o (λ _. unless_fault (Ok false) >>= λ b. note (decided b) >>= λ _. give b)) (λ c. cond c (next fs back' (list (data_of es) ∷ whole ∷ st) (vs ++ d ∷ [])) (next fs out st vs))
+      ≡ after (after o (λ _. unless_fault (Ok false) >>= λ b. note (decided b) >>= λ _. give b))
+      (λ c. cond c (next fs back' (list (data_of es) ∷ whole ∷ st) (vs ++ d ∷ [])) (next fs out st vs))
   over (goes u p) d es = refl
   over (stops e p) d es = refl
 
-  more_left : (o : Outcome (Unit {0})) (d : Datum) (es : List Datum)
-      → after (after o (λ _. unless_fault (Ok true) >>= λ b. note (decided b) >>= λ _. give b)) (λ _. next fs back' (list (data_of es) ∷ whole ∷ st) (vs ++ d ∷ []))
-      ≡ after (after o (λ _. unless_fault (Ok true) >>= λ b. note (decided b) >>= λ _. give b)) (λ c. cond c (next fs back' (list (data_of es) ∷ whole ∷ st) (vs ++ d ∷ [])) (next fs out st vs))
+  more_left : (o : Ran (Unit {0})) (d : Datum) (es : List Datum)
+      → after (after o (λ _. unless_fault (Ok true) >>= λ b. note (decided b) >>= λ _. give b))
+      (λ _. next fs back' (list (data_of es) ∷ whole ∷ st) (vs ++ d ∷ []))
+      ≡ after (after o (λ _. unless_fault (Ok true) >>= λ b. note (decided b) >>= λ _. give b))
+      (λ c. cond c (next fs back' (list (data_of es) ∷ whole ∷ st) (vs ++ d ∷ [])) (next fs out st vs))
   more_left (goes u p) d es = refl
   more_left (stops e p) d es = refl
 
@@ -143,34 +151,47 @@ module _ (q : Request) (next : Next) (fs : List Frame) (out back' : ℕ) (st vs 
         ∙ (λ i. told (sym (is_no_less k (length ms) most) i) (get_or ms k null) (drop (k + 1) ms))
   ]
 
-  by_node : (o : Outcome (Unit {0})) (b : Bool) (f : Bool → Run Flow)
+  by_node : (o : Ran (Unit {0})) (b : Bool) (f : Bool → Run Flow)
       → after (after o (λ _. unless_fault (Ok b) >>= λ c. note (decided c) >>= λ _. give c)) f ≡ after (after (after o (λ _. give (bool b))) noted) f
   by_node (goes u p) b f = refl
   by_node (stops e p) b f = refl
 
-  by_fault : (o : Outcome (Unit {0})) (x : ScriptFault) (f : Bool → Run Flow) → after o (λ _. fails x) ≡ after (after (after o (λ _. fails x)) noted) f
+  by_fault : (o : Ran (Unit {0})) (x : ScriptFault) (f : Bool → Run Flow) → after o (λ _. fails x) ≡ after (after (after o (λ _. fails x)) noted) f
   by_fault (goes u p) x f = refl
   by_fault (stops e p) x f = refl
 
 turns_so : (k : ℕ) (whole : Datum) (n : ℕ) (q : Request) (next : Next) (fs : List Frame) (out back' : ℕ) (st vs : List Datum)
     → turn next fs out back' whole st vs (list_in (without k whole))
-    ≡ (one_node q (node.Member k) whole >>= noted >>= λ b. cond b (next fs back' (without (k + 1) whole ∷ whole ∷ st) (vs ++ member_at k whole ∷ [])) (next fs out st vs))
+    ≡ (one_node q (node.Member k) whole >>= noted
+    >>= λ b. cond b (next fs back' (without (k + 1) whole ∷ whole ∷ st) (vs ++ member_at k whole ∷ []))
+    (next fs out st vs))
 turns_so k (list ds) n q next fs out back' st vs =
     let ms = members ds in
     ap (λ xs. turn next fs out back' (list ds) st vs (Ok xs)) (members-data_of (drop k ms))
     ∙ turn_list q next fs out back' st vs (list ds) ms k
-    ∙ (λ i p. by_node q next fs out back' st vs (list ds) (charge_for (list ds) p) (nat_lt k (length ms)) (λ b. cond b (next fs back' (list (data_of (drop (k + 1) ms)) ∷ list ds ∷ st) (vs ++ get_or ms k null ∷ [])) (next fs out st vs)) i)
-turns_so k null n q next fs out back' st vs = λ i p. by_fault q next fs out back' st vs null (charge_for null p) WrongKind (λ b. cond b (next fs back' (null ∷ null ∷ st) (vs ++ null ∷ [])) (next fs out st vs)) i
-turns_so k (bool c) n q next fs out back' st vs = λ i p. by_fault q next fs out back' st vs (bool c) (charge_for (bool c) p) WrongKind (λ b. cond b (next fs back' (bool c ∷ bool c ∷ st) (vs ++ null ∷ [])) (next fs out st vs)) i
-turns_so k (number c) n q next fs out back' st vs = λ i p. by_fault q next fs out back' st vs (number c) (charge_for (number c) p) WrongKind (λ b. cond b (next fs back' (number c ∷ number c ∷ st) (vs ++ null ∷ [])) (next fs out st vs)) i
-turns_so k (text c) n q next fs out back' st vs = λ i p. by_fault q next fs out back' st vs (text c) (charge_for (text c) p) WrongKind (λ b. cond b (next fs back' (text c ∷ text c ∷ st) (vs ++ null ∷ [])) (next fs out st vs)) i
+    ∙ (λ i p. by_node q next fs out back' st vs (list ds) (charge_for (list ds) p) (nat_lt k (length ms))
+    (λ b. cond b (next fs back' (list (data_of (drop (k + 1) ms)) ∷ list ds ∷ st) (vs ++ get_or ms k null ∷ []))
+    (next fs out st vs)) i)
+turns_so k null n q next fs out back' st vs =
+    λ i p. by_fault q next fs out back' st vs null (charge_for null p) WrongKind
+    (λ b. cond b (next fs back' (null ∷ null ∷ st) (vs ++ null ∷ [])) (next fs out st vs)) i
+turns_so k (bool c) n q next fs out back' st vs =
+    λ i p. by_fault q next fs out back' st vs (bool c) (charge_for (bool c) p) WrongKind
+    (λ b. cond b (next fs back' (bool c ∷ bool c ∷ st) (vs ++ null ∷ [])) (next fs out st vs)) i
+turns_so k (number c) n q next fs out back' st vs =
+    λ i p. by_fault q next fs out back' st vs (number c) (charge_for (number c) p) WrongKind
+    (λ b. cond b (next fs back' (number c ∷ number c ∷ st) (vs ++ null ∷ [])) (next fs out st vs)) i
+turns_so k (text c) n q next fs out back' st vs =
+    λ i p. by_fault q next fs out back' st vs (text c) (charge_for (text c) p) WrongKind
+    (λ b. cond b (next fs back' (text c ∷ text c ∷ st) (vs ++ null ∷ [])) (next fs out st vs)) i
 
 pub means_nodes : MeansNodes
 means_nodes = record {
   push = λ value q functions next fs pc st vs. refl;
   load = λ j q functions next fs pc st vs. refl;
   unary = λ op q functions next fs pc st vs i. on_one st (λ x rest. of_value (taking (x ∷ [])) (λ d. next fs (pc + 1) (d ∷ rest) vs) (unary_answer op x) i);
-  binary = λ op q functions next fs pc st vs i. on_two st (λ x y rest. of_value (taking (x ∷ y ∷ [])) (λ d. next fs (pc + 1) (d ∷ rest) vs) (binary_answer op x y) i);
+  binary = λ op q functions next fs pc st vs i. on_two st
+      (λ x y rest. of_value (taking (x ∷ y ∷ [])) (λ d. next fs (pc + 1) (d ∷ rest) vs) (binary_answer op x y) i);
   index = λ q functions next fs pc st vs i. on_two st (λ x y rest. of_value (taking (x ∷ y ∷ [])) (λ d. next fs (pc + 1) (d ∷ rest) vs) (indexed x y) i);
   list = λ n q functions next fs pc st vs.
       let ds = topmost n st [] in

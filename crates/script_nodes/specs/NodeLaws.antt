@@ -27,7 +27,8 @@ AlwaysDoes i does = (q : Request) (functions : List ℕ) (next : Next) (fs : Lis
 
 -- Anywhere in a run the instruction does this.
 abbrev pub AlwaysIs : Instruction → (Request → List ℕ → Next → Next) → Type 0
-AlwaysIs i does = (q : Request) (functions : List ℕ) (next : Next) (fs : List Frame) (pc : ℕ) (st vs : List Datum) → step q functions (Some i) next fs pc st vs ≡ does q functions next fs pc st vs
+AlwaysIs i does = (q : Request) (functions : List ℕ) (next : Next) (fs : List Frame) (pc : ℕ) (st vs : List Datum)
+    → step q functions (Some i) next fs pc st vs ≡ does q functions next fs pc st vs
 
 -- a node of one operand
 abbrev pub one_node : Request → Primitive → Datum → Run Datum
@@ -41,6 +42,7 @@ noted d = unless_fault (bool_in d) >>= λ b. note (decided b) >>= λ _. give b
 abbrev pub print_text : Datum → Run (Unit {0})
 print_text d = unless_fault (text_in d) >>= print
 
+-- a number that a node made is set as the status
 abbrev pub set_status_to : Datum → Run (Unit {0})
 set_status_to (number (pos n)) = set_status n
 set_status_to d = give tt
@@ -80,23 +82,42 @@ pub record MeansNodes : Type 0 where
   pub transact : (shapes : Bor (List Shape)) → AlwaysDoes (code.Transact shapes.now) (λ q st vs onward.
       let ds = topmost (all_taken shapes.now) st [] in
       node_run (taking ds) (evaluated q (node.Transact shapes) ds) >>= onward (drop (all_taken shapes.now) st))
-  pub declare : AlwaysIs code.Declare (λ q functions next fs pc st vs. on_one st (λ x rest. one_node q node.Pass x >>= λ d. next fs (pc + 1) rest (vs ++ d ∷ [])))
-  pub assign : (i : ℕ) → AlwaysIs (code.Assign i) (λ q functions next fs pc st vs. on_one st (λ x rest. one_node q node.Pass x >>= λ d. next fs (pc + 1) rest (slice_set vs i d)))
+  pub declare : AlwaysIs code.Declare (λ q functions next fs pc st vs. on_one st
+      (λ x rest. one_node q node.Pass x >>= λ d. next fs (pc + 1) rest (vs ++ d ∷ [])))
+  pub assign : (i : ℕ) → AlwaysIs (code.Assign i)
+      (λ q functions next fs pc st vs. on_one st
+      (λ x rest. one_node q node.Pass x >>= λ d. next fs (pc + 1) rest (slice_set vs i d)))
   pub discard : AlwaysIs code.Discard (λ q functions next fs pc st vs. on_one st (λ x rest. one_node q node.Pass x >>= λ d. next fs (pc + 1) rest vs))
   pub return : AlwaysIs code.Return (λ q functions next fs pc st vs. on_one st (λ x rest. one_node q node.Pass x >>= λ d. back_to next fs d))
   pub echo : AlwaysIs code.Echo (λ q functions next fs pc st vs. on_one st (λ x rest. (one_node q node.Echo x >>= print_text) >> next fs (pc + 1) rest vs))
-  pub status : AlwaysIs code.Status (λ q functions next fs pc st vs. on_one st (λ x rest. (one_node q node.Status x >>= set_status_to) >> next fs (pc + 1) rest vs))
+  pub status : AlwaysIs code.Status (λ q functions next fs pc st vs. on_one st
+      (λ x rest. (one_node q node.Status x >>= set_status_to) >> next fs (pc + 1) rest vs))
   pub call : (f n : ℕ) → AlwaysIs (code.Call f n) (λ q functions next fs pc st vs.
       let ds = topmost n st [] in
-      node_run (taking ds) (evaluated q node.Call ds) >>= λ _. enter next fs (slice_get functions f) (record { place = pc + 1; stack = drop n st; slots = vs }) ds)
+      node_run (taking ds) (evaluated q node.Call ds)
+      >>= λ _. enter next fs (slice_get functions f)
+      (record { place = pc + 1; stack = drop n st; slots = vs }) ds)
   pub call_unknown : (n : ℕ) → AlwaysIs (code.CallUnknown n) (λ q functions next fs pc st vs.
       let ds = topmost n st [] in
       node_run (taking ds) (evaluated q node.Unknown ds) >>= λ _. give (on []))
-  pub and_ : (n : ℕ) → AlwaysIs (code.And n) (λ q functions next fs pc st vs. on_one st (λ x rest. one_node q node.Decide x >>= noted >>= λ b. if b then next fs (pc + 1) rest vs else next fs (pc + 1 + n) st vs))
-  pub or_ : (n : ℕ) → AlwaysIs (code.Or n) (λ q functions next fs pc st vs. on_one st (λ x rest. one_node q node.Decide x >>= noted >>= λ b. if b then next fs (pc + 1 + n) st vs else next fs (pc + 1) rest vs))
-  pub branch : (n : ℕ) → AlwaysIs (code.Branch n) (λ q functions next fs pc st vs. on_one st (λ x rest. one_node q node.Decide x >>= noted >>= λ b. if b then next fs (pc + 1) rest vs else next fs (pc + 1 + n) rest vs))
-  pub again : (n : ℕ) → AlwaysIs (code.Again n) (λ q functions next fs pc st vs. on_one st (λ x rest. one_node q node.Decide x >>= noted >>= λ b. if b then next fs (pc - n) rest vs else next fs (pc + 1) rest vs))
+  pub and_ : (n : ℕ) → AlwaysIs (code.And n)
+      (λ q functions next fs pc st vs. on_one st
+      (λ x rest. one_node q node.Decide x >>= noted
+      >>= λ b. if b then next fs (pc + 1) rest vs else next fs (pc + 1 + n) st vs))
+  pub or_ : (n : ℕ) → AlwaysIs (code.Or n) (λ q functions next fs pc st vs. on_one st
+      (λ x rest. one_node q node.Decide x >>= noted
+      >>= λ b. if b then next fs (pc + 1 + n) st vs else next fs (pc + 1) rest vs))
+  pub branch : (n : ℕ) → AlwaysIs (code.Branch n)
+      (λ q functions next fs pc st vs. on_one st
+      (λ x rest. one_node q node.Decide x >>= noted
+      >>= λ b. if b then next fs (pc + 1) rest vs else next fs (pc + 1 + n) rest vs))
+  pub again : (n : ℕ) → AlwaysIs (code.Again n)
+      (λ q functions next fs pc st vs. on_one st
+      (λ x rest. one_node q node.Decide x >>= noted
+      >>= λ b. if b then next fs (pc - n) rest vs else next fs (pc + 1) rest vs))
   -- the next turn of a loop that passed k members
   pub turn : (k : ℕ) (whole : Datum) (n : ℕ) (q : Request) (functions : List ℕ) (next : Next) (fs : List Frame) (pc : ℕ) (st vs : List Datum)
       → step q functions (Some (code.Turn n)) next fs pc (without k whole ∷ whole ∷ st) vs
-      ≡ (one_node q (node.Member k) whole >>= noted >>= λ b. if b then next fs (pc - n) (without (k + 1) whole ∷ whole ∷ st) (vs ++ member_at k whole ∷ []) else next fs (pc + 1) st vs)
+      ≡ (one_node q (node.Member k) whole >>= noted
+      >>= λ b. if b then next fs (pc - n) (without (k + 1) whole ∷ whole ∷ st)
+      (vs ++ member_at k whole ∷ []) else next fs (pc + 1) st vs)

@@ -4,6 +4,7 @@ pub mod Lighter
 pub mod Parts
 pub mod PrintsAgain
 pub mod Replaced
+pub mod ReplacedExpressions
 pub mod Runs
 pub mod SameLevels
 pub mod Scanned

@@ -36,14 +36,16 @@ token_passes (b ∷ bs) k s rest at depth is e =
     let n : suc (length bs) - 1 ≡ length bs = omega arith in
     let q : at + 1 + length bs + 1 ≡ at + suc (length bs) + 1 = omega arith in
     ap (λ l. scanned at depth l (λ d n. scan tail (at + 1) d n)) e
-    ∙ counted_same (token at k) (open_behind (bracket_of k) depth) (λ d. scan tail (at + 1) d (suc (length bs) - 1)) (λ d. scan rest (at + suc (length bs) + 1) d 0)
+    ∙ counted_same (token at k) (open_behind (bracket_of k) depth) (λ d. scan tail (at + 1) d (suc (length bs) - 1))
+    (λ d. scan rest (at + suc (length bs) + 1) d 0)
     (λ d. ap (scan tail (at + 1) d) n ∙ passes bs (s ∷ rest) (at + 1) d ∙ blank_passes s rest (at + 1 + length bs) d is ∙ ap (λ a. scan rest a d 0) q)
 
 separates : (ks : List Kind) → is_blank (separator ks) ≡ true
 separates [] = refl
 separates (k ∷ ks) = refl
 
-finds_more : (k : Kind) (ks : List Kind) (at len : ℕ) (o : Option ℕ) (f : ℕ → Scan) → NestsWithin o ks → ((d : ℕ) → NestsWithin (Some d) ks → Finds ks len (f d)) → Finds (k ∷ ks) len (counted (token at k) o f)
+finds_more : (k : Kind) (ks : List Kind) (at len : ℕ) (o : Option ℕ) (f : ℕ → Scan) → NestsWithin o ks
+    → ((d : ℕ) → NestsWithin (Some d) ks → Finds ks len (f d)) → Finds (k ∷ ks) len (counted (token at k) o f)
 finds_more k ks at len None f nests more = absurd nests
 finds_more k ks at len (Some d) f nests more = let found = more d nests in (ap (λ found. k ∷ found) found.0, found.1)
 

@@ -9,7 +9,9 @@ unfolding followed
 adds k before middle after p q ks =
     ap (λ l. l ++ spaced ks) q ∙ append_assoc middle (32 ∷ []) (spaced ks) ∙ ap (λ l. l ++ 32 ∷ spaced ks) p ∙ append_assoc before (printed k) (32 ∷ spaced ks)
 
-pub added : {A E : Type 0} (k : Kind) (before middle after : List ℕ) (result : Result A E) → middle ≡ before ++ printed k → IfOk result (λ _. after ≡ middle ++ 32 ∷ []) → IfOk result (λ _. Adds k before after)
+pub added : {A E : Type 0} (k : Kind) (before middle after : List ℕ) (result : Result A E)
+    → middle ≡ before ++ printed k → IfOk result (λ _. after ≡ middle ++ 32 ∷ [])
+    → IfOk result (λ _. Adds k before after)
 added k before middle after (Ok x) p q = adds k before middle after p q
 added k before middle after (Err e) p q = tt
 

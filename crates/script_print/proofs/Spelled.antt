@@ -44,7 +44,8 @@ begins_run b bs is = rw is is
 fit_name : (x : List ℕ) (o : Option Word) → word_of x ≡ o → BeginsWithLetter x → AllIn Names x → HasFit (named x o)
 fit_name x (Some w) is begins all = tt
 fit_name x None is begins all =
-    either (nat_le (length x) MOST_IDENTIFIER_BYTES) (whole (name x) (length x)) (wrong Limit) (λ short. record { begins = begins; all = all; no_word = is; short = short }) tt
+    either (nat_le (length x) MOST_IDENTIFIER_BYTES) (whole (name x) (length x)) (wrong Limit)
+    (λ short. record { begins = begins; all = all; no_word = is; short = short }) tt
 
 fit_number_by : (len n : ℕ) (t : Bool) → nat_le n MOST_NUMBER ≡ t → HasFit (tokens.number len (if t then Some n else None))
 fit_number_by len n true is = (n, refl, is)
@@ -59,13 +60,16 @@ fit_word bs None other h = h
 fit_word bs (Some w) other h = tt
 
 fit_sign : (bs : List ℕ) → HasFit (sign bs)
-fit_sign bs = fit_word (take 2 bs) (word_of (take 2 bs)) (word_lexeme (take 1 bs) (word_of (take 1 bs)) (wrong NoToken)) (fit_word (take 1 bs) (word_of (take 1 bs)) (wrong NoToken) tt)
+fit_sign bs = fit_word (take 2 bs) (word_of (take 2 bs))
+    (word_lexeme (take 1 bs) (word_of (take 1 bs)) (wrong NoToken))
+    (fit_word (take 1 bs) (word_of (take 1 bs)) (wrong NoToken) tt)
 
 abbrev behind_text : ℕ → List ℕ → Lexeme
 behind_text b bs = if b == 34 then tokens.text (text_from Plain bs) else sign (b ∷ bs)
 
 abbrev behind_number : ℕ → List ℕ → Lexeme
-behind_number b bs = if tokens.is_digit b then tokens.number (length (run Digit (b ∷ bs))) (within_limit (value_from 0 (run Digit (b ∷ bs)))) else behind_text b bs
+behind_number b bs = if tokens.is_digit b then tokens.number (length (run Digit (b ∷ bs)))
+    (within_limit (value_from 0 (run Digit (b ∷ bs)))) else behind_text b bs
 
 abbrev behind_name : ℕ → List ℕ → Lexeme
 behind_name b bs = if is_letter b then named (run Names (b ∷ bs)) (word_of (run Names (b ∷ bs))) else behind_number b bs
@@ -79,7 +83,8 @@ fit_of b bs =
     let letters = run Names (b ∷ bs) in
     let at_name = either (is_letter b) (named letters (word_of letters)) (behind_number b bs) (λ is. fit_name letters (word_of letters) refl (begins_run b bs is) (run_in Names (b ∷ bs))) at_number in
     let comment = blank (span Comment (b ∷ bs)) in
-    either (tokens.is_blank b) (blank 1) (if b == 35 then comment else behind_name b bs) (λ is. tt) (either (b == 35) comment (behind_name b bs) (λ is. tt) at_name)
+    either (tokens.is_blank b) (blank 1) (if b == 35 then comment else behind_name b bs) (λ is. tt)
+    (either (b == 35) comment (behind_name b bs) (λ is. tt) at_name)
 
 fit : (bytes : List ℕ) → HasFit (lexeme bytes)
 fit [] = tt

@@ -31,7 +31,8 @@ coded b rest h =
     ∙ ap (behind [] 1) (behind_behind [] (b ∷ []) 1 2 (text_from Plain rest))
     ∙ behind_behind [] (b ∷ []) 1 3 (text_from Plain rest))
 
-other : (b : ℕ) (rest : List ℕ) (u : Bool) → (between 0 31 b || between 127 255 b) ≡ u → (b == 34) ≡ false → (b == 92) ≡ false → (b == 10) ≡ false → (b == 9) ≡ false → IsRead rest b
+other : (b : ℕ) (rest : List ℕ) (u : Bool) → (between 0 31 b || between 127 255 b) ≡ u → (b == 34) ≡ false
+    → (b == 92) ≡ false → (b == 10) ≡ false → (b == 9) ≡ false → IsRead rest b
 other b rest true is q s n t = let h : b < 256 = grind (arith, nat_tests) in rw (q, s, n, t, is) (coded b rest h)
 other b rest false is q s n t = rw (q, s, n, t, is) (rw (q, n, s) refl)
 

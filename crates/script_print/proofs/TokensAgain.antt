@@ -19,7 +19,9 @@ use Rattle.script_print.proofs.Texts.{content_read}
 
 -- ---- words
 
-word_again : (x : Word) (rest : List ℕ) → (lexeme (spelling_of x ++ 32 ∷ rest) ≡ whole (fixed x) (length (spelling_of x))) × (lexeme (spelling_of x ++ 10 ∷ rest) ≡ whole (fixed x) (length (spelling_of x)))
+word_again : (x : Word) (rest : List ℕ) → (lexeme (spelling_of x ++ 32 ∷ rest)
+    ≡ whole (fixed x) (length (spelling_of x)))
+    × (lexeme (spelling_of x ++ 10 ∷ rest) ≡ whole (fixed x) (length (spelling_of x)))
 unfolding words
 word_again w.Store rest = (refl, refl)
 word_again x rest = (refl, refl)
@@ -32,7 +34,8 @@ letter_is b h = (grind (arith, nat_tests), grind (arith, nat_tests))
 letter_front : (b : ℕ) (bs : List ℕ) → is_letter b ≡ true → lexeme (b ∷ bs) ≡ named (run Names (b ∷ bs)) (word_of (run Names (b ∷ bs)))
 letter_front b bs is = let not = letter_is b is in rw (not.0, not.1, is) refl
 
-name_again : (x : List ℕ) (s : ℕ) (rest : List ℕ) → BeginsWithLetter x → AllIn Names x → word_of x ≡ None → nat_le (length x) MOST_IDENTIFIER_BYTES ≡ true → in_class Names s ≡ false
+name_again : (x : List ℕ) (s : ℕ) (rest : List ℕ) → BeginsWithLetter x → AllIn Names x → word_of x ≡ None
+    → nat_le (length x) MOST_IDENTIFIER_BYTES ≡ true → in_class Names s ≡ false
     → lexeme (x ++ s ∷ rest) ≡ whole (name x) (length x)
 name_again [] s rest begins all no_word short out = absurd begins
 name_again (b ∷ bs) s rest begins all no_word short out =
@@ -72,7 +75,8 @@ decimal_is n h =
 digit_is : (b : ℕ) → is_digit b ≡ true → (is_blank b ≡ false) × ((b == 35) ≡ false) × (is_letter b ≡ false)
 digit_is b h = (grind (arith, nat_tests), grind (arith, nat_tests), grind (arith, nat_tests))
 
-digit_front : (b : ℕ) (bs : List ℕ) → is_digit b ≡ true → lexeme (b ∷ bs) ≡ tokens.number (length (run Digit (b ∷ bs))) (within_limit (value_from 0 (run Digit (b ∷ bs))))
+digit_front : (b : ℕ) (bs : List ℕ) → is_digit b ≡ true
+    → lexeme (b ∷ bs) ≡ tokens.number (length (run Digit (b ∷ bs))) (within_limit (value_from 0 (run Digit (b ∷ bs))))
 digit_front b bs is = let not = digit_is b is in rw (not.0, not.1, not.2, is) refl
 
 number_again : (n : ℕ) (ds : List ℕ) (s : ℕ) (rest : List ℕ) → IsDecimal n ds → nat_le n MOST_NUMBER ≡ true → in_class Digit s ≡ false
@@ -86,7 +90,8 @@ number_again n (b ∷ bs) s rest d fits out =
 
 -- ---- texts
 
-text_again : (content : List ℕ) (s : ℕ) (rest : List ℕ) → nat_le (length content) MOST_LITERAL_BYTES ≡ true → lexeme (printed_text content ++ s ∷ rest) ≡ whole (text content) (length (printed_text content))
+text_again : (content : List ℕ) (s : ℕ) (rest : List ℕ) → nat_le (length content) MOST_LITERAL_BYTES ≡ true
+    → lexeme (printed_text content ++ s ∷ rest) ≡ whole (text content) (length (printed_text content))
 text_again content s rest short =
     let inner = printed_content content in
     let p : (inner ++ 34 ∷ []) ++ s ∷ rest ≡ inner ++ 34 ∷ s ∷ rest = append_assoc inner (34 ∷ []) (s ∷ rest) in

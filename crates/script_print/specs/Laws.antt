@@ -5,7 +5,7 @@ use Rattle.script_tokens.specs.Kinds.{Kind}
 use Rattle.script_tokens.specs.Scans.{Scan, bracket_of, open_behind, scan_of}
 use Rattle.script_tokens.specs.Tokens.{IsSpelled}
 use Rattle.script_tokens.specs.declared.fault.End.TheVariants.{File}
-use Rattle.script_tree.specs.declared.syntax.declaration.Declaration.{Declaration}
+use Rattle.script_tree.specs.Programs.{Program}
 use Rattle.script_grammar.specs.Files.{Spells}
 use Rattle.script_print.specs.Placeless.{placeless}
 use Rattle.script_print.specs.Prints.{joined}
@@ -28,5 +28,5 @@ ReadsAgain = (ks : List Kind) → All IsSpelled ks → NestsWithin (Some 0) ks �
 -- The tree that some bytes spell is printed as bytes that spell the same tree but for its places.
 abbrev pub PrintsAgain : Type 0
 PrintsAgain =
-    (bytes : List ℕ) (tree : List Declaration) → Spells bytes tree
-    → (again : List Declaration) × Spells (printed_tree tree) again × (placeless again ≡ placeless tree)
+    (bytes : List ℕ) (tree : Program) → Spells bytes tree
+    → (again : Program) × Spells (printed_tree tree) again × (placeless again ≡ placeless tree)

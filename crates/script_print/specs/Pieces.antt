@@ -12,27 +12,35 @@ use Rattle.script_grammar.specs.Spelling.{Mark, word, named, comparison_word, na
 
 -- ---- the lists of the code
 
+-- expressions with commas between them
 abbrev pub members : List Expression → List Mark → List Mark
 members es = list_spelling (expressions_of es)
 
+-- expressions with a comma before each
 abbrev pub more_members : List Expression → List Mark → List Mark
 more_members es = more_spelling (expressions_of es)
 
+-- the statements of a transaction
 abbrev pub queries : List Query → List Mark → List Mark
 queries qs = queries_spelling (queries_of qs)
 
+-- a where with its tests; no tests, no where
 abbrev pub conditions : List Condition → List Mark → List Mark
 conditions cs = where_spelling (conditions_of (map condition_of cs))
 
+-- tests with an and before each
 abbrev pub more_conditions : List Condition → List Mark → List Mark
 more_conditions cs = and_spelling (conditions_of (map condition_of cs))
 
+-- assignments with commas between them
 abbrev pub assignments : List Assignment → List Mark → List Mark
 assignments sets = sets_spelling (assignments_of (map assignment_of sets))
 
+-- assignments with a comma before each
 abbrev pub more_assignments : List Assignment → List Mark → List Mark
 more_assignments sets = more_sets_spelling (assignments_of (map assignment_of sets))
 
+-- the statements of a block
 abbrev pub statements : List Statement → List Mark → List Mark
 statements ss = statements_spelling (statements_of ss)
 
@@ -46,9 +54,11 @@ enclosed opening part closing marks = word opening ∷ part (word closing ∷ ma
 abbrev pub bracketed : List Name → List Mark → List Mark
 bracketed xs = enclosed w.Open (names xs) w.Close
 
+-- a transaction: its keyword, and its statements in braces
 abbrev pub transaction : List Query → List Mark → List Mark
 transaction qs marks = word w.Transact ∷ enclosed w.BraceOpen (queries qs) w.BraceClose marks
 
+-- statements in braces
 abbrev pub block : List Statement → List Mark → List Mark
 block ss = enclosed w.BraceOpen (statements ss) w.BraceClose
 
@@ -56,6 +66,7 @@ block ss = enclosed w.BraceOpen (statements ss) w.BraceClose
 abbrev pub body : List Statement → List Mark → List Mark
 body ss = enclosed w.BraceOpen (block_spelling ss) w.BraceClose
 
+-- two operands with a sign or a keyword between them
 abbrev pub infix_spelling : Expression → Word → Expression → List Mark → List Mark
 infix_spelling left sign right marks = spelling left (word sign ∷ spelling right marks)
 
@@ -63,6 +74,7 @@ infix_spelling left sign right marks = spelling left (word sign ∷ spelling rig
 abbrev pub condition : Word → Condition → List Mark → List Mark
 condition keyword c marks = word keyword ∷ named c.column ∷ word (comparison_word c.comparison) ∷ spelling c.value marks
 
+-- a name and the value that it gets
 abbrev pub assignment : Assignment → List Mark → List Mark
 assignment a marks = named a.column ∷ word w.Becomes ∷ spelling a.value marks
 
@@ -70,6 +82,7 @@ assignment a marks = named a.column ∷ word w.Becomes ∷ spelling a.value mark
 abbrev pub rows : List Condition → List Mark → List Mark
 rows cs marks = conditions cs (word w.Semicolon ∷ marks)
 
+-- the same with the table, behind from
 abbrev pub rows_from : Name → List Condition → List Mark → List Mark
 rows_from table cs marks = word w.From ∷ named table ∷ rows cs marks
 

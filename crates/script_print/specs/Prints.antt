@@ -17,6 +17,7 @@ printed_byte b =
     else if between 0 31 b || between 127 255 b then codes "\\x" ++ digit_glyph false (b / 16) ∷ digit_glyph false (b % 16) ∷ []
     else b ∷ []
 
+-- each byte of a text as the text shows it
 abbrev pub printed_content : List ℕ → List ℕ
 printed_content content = flat_map printed_byte content
 
@@ -24,6 +25,7 @@ printed_content content = flat_map printed_byte content
 abbrev pub printed_text : List ℕ → List ℕ
 printed_text content = 34 ∷ printed_content content ++ 34 ∷ []
 
+-- how a token is printed
 abbrev pub printed : Kind → List ℕ
 printed (fixed w) = spelling_of w
 printed (name bytes) = bytes

@@ -1,14 +1,15 @@
 ghost use Rattle.std.specs.Prelude.{◌≡◌, IfOk};
 ghost use Rattle.script_grammar.specs.Spelling.{declaration_spelling};
 ghost use Rattle.script_print.specs.Pieces.{body};
-ghost use Rattle.script_print.specs.TreePrints.{Prints, printed_tree};
+ghost use Rattle.script_print.specs.TreePrints.{Prints, printed_declarations, printed_tree};
 
 use crate::name::{print_bracketed, print_name};
 use crate::printer::Printer;
 use crate::statement::print_block;
 use script_tokens::word::Word;
-use script_tree::syntax::declaration::{Declaration, Tree};
+use script_tree::syntax::declaration::Declaration;
 use script_tree::syntax::statement::Statement;
+use script_tree::syntax::tree::{Tree, Version};
 use std::alloc::{AllocError, Global};
 
 /// The body of a function or a page.
@@ -54,13 +55,21 @@ fn print_declaration(printer: &mut Printer, declaration: &Declaration) -> Result
     }
 }
 
+fn print_declarations(alloc: Global, list: &[Declaration]) -> Result<Vec<u8>, AllocError>
+    ensures { IfOk result (λ out. out.items ≡ printed_declarations list.now) }
+{
+    let mut printer = Printer::new(alloc);
+    for declaration in list {
+        print_declaration(&mut printer, declaration)?;
+    }
+    Ok(printer.finish())
+}
+
 /// The normal spelling of a program: docs/language.md, "How a program text prints".
 pub fn print(alloc: Global, tree: &Tree) -> Result<Vec<u8>, AllocError>
     ensures { IfOk result (λ out. out.items ≡ printed_tree tree.now) }
 {
-    let mut printer = Printer::new(alloc);
-    for declaration in tree.as_slice() {
-        print_declaration(&mut printer, declaration)?;
+    match tree.version {
+        Version::First => print_declarations(alloc, tree.declarations.as_slice()),
     }
-    Ok(printer.finish())
 }

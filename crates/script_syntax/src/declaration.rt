@@ -1,15 +1,16 @@
 ghost use Rattle.std.specs.Prelude.{◌≡◌, ◌<◌, ◌≤◌, ◌∷◌, [], length, OnOk};
 ghost use Rattle.script_grammar.specs.Machine.{parameters, begin_declaration};
-ghost use Rattle.script_syntax.specs.Gives.{Gives, Begins, word_token, names_value, declaration_value, IsFileRead};
+ghost use Rattle.script_syntax.specs.Parses.{Parses, Begins, word_token, names_value, declaration_value, IsFileRead};
 ghost use Rattle.script_syntax.specs.Behind.{behind_function, behind_page, behind_store, behind_table};
 
 use crate::feed::{
     Stop, any_word, more_names, name, path, short_list, take, unexpected, ungrammatical,
 };
 use crate::statement::block;
+use basis::Items;
 use script_tokens::scan::Tokens;
 use script_tokens::word::Word;
-use script_tree::syntax::declaration::{Declaration, Tree};
+use script_tree::syntax::declaration::Declaration;
 use script_tree::syntax::name::Names;
 use std::alloc::Global;
 
@@ -34,7 +35,7 @@ fn declaration(
 }
 
 fn store(alloc: Global, tokens: &mut Tokens<'_>, at: usize) -> Result<Declaration, Stop>
-    ensures gives { Gives declaration_value (behind_store at) [] result tokens.old tokens.new }
+    ensures gives { Parses declaration_value (behind_store at) [] result tokens.old tokens.new }
     ensures shorter { OnOk result (length tokens.new.tokens < length tokens.old.tokens) }
 {
     let name = name(alloc, tokens)?;
@@ -43,7 +44,7 @@ fn store(alloc: Global, tokens: &mut Tokens<'_>, at: usize) -> Result<Declaratio
 }
 
 fn table(alloc: Global, tokens: &mut Tokens<'_>, at: usize) -> Result<Declaration, Stop>
-    ensures gives { Gives declaration_value (behind_table at) [] result tokens.old tokens.new }
+    ensures gives { Parses declaration_value (behind_table at) [] result tokens.old tokens.new }
     ensures shorter { OnOk result (length tokens.new.tokens < length tokens.old.tokens) }
 {
     let table = name(alloc, tokens)?;
@@ -62,7 +63,7 @@ fn table(alloc: Global, tokens: &mut Tokens<'_>, at: usize) -> Result<Declaratio
 /// Names up to the closing bracket, or none.
 fn parameters(alloc: Global, tokens: &mut Tokens<'_>) -> Result<Names, Stop>
     ensures gives { let symbols = parameters ∷ [] in
-        Gives names_value symbols (names_value []) result tokens.old tokens.new }
+        Parses names_value symbols (names_value []) result tokens.old tokens.new }
     ensures shorter { OnOk result (length tokens.new.tokens < length tokens.old.tokens) }
 {
     if tokens.stands(Word::Close) {
@@ -75,7 +76,7 @@ fn parameters(alloc: Global, tokens: &mut Tokens<'_>) -> Result<Names, Stop>
 }
 
 fn function(alloc: Global, tokens: &mut Tokens<'_>, at: usize) -> Result<Declaration, Stop>
-    ensures gives { Gives declaration_value (behind_function at) [] result tokens.old tokens.new }
+    ensures gives { Parses declaration_value (behind_function at) [] result tokens.old tokens.new }
     ensures shorter { OnOk result (length tokens.new.tokens < length tokens.old.tokens) }
 {
     let name = name(alloc, tokens)?;
@@ -91,7 +92,7 @@ fn function(alloc: Global, tokens: &mut Tokens<'_>, at: usize) -> Result<Declara
 }
 
 fn page(alloc: Global, tokens: &mut Tokens<'_>, at: usize) -> Result<Declaration, Stop>
-    ensures gives { Gives declaration_value (behind_page at) [] result tokens.old tokens.new }
+    ensures gives { Parses declaration_value (behind_page at) [] result tokens.old tokens.new }
     ensures shorter { OnOk result (length tokens.new.tokens < length tokens.old.tokens) }
 {
     let path = path(alloc, tokens)?;
@@ -100,10 +101,10 @@ fn page(alloc: Global, tokens: &mut Tokens<'_>, at: usize) -> Result<Declaration
 }
 
 /// All declarations, up to the end of the tokens.
-pub fn declarations(alloc: Global, tokens: &mut Tokens<'_>) -> Result<Tree, Stop>
+pub fn declarations(alloc: Global, tokens: &mut Tokens<'_>) -> Result<Items<Declaration>, Stop>
     ensures { IsFileRead result tokens.old tokens.new }
 {
-    let mut declarations = Tree::new(alloc);
+    let mut declarations = Items::new(alloc);
     while let Some((at, word)) = any_word(tokens) {
         declarations.push(declaration(alloc, tokens, at, word)?)?;
     }

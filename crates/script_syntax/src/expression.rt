@@ -1,7 +1,7 @@
 ghost use Rattle.std.specs.Prelude.{◌≡◌, ◌<◌, ◌≤◌, ◌∷◌, [], length, OnOk, IfOk};
 ghost use Rattle.script_grammar.specs.Grouping.{most_repeats};
 ghost use Rattle.script_grammar.specs.Machine.{joined, word_joint, word_prefix, operand, prefixes, atom, name_tail, arguments, more_arguments, begin_word};
-ghost use Rattle.script_syntax.specs.Gives.{Gives, Begins, word_token, of_level, joint_at, prefix_at, expression_value, expressions_value};
+ghost use Rattle.script_syntax.specs.Parses.{Parses, Begins, word_token, of_level, joint_at, prefix_at, expression_value, expressions_value};
 ghost use Rattle.script_syntax.specs.Behind.{behind_bracket, behind_list, indexed};
 
 use crate::feed::{Stop, any_word, short_list, take, unexpected, ungrammatical};
@@ -102,7 +102,7 @@ fn most_repeats(level: u32) -> usize
 #[cycle(expression)]
 pub fn operand(alloc: Global, tokens: &mut Tokens<'_>, level: u32) -> Result<Expression, Stop>
     requires { 0 < level }
-    ensures gives { Gives expression_value (operand level ∷ []) [] result tokens.old tokens.new }
+    ensures gives { Parses expression_value (operand level ∷ []) [] result tokens.old tokens.new }
     ensures shorter { OnOk result (length tokens.new.tokens < length tokens.old.tokens) }
 {
     if level == 1 {
@@ -125,7 +125,7 @@ pub fn operand(alloc: Global, tokens: &mut Tokens<'_>, level: u32) -> Result<Exp
 /// An operand behind so many prefixes at most.
 #[cycle(expression)]
 fn prefixed(alloc: Global, tokens: &mut Tokens<'_>, left: usize) -> Result<Expression, Stop>
-    ensures gives { Gives expression_value (prefixes left ∷ []) [] result tokens.old tokens.new }
+    ensures gives { Parses expression_value (prefixes left ∷ []) [] result tokens.old tokens.new }
     ensures shorter { OnOk result (length tokens.new.tokens < length tokens.old.tokens) }
 {
     let Some((at, operator)) = prefix_at(tokens) else {
@@ -146,7 +146,7 @@ fn prefixed(alloc: Global, tokens: &mut Tokens<'_>, left: usize) -> Result<Expre
 /// An atom and the places in it.
 #[cycle(expression)]
 fn indexed(alloc: Global, tokens: &mut Tokens<'_>) -> Result<Expression, Stop>
-    ensures gives { Gives expression_value indexed [] result tokens.old tokens.new }
+    ensures gives { Parses expression_value indexed [] result tokens.old tokens.new }
     ensures shorter { OnOk result (length tokens.new.tokens < length tokens.old.tokens) }
 {
     let mut value = atom(alloc, tokens)?;
@@ -166,7 +166,7 @@ fn indexed(alloc: Global, tokens: &mut Tokens<'_>) -> Result<Expression, Stop>
 
 #[cycle(expression)]
 fn atom(alloc: Global, tokens: &mut Tokens<'_>) -> Result<Expression, Stop>
-    ensures gives { Gives expression_value (atom ∷ []) [] result tokens.old tokens.new }
+    ensures gives { Parses expression_value (atom ∷ []) [] result tokens.old tokens.new }
     ensures shorter { OnOk result (length tokens.new.tokens < length tokens.old.tokens) }
 {
     if let Some(name) = tokens.name(alloc)? {
@@ -191,7 +191,7 @@ fn atom(alloc: Global, tokens: &mut Tokens<'_>) -> Result<Expression, Stop>
 #[cycle(expression)]
 fn named(alloc: Global, tokens: &mut Tokens<'_>, name: Name) -> Result<Expression, Stop>
     ensures gives { let symbols = name_tail name.at name.text ∷ [] in
-        Gives expression_value symbols [] result tokens.old tokens.new }
+        Parses expression_value symbols [] result tokens.old tokens.new }
     ensures shorter { OnOk result (length tokens.new.tokens ≤ length tokens.old.tokens) }
 {
     let Name { at, text } = name;
@@ -210,7 +210,7 @@ fn named(alloc: Global, tokens: &mut Tokens<'_>, name: Name) -> Result<Expressio
 #[cycle(expression)]
 fn arguments(alloc: Global, tokens: &mut Tokens<'_>, close: Word) -> Result<Expressions, Stop>
     ensures gives { let symbols = arguments close ∷ [] in
-        Gives expressions_value symbols (expressions_value []) result tokens.old tokens.new }
+        Parses expressions_value symbols (expressions_value []) result tokens.old tokens.new }
     ensures shorter { OnOk result (length tokens.new.tokens ≤ length tokens.old.tokens) }
 {
     if tokens.stands(close) {
@@ -231,7 +231,7 @@ pub fn more_arguments(
     close: Word,
 ) -> Result<Expressions, Stop>
     ensures gives { let symbols = more_arguments close ∷ [] in
-        Gives expressions_value symbols (expressions_value items) result tokens.old tokens.new }
+        Parses expressions_value symbols (expressions_value items) result tokens.old tokens.new }
     ensures shorter { OnOk result (length tokens.new.tokens ≤ length tokens.old.tokens) }
 {
     let mut items = items;
@@ -269,7 +269,7 @@ fn word_atom(
 
 #[cycle(expression)]
 fn bracket(alloc: Global, tokens: &mut Tokens<'_>, at: usize) -> Result<Expression, Stop>
-    ensures gives { Gives expression_value (behind_bracket at) [] result tokens.old tokens.new }
+    ensures gives { Parses expression_value (behind_bracket at) [] result tokens.old tokens.new }
     ensures shorter { OnOk result (length tokens.new.tokens < length tokens.old.tokens) }
 {
     let inner = operand(alloc, tokens, EXPRESSION)?;
@@ -281,7 +281,7 @@ fn bracket(alloc: Global, tokens: &mut Tokens<'_>, at: usize) -> Result<Expressi
 #[cycle(expression)]
 fn list(alloc: Global, tokens: &mut Tokens<'_>, at: usize) -> Result<Expression, Stop>
     ensures gives { let symbols = behind_list at in
-        Gives expression_value symbols (expressions_value []) result tokens.old tokens.new }
+        Parses expression_value symbols (expressions_value []) result tokens.old tokens.new }
     ensures shorter { OnOk result (length tokens.new.tokens ≤ length tokens.old.tokens) }
 {
     let items = arguments(alloc, tokens, Word::SquareClose)?;

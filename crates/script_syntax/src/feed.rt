@@ -3,7 +3,7 @@ ghost use Rattle.script_tokens.specs.Feed.{fault_at};
 ghost use Rattle.script_tokens.specs.Scans.{before};
 ghost use Rattle.script_grammar.specs.Files.{ungrammatical};
 ghost use Rattle.script_grammar.specs.Machine.{word, a_name, a_path, more_names};
-ghost use Rattle.script_syntax.specs.Gives.{Gives, no_value, a_name_value, names_value, word_token, BeginsNoWord};
+ghost use Rattle.script_syntax.specs.Parses.{Parses, no_value, a_name_value, names_value, word_token, BeginsNoWord};
 ghost use Rattle.basis.specs.declared.or_memory.OrMemory.TheVariants.{Other};
 
 use basis::{Items, OrMemory};
@@ -42,7 +42,7 @@ pub fn short_list<T: Drop>(alloc: Global) -> Result<Items<T>, AllocError>
 
 /// Takes this word.
 pub fn take(tokens: &mut Tokens<'_>, wanted: Word) -> Result<(), Stop>
-    ensures gives { Gives no_value (word wanted ∷ []) [] result tokens.old tokens.new }
+    ensures gives { Parses no_value (word wanted ∷ []) [] result tokens.old tokens.new }
     ensures shorter { OnOk result (length tokens.new.tokens < length tokens.old.tokens) }
 {
     if tokens.stands(wanted) {
@@ -55,7 +55,7 @@ pub fn take(tokens: &mut Tokens<'_>, wanted: Word) -> Result<(), Stop>
 
 /// Takes a name.
 pub fn name(alloc: Global, tokens: &mut Tokens<'_>) -> Result<Name, Stop>
-    ensures gives { Gives a_name_value (a_name ∷ []) [] result tokens.old tokens.new }
+    ensures gives { Parses a_name_value (a_name ∷ []) [] result tokens.old tokens.new }
     ensures shorter { OnOk result (length tokens.new.tokens < length tokens.old.tokens) }
 {
     match tokens.name(alloc)? {
@@ -66,7 +66,7 @@ pub fn name(alloc: Global, tokens: &mut Tokens<'_>) -> Result<Name, Stop>
 
 /// Takes the text by which a page is asked for.
 pub fn path(alloc: Global, tokens: &mut Tokens<'_>) -> Result<Name, Stop>
-    ensures gives { Gives a_name_value (a_path ∷ []) [] result tokens.old tokens.new }
+    ensures gives { Parses a_name_value (a_path ∷ []) [] result tokens.old tokens.new }
     ensures shorter { OnOk result (length tokens.new.tokens < length tokens.old.tokens) }
 {
     match tokens.text(alloc)? {
@@ -97,7 +97,7 @@ pub fn more_names(
     close: Word,
 ) -> Result<Names, Stop>
     ensures gives { let symbols = more_names close ∷ [] in
-        Gives names_value symbols (names_value names) result tokens.old tokens.new }
+        Parses names_value symbols (names_value names) result tokens.old tokens.new }
     ensures shorter { OnOk result (length tokens.new.tokens ≤ length tokens.old.tokens) }
 {
     let mut names = names;

@@ -1,11 +1,11 @@
 ghost use Rattle.script_grammar.specs.Files.{IsParsed};
-ghost use Rattle.script_syntax.specs.Gives.{IsWholeTree};
+ghost use Rattle.script_syntax.specs.Parses.{IsWholeTree};
 
 use crate::declaration::declarations;
 use basis::OrMemory;
 use script_tokens::fault::{End, SyntaxFault};
 use script_tokens::scan::Tokens;
-use script_tree::syntax::declaration::Tree;
+use script_tree::syntax::tree::{Tree, Version};
 use std::alloc::Global;
 
 /// The tree that the bytes spell, or the first fault: docs/language.md, "Syntax".
@@ -13,7 +13,11 @@ pub fn parse(alloc: Global, bytes: &[u8]) -> Result<Tree, OrMemory<SyntaxFault>>
     ensures { IsParsed bytes.now result }
 {
     let mut tokens = Tokens::new(bytes);
-    let tree = declarations(alloc, &mut tokens)?;
+    let declarations = declarations(alloc, &mut tokens)?;
+    let tree = Tree {
+        version: Version::First,
+        declarations,
+    };
     match tokens.end() {
         None => Ok(tree),
         Some(end) => whole(tree, end),

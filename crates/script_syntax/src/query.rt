@@ -1,6 +1,6 @@
 ghost use Rattle.std.specs.Prelude.{◌≡◌, ◌<◌, ◌≤◌, ◌∷◌, [], length, OnOk};
 ghost use Rattle.script_grammar.specs.Machine.{word_comparison, more_tests, a_comparison, a_query, filtered, begin_query};
-ghost use Rattle.script_syntax.specs.Gives.{Gives, Begins, word_token, comparison_at, expression_value, comparison_value, tests_value, sets_value, condition_value, assignment_value, query_value, names_value, queries_value};
+ghost use Rattle.script_syntax.specs.Parses.{Parses, Begins, word_token, comparison_at, expression_value, comparison_value, tests_value, sets_value, condition_value, assignment_value, query_value, names_value, queries_value};
 ghost use Rattle.script_syntax.specs.Behind.{all_sets, all_tests, behind_delete, behind_expect, behind_insert, behind_select, behind_transact, behind_update, one_set, one_test};
 
 use crate::expression::{EXPRESSION, SUM, more_arguments, operand};
@@ -20,7 +20,7 @@ use std::alloc::Global;
 #[cycle(expression)]
 pub fn transact(alloc: Global, tokens: &mut Tokens<'_>, at: usize) -> Result<Expression, Stop>
     ensures gives { let symbols = behind_transact at in
-        Gives expression_value symbols (queries_value []) result tokens.old tokens.new }
+        Parses expression_value symbols (queries_value []) result tokens.old tokens.new }
     ensures shorter { OnOk result (length tokens.new.tokens < length tokens.old.tokens) }
 {
     take(tokens, Word::BraceOpen)?;
@@ -36,7 +36,7 @@ pub fn transact(alloc: Global, tokens: &mut Tokens<'_>, at: usize) -> Result<Exp
 
 #[cycle(expression)]
 fn query(alloc: Global, tokens: &mut Tokens<'_>) -> Result<Query, Stop>
-    ensures gives { Gives query_value (a_query ∷ []) [] result tokens.old tokens.new }
+    ensures gives { Parses query_value (a_query ∷ []) [] result tokens.old tokens.new }
     ensures shorter { OnOk result (length tokens.new.tokens < length tokens.old.tokens) }
 {
     match any_word(tokens) {
@@ -64,7 +64,7 @@ fn query_of(alloc: Global, tokens: &mut Tokens<'_>, at: usize, word: Word) -> Re
 
 #[cycle(expression)]
 fn insert(alloc: Global, tokens: &mut Tokens<'_>, at: usize) -> Result<Query, Stop>
-    ensures gives { Gives query_value (behind_insert at) [] result tokens.old tokens.new }
+    ensures gives { Parses query_value (behind_insert at) [] result tokens.old tokens.new }
     ensures shorter { OnOk result (length tokens.new.tokens < length tokens.old.tokens) }
 {
     let table = name(alloc, tokens)?;
@@ -80,7 +80,7 @@ fn insert(alloc: Global, tokens: &mut Tokens<'_>, at: usize) -> Result<Query, St
 #[cycle(expression)]
 fn select(alloc: Global, tokens: &mut Tokens<'_>, at: usize) -> Result<Query, Stop>
     ensures gives { let symbols = behind_select at in
-        Gives query_value symbols (names_value []) result tokens.old tokens.new }
+        Parses query_value symbols (names_value []) result tokens.old tokens.new }
     ensures shorter { OnOk result (length tokens.new.tokens < length tokens.old.tokens) }
 {
     let mut columns = Names::new(alloc);
@@ -94,7 +94,7 @@ fn select(alloc: Global, tokens: &mut Tokens<'_>, at: usize) -> Result<Query, St
 
 #[cycle(expression)]
 fn update(alloc: Global, tokens: &mut Tokens<'_>, at: usize) -> Result<Query, Stop>
-    ensures gives { Gives query_value (behind_update at) [] result tokens.old tokens.new }
+    ensures gives { Parses query_value (behind_update at) [] result tokens.old tokens.new }
     ensures shorter { OnOk result (length tokens.new.tokens < length tokens.old.tokens) }
 {
     let table = name(alloc, tokens)?;
@@ -107,7 +107,7 @@ fn update(alloc: Global, tokens: &mut Tokens<'_>, at: usize) -> Result<Query, St
 
 #[cycle(expression)]
 fn delete(alloc: Global, tokens: &mut Tokens<'_>, at: usize) -> Result<Query, Stop>
-    ensures gives { Gives query_value (behind_delete at) [] result tokens.old tokens.new }
+    ensures gives { Parses query_value (behind_delete at) [] result tokens.old tokens.new }
     ensures shorter { OnOk result (length tokens.new.tokens < length tokens.old.tokens) }
 {
     let table = name(alloc, tokens)?;
@@ -118,7 +118,7 @@ fn delete(alloc: Global, tokens: &mut Tokens<'_>, at: usize) -> Result<Query, St
 
 #[cycle(expression)]
 fn expect(alloc: Global, tokens: &mut Tokens<'_>, at: usize) -> Result<Query, Stop>
-    ensures gives { Gives query_value (behind_expect at) [] result tokens.old tokens.new }
+    ensures gives { Parses query_value (behind_expect at) [] result tokens.old tokens.new }
     ensures shorter { OnOk result (length tokens.new.tokens < length tokens.old.tokens) }
 {
     let count = operand(alloc, tokens, EXPRESSION)?;
@@ -132,7 +132,7 @@ fn expect(alloc: Global, tokens: &mut Tokens<'_>, at: usize) -> Result<Query, St
 /// The tests of a statement, if it has some, and the semicolon at its end.
 #[cycle(expression)]
 fn filter(alloc: Global, tokens: &mut Tokens<'_>) -> Result<Conditions, Stop>
-    ensures gives { Gives tests_value (filtered []) [] result tokens.old tokens.new }
+    ensures gives { Parses tests_value (filtered []) [] result tokens.old tokens.new }
     ensures shorter { OnOk result (length tokens.new.tokens < length tokens.old.tokens) }
 {
     let tests = tests(alloc, tokens)?;
@@ -142,7 +142,7 @@ fn filter(alloc: Global, tokens: &mut Tokens<'_>) -> Result<Conditions, Stop>
 
 #[cycle(expression)]
 fn tests(alloc: Global, tokens: &mut Tokens<'_>) -> Result<Conditions, Stop>
-    ensures gives { Gives tests_value all_tests [] result tokens.old tokens.new }
+    ensures gives { Parses tests_value all_tests [] result tokens.old tokens.new }
     ensures shorter { OnOk result (length tokens.new.tokens ≤ length tokens.old.tokens) }
 {
     let mut tests = Conditions::new(alloc);
@@ -157,7 +157,7 @@ fn tests(alloc: Global, tokens: &mut Tokens<'_>) -> Result<Conditions, Stop>
 #[cycle(expression)]
 fn more_tests(alloc: Global, tokens: &mut Tokens<'_>, tests: Conditions) -> Result<Conditions, Stop>
     ensures gives { let symbols = more_tests ∷ [] in
-        Gives tests_value symbols (tests_value tests) result tokens.old tokens.new }
+        Parses tests_value symbols (tests_value tests) result tokens.old tokens.new }
     ensures shorter { OnOk result (length tokens.new.tokens ≤ length tokens.old.tokens) }
 {
     let mut tests = tests;
@@ -170,7 +170,7 @@ fn more_tests(alloc: Global, tokens: &mut Tokens<'_>, tests: Conditions) -> Resu
 
 #[cycle(expression)]
 fn test(alloc: Global, tokens: &mut Tokens<'_>) -> Result<Condition, Stop>
-    ensures gives { Gives condition_value one_test [] result tokens.old tokens.new }
+    ensures gives { Parses condition_value one_test [] result tokens.old tokens.new }
     ensures shorter { OnOk result (length tokens.new.tokens < length tokens.old.tokens) }
 {
     let column = name(alloc, tokens)?;
@@ -186,7 +186,7 @@ fn test(alloc: Global, tokens: &mut Tokens<'_>) -> Result<Condition, Stop>
 /// The assignments of an update.
 #[cycle(expression)]
 fn assignments(alloc: Global, tokens: &mut Tokens<'_>) -> Result<Assignments, Stop>
-    ensures gives { Gives sets_value all_sets [] result tokens.old tokens.new }
+    ensures gives { Parses sets_value all_sets [] result tokens.old tokens.new }
     ensures shorter { OnOk result (length tokens.new.tokens < length tokens.old.tokens) }
 {
     let mut sets = Assignments::new(alloc);
@@ -200,7 +200,7 @@ fn assignments(alloc: Global, tokens: &mut Tokens<'_>) -> Result<Assignments, St
 
 #[cycle(expression)]
 fn assignment(alloc: Global, tokens: &mut Tokens<'_>) -> Result<Assignment, Stop>
-    ensures gives { Gives assignment_value one_set [] result tokens.old tokens.new }
+    ensures gives { Parses assignment_value one_set [] result tokens.old tokens.new }
     ensures shorter { OnOk result (length tokens.new.tokens < length tokens.old.tokens) }
 {
     let column = name(alloc, tokens)?;
@@ -235,7 +235,7 @@ fn comparison_at(tokens: &Tokens<'_>) -> Option<Comparison>
 
 /// Takes a comparison.
 fn comparison(tokens: &mut Tokens<'_>) -> Result<Comparison, Stop>
-    ensures gives { Gives comparison_value (a_comparison ∷ []) [] result tokens.old tokens.new }
+    ensures gives { Parses comparison_value (a_comparison ∷ []) [] result tokens.old tokens.new }
     ensures shorter { OnOk result (length tokens.new.tokens < length tokens.old.tokens) }
 {
     match comparison_at(tokens) {

@@ -1,6 +1,6 @@
 ghost use Rattle.std.specs.Prelude.{◌≡◌, ◌<◌, ◌≤◌, ◌∷◌, [], length, OnOk};
 ghost use Rattle.script_grammar.specs.Machine.{a_statement, else_part, block, begin_statement};
-ghost use Rattle.script_syntax.specs.Gives.{Gives, Begins, word_token, expression_value, binding_value, statement_value, statements_value, else_value};
+ghost use Rattle.script_syntax.specs.Parses.{Parses, Begins, word_token, expression_value, binding_value, statement_value, statements_value, else_value};
 ghost use Rattle.script_syntax.specs.Behind.{behind_do, behind_echo, behind_for, behind_if, behind_let, behind_return, behind_set, behind_status, behind_while, binding, ended};
 
 use crate::expression::{EXPRESSION, operand};
@@ -14,7 +14,7 @@ use std::alloc::Global;
 
 /// An expression and the semicolon behind it.
 fn ended(alloc: Global, tokens: &mut Tokens<'_>) -> Result<Expression, Stop>
-    ensures gives { Gives expression_value ended [] result tokens.old tokens.new }
+    ensures gives { Parses expression_value ended [] result tokens.old tokens.new }
     ensures shorter { OnOk result (length tokens.new.tokens < length tokens.old.tokens) }
 {
     let value = operand(alloc, tokens, EXPRESSION)?;
@@ -24,7 +24,7 @@ fn ended(alloc: Global, tokens: &mut Tokens<'_>) -> Result<Expression, Stop>
 
 /// A name and the value that is bound to it.
 fn binding(alloc: Global, tokens: &mut Tokens<'_>) -> Result<(Name, Expression), Stop>
-    ensures gives { Gives binding_value binding [] result tokens.old tokens.new }
+    ensures gives { Parses binding_value binding [] result tokens.old tokens.new }
     ensures shorter { OnOk result (length tokens.new.tokens < length tokens.old.tokens) }
 {
     let name = name(alloc, tokens)?;
@@ -36,7 +36,7 @@ fn binding(alloc: Global, tokens: &mut Tokens<'_>) -> Result<(Name, Expression),
 /// The statements between two braces.
 #[cycle(statement)]
 pub fn block(alloc: Global, tokens: &mut Tokens<'_>) -> Result<Block, Stop>
-    ensures gives { Gives statements_value (block []) [] result tokens.old tokens.new }
+    ensures gives { Parses statements_value (block []) [] result tokens.old tokens.new }
     ensures shorter { OnOk result (length tokens.new.tokens < length tokens.old.tokens) }
 {
     take(tokens, Word::BraceOpen)?;
@@ -50,7 +50,7 @@ pub fn block(alloc: Global, tokens: &mut Tokens<'_>) -> Result<Block, Stop>
 
 #[cycle(statement)]
 fn statement(alloc: Global, tokens: &mut Tokens<'_>) -> Result<Statement, Stop>
-    ensures gives { Gives statement_value (a_statement ∷ []) [] result tokens.old tokens.new }
+    ensures gives { Parses statement_value (a_statement ∷ []) [] result tokens.old tokens.new }
     ensures shorter { OnOk result (length tokens.new.tokens < length tokens.old.tokens) }
 {
     match any_word(tokens) {
@@ -86,7 +86,7 @@ fn statement_of(
 }
 
 fn let_statement(alloc: Global, tokens: &mut Tokens<'_>, at: usize) -> Result<Statement, Stop>
-    ensures gives { Gives statement_value (behind_let at) [] result tokens.old tokens.new }
+    ensures gives { Parses statement_value (behind_let at) [] result tokens.old tokens.new }
     ensures shorter { OnOk result (length tokens.new.tokens < length tokens.old.tokens) }
 {
     let (name, value) = binding(alloc, tokens)?;
@@ -95,7 +95,7 @@ fn let_statement(alloc: Global, tokens: &mut Tokens<'_>, at: usize) -> Result<St
 }
 
 fn set_statement(alloc: Global, tokens: &mut Tokens<'_>, at: usize) -> Result<Statement, Stop>
-    ensures gives { Gives statement_value (behind_set at) [] result tokens.old tokens.new }
+    ensures gives { Parses statement_value (behind_set at) [] result tokens.old tokens.new }
     ensures shorter { OnOk result (length tokens.new.tokens < length tokens.old.tokens) }
 {
     let (name, value) = binding(alloc, tokens)?;
@@ -105,7 +105,7 @@ fn set_statement(alloc: Global, tokens: &mut Tokens<'_>, at: usize) -> Result<St
 
 #[cycle(statement)]
 fn if_statement(alloc: Global, tokens: &mut Tokens<'_>, at: usize) -> Result<Statement, Stop>
-    ensures gives { Gives statement_value (behind_if at) [] result tokens.old tokens.new }
+    ensures gives { Parses statement_value (behind_if at) [] result tokens.old tokens.new }
     ensures shorter { OnOk result (length tokens.new.tokens < length tokens.old.tokens) }
 {
     let condition = operand(alloc, tokens, EXPRESSION)?;
@@ -117,7 +117,7 @@ fn if_statement(alloc: Global, tokens: &mut Tokens<'_>, at: usize) -> Result<Sta
 
 #[cycle(statement)]
 fn otherwise(alloc: Global, tokens: &mut Tokens<'_>) -> Result<Else, Stop>
-    ensures gives { Gives else_value (else_part ∷ []) [] result tokens.old tokens.new }
+    ensures gives { Parses else_value (else_part ∷ []) [] result tokens.old tokens.new }
     ensures shorter { OnOk result (length tokens.new.tokens ≤ length tokens.old.tokens) }
 {
     if !tokens.stands(Word::Else) {
@@ -130,7 +130,7 @@ fn otherwise(alloc: Global, tokens: &mut Tokens<'_>) -> Result<Else, Stop>
 
 #[cycle(statement)]
 fn while_statement(alloc: Global, tokens: &mut Tokens<'_>, at: usize) -> Result<Statement, Stop>
-    ensures gives { Gives statement_value (behind_while at) [] result tokens.old tokens.new }
+    ensures gives { Parses statement_value (behind_while at) [] result tokens.old tokens.new }
     ensures shorter { OnOk result (length tokens.new.tokens < length tokens.old.tokens) }
 {
     let condition = operand(alloc, tokens, EXPRESSION)?;
@@ -141,7 +141,7 @@ fn while_statement(alloc: Global, tokens: &mut Tokens<'_>, at: usize) -> Result<
 
 #[cycle(statement)]
 fn for_statement(alloc: Global, tokens: &mut Tokens<'_>, at: usize) -> Result<Statement, Stop>
-    ensures gives { Gives statement_value (behind_for at) [] result tokens.old tokens.new }
+    ensures gives { Parses statement_value (behind_for at) [] result tokens.old tokens.new }
     ensures shorter { OnOk result (length tokens.new.tokens < length tokens.old.tokens) }
 {
     let name = name(alloc, tokens)?;
@@ -153,7 +153,7 @@ fn for_statement(alloc: Global, tokens: &mut Tokens<'_>, at: usize) -> Result<St
 }
 
 fn echo_statement(alloc: Global, tokens: &mut Tokens<'_>, at: usize) -> Result<Statement, Stop>
-    ensures gives { Gives statement_value (behind_echo at) [] result tokens.old tokens.new }
+    ensures gives { Parses statement_value (behind_echo at) [] result tokens.old tokens.new }
     ensures shorter { OnOk result (length tokens.new.tokens < length tokens.old.tokens) }
 {
     let value = ended(alloc, tokens)?;
@@ -162,7 +162,7 @@ fn echo_statement(alloc: Global, tokens: &mut Tokens<'_>, at: usize) -> Result<S
 }
 
 fn status_statement(alloc: Global, tokens: &mut Tokens<'_>, at: usize) -> Result<Statement, Stop>
-    ensures gives { Gives statement_value (behind_status at) [] result tokens.old tokens.new }
+    ensures gives { Parses statement_value (behind_status at) [] result tokens.old tokens.new }
     ensures shorter { OnOk result (length tokens.new.tokens < length tokens.old.tokens) }
 {
     let value = ended(alloc, tokens)?;
@@ -171,7 +171,7 @@ fn status_statement(alloc: Global, tokens: &mut Tokens<'_>, at: usize) -> Result
 }
 
 fn return_statement(alloc: Global, tokens: &mut Tokens<'_>, at: usize) -> Result<Statement, Stop>
-    ensures gives { Gives statement_value (behind_return at) [] result tokens.old tokens.new }
+    ensures gives { Parses statement_value (behind_return at) [] result tokens.old tokens.new }
     ensures shorter { OnOk result (length tokens.new.tokens < length tokens.old.tokens) }
 {
     let value = ended(alloc, tokens)?;
@@ -180,7 +180,7 @@ fn return_statement(alloc: Global, tokens: &mut Tokens<'_>, at: usize) -> Result
 }
 
 fn do_statement(alloc: Global, tokens: &mut Tokens<'_>, at: usize) -> Result<Statement, Stop>
-    ensures gives { Gives statement_value (behind_do at) [] result tokens.old tokens.new }
+    ensures gives { Parses statement_value (behind_do at) [] result tokens.old tokens.new }
     ensures shorter { OnOk result (length tokens.new.tokens < length tokens.old.tokens) }
 {
     let value = ended(alloc, tokens)?;

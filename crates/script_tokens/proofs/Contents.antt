@@ -32,7 +32,8 @@ no_word bs None other none h = none h
 no_word bs (Some w) other none h = h
 
 no_sign : (bs : List ℕ) → IsText (sign bs) → ⊥
-no_sign bs = no_word (take 2 bs) (word_of (take 2 bs)) (word_lexeme (take 1 bs) (word_of (take 1 bs)) (wrong _)) (no_word (take 1 bs) (word_of (take 1 bs)) (wrong _) (λ n. n))
+no_sign bs = no_word (take 2 bs) (word_of (take 2 bs)) (word_lexeme (take 1 bs) (word_of (take 1 bs)) (wrong _))
+    (no_word (take 1 bs) (word_of (take 1 bs)) (wrong _) (λ n. n))
 
 no_text : (o : Option (List ℕ × ℕ)) → content_of o ≡ None → IsText (text o) → ⊥
 no_text None e h = h
@@ -43,7 +44,8 @@ has_content b bs h e =
     chosen (is_blank b) (blank 1) _ (λ n. n)
     (chosen (b == 35) (blank (span Comment (b ∷ bs))) _ (λ n. n)
     (chosen (is_letter b) (named (run Names (b ∷ bs)) (word_of (run Names (b ∷ bs)))) _ (no_name (run Names (b ∷ bs)) (word_of (run Names (b ∷ bs))))
-    (chosen (is_digit b) (number (length (run Digit (b ∷ bs))) (within_limit (value_from 0 (run Digit (b ∷ bs))))) _ (no_number (length (run Digit (b ∷ bs))) (within_limit (value_from 0 (run Digit (b ∷ bs)))))
+    (chosen (is_digit b) (number (length (run Digit (b ∷ bs))) (within_limit (value_from 0 (run Digit (b ∷ bs))))) _
+    (no_number (length (run Digit (b ∷ bs))) (within_limit (value_from 0 (run Digit (b ∷ bs)))))
     (chosen (b == 34) (text (text_from Plain bs)) (sign (b ∷ bs)) (no_text (text_from Plain bs) e) (no_sign (b ∷ bs)))))) h
 
 pub content_there : (bs content : List ℕ) (len : ℕ) → lexeme bs ≡ whole (kind.text content) len → content_of (text_from Plain (drop 1 bs)) ≡ None → ⊥

@@ -24,7 +24,8 @@ scanned_rises at depth (wrong kind) rest h = omega arith
 
 rises : (bs : List ℕ) (at depth n : ℕ) → Up at (scan bs at depth n)
 rises [] at depth n = omega arith
-rises (b ∷ bs) at depth (suc n) = from_less at (at + 1) (scan bs (at + 1) depth n).tokens (scan bs (at + 1) depth n).end (omega arith) (rises bs (at + 1) depth n)
+rises (b ∷ bs) at depth (suc n) = from_less at (at + 1) (scan bs (at + 1) depth n).tokens
+    (scan bs (at + 1) depth n).end (omega arith) (rises bs (at + 1) depth n)
 rises (b ∷ bs) at depth zero = scanned_rises at depth (lexeme_of b bs) (λ d n. scan bs (at + 1) d n) (λ d n. rises bs (at + 1) d n)
 
 pub places_rise : PlacesRise
@@ -41,9 +42,11 @@ counted_within : (t : Token) (len : ℕ) (o : Option ℕ) (rest : ℕ → Scan) 
 counted_within t len None rest h = (omega arith, omega arith)
 counted_within t len (Some d) rest h = let w = h d in (omega (arith, w.0), omega (arith, w.1))
 
-scanned_within : (at depth len : ℕ) (x : Lexeme) (rest : ℕ → ℕ → Scan) → ((d n : ℕ) → Within (at + 1) len (rest d n)) → Within at (suc len) (scanned at depth x rest)
+scanned_within : (at depth len : ℕ) (x : Lexeme) (rest : ℕ → ℕ → Scan) → ((d n : ℕ) → Within (at + 1) len (rest d n))
+    → Within at (suc len) (scanned at depth x rest)
 scanned_within at depth len (blank n) rest h = one_less at len (rest depth (n - 1)) (h depth (n - 1))
-scanned_within at depth len (whole kind n) rest h = counted_within (token at kind) len (open_behind (bracket_of kind) depth) (λ d. rest d (n - 1)) (λ d. h d (n - 1))
+scanned_within at depth len (whole kind n) rest h =
+    counted_within (token at kind) len (open_behind (bracket_of kind) depth) (λ d. rest d (n - 1)) (λ d. h d (n - 1))
 scanned_within at depth len (wrong kind) rest h = (omega arith, omega arith)
 
 within : (bs : List ℕ) (at depth n : ℕ) → Within at (length bs) (scan bs at depth n)

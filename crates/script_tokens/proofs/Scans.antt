@@ -31,12 +31,14 @@ same_bracket Name len bs = refl
 same_bracket (Number n) len bs = refl
 same_bracket Text len bs = refl
 
-pub token_on : (bs : List ℕ) (at depth next n : ℕ) (shape : Shape) → whole (kind_at shape n bs) n ≡ lexeme bs → open_behind (shape_bracket shape) depth ≡ Some next → 0 < n → n ≤ length bs
+pub token_on : (bs : List ℕ) (at depth next n : ℕ) (shape : Shape) → whole (kind_at shape n bs) n ≡ lexeme bs
+    → open_behind (shape_bracket shape) depth ≡ Some next → 0 < n → n ≤ length bs
     → scan bs at depth 0 ≡ before (token at (kind_at shape n bs)) (scan (drop n bs) (at + n) next 0)
 token_on [] at depth next n shape e o h l = absurd (omega arith)
 token_on (b ∷ bs) at depth next n shape e o h l =
     ap (λ x. scanned at depth x (λ d m. scan bs (at + 1) d m)) (sym e)
-    ∙ ap (λ x. counted (token at (kind_at shape n (b ∷ bs))) x (λ d. scan bs (at + 1) d (n - 1))) (ap (λ x. open_behind x depth) (same_bracket shape n (b ∷ bs)) ∙ o)
+    ∙ ap (λ x. counted (token at (kind_at shape n (b ∷ bs))) x (λ d. scan bs (at + 1) d (n - 1)))
+    (ap (λ x. open_behind x depth) (same_bracket shape n (b ∷ bs)) ∙ o)
     ∙ ap (before (token at (kind_at shape n (b ∷ bs)))) (one_on b bs at next n h l)
 
 pub rest_slice : (i : ℕ) (s : List ℕ) → take (length s - i) (drop i s) ≡ drop i s

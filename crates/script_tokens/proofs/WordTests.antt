@@ -33,7 +33,9 @@ spelled_once v w p = some_one v w (sym (found v) ∙ ap word_of p ∙ found w)
 
 same_by : (v w : Word) (t : Bool) → bytes_eq (spelling_of v) (spelling_of w) ≡ t → sameb the_type v w ≡ t
 same_by v w true p = true_same the_type v w (spelled_once v w ((bytes_eq-Decides (spelling_of v) (spelling_of w)).0 p))
-same_by v w false p = false_same the_type (search rules) v w (λ e. differs (bytes_eq (spelling_of v) (spelling_of w)) p ((bytes_eq-Decides (spelling_of v) (spelling_of w)).1 (ap spelling_of e)))
+same_by v w false p = false_same the_type (search rules) v w
+    (λ e. differs (bytes_eq (spelling_of v) (spelling_of w)) p
+    ((bytes_eq-Decides (spelling_of v) (spelling_of w)).1 (ap spelling_of e)))
   where
     differs : (t : Bool) → t ≡ false → t ≡ true → ⊥
     differs t p q = cc
@@ -41,7 +43,8 @@ same_by v w false p = false_same the_type (search rules) v w (λ e. differs (byt
 pub same_spelling : (v w : Word) → sameb the_type v w ≡ bytes_eq (spelling_of v) (spelling_of w)
 same_spelling v w = same_by v w (bytes_eq (spelling_of v) (spelling_of w)) refl
 
-by_test : (p : Word → Bool) (ws : List Word) (w v : Word) (t : Bool) → p w ≡ t → (find p ws ≡ Some v → p v ≡ true) → cond t (Some w) (find p ws) ≡ Some v → p v ≡ true
+by_test : (p : Word → Bool) (ws : List Word) (w v : Word) (t : Bool) → p w ≡ t → (find p ws ≡ Some v → p v ≡ true)
+    → cond t (Some w) (find p ws) ≡ Some v → p v ≡ true
 by_test p ws w v true h later e = rw (← some_one w v e) h
 by_test p ws w v false h later e = later e
 

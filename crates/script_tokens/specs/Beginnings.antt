@@ -3,6 +3,7 @@ use Rattle.std.specs.Prelude.{ℕ, List, [], ◌∷◌, ◌==◌, if◌then◌el
 use Rattle.script_tokens.specs.declared.word.Word.{Word}
 use Rattle.script_tokens.specs.declared.word.Word.TheVariants.{Store, Table, Function, Page, Let, Set, If, Else, While, For, In, Echo, Status, Return, Do, Or, And, Not, True, False, Null, Transact, Insert, Select, From, Update, Delete, Expect, Where, Semicolon, Comma, Open, Close, BraceOpen, BraceClose, SquareOpen, SquareClose, Becomes, Equal, Unequal, Less, AtMost, Greater, AtLeast, Plus, Minus, Times, Over, Percent}
 
+-- the words that begin with this byte
 abbrev pub beginning_with : ℕ → List Word
 beginning_with b =
     if b == 97 then And ∷ [] else

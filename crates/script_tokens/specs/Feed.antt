@@ -15,10 +15,12 @@ use Rattle.script_tokens.specs.declared.word.Word.{Word}
 
 -- ---- the first token
 
+-- the shape of the token in front
 abbrev pub shape_at : List Token → Option Shape
 shape_at [] = None
 shape_at (t ∷ ts) = Some (shape_of t.kind)
 
+-- whether a token is this word
 abbrev pub is_word : Word → Kind → Bool
 is_word w (fixed v) = bytes_eq (spelling_of v) (spelling_of w)
 is_word w (name bytes) = false
@@ -30,10 +32,12 @@ abbrev pub stands : Word → List Token → Bool
 stands w [] = false
 stands w (t ∷ ts) = is_word w t.kind
 
+-- the place of the token in front
 abbrev pub place_at : List Token → Option ℕ
 place_at [] = None
 place_at (t ∷ ts) = Some t.at
 
+-- a name with its place, where the token is one
 abbrev pub name_of : ℕ → Kind → Option Name
 name_of at (name bytes) = Some (record { at = at; text = bytes })
 name_of at (fixed w) = None
@@ -45,6 +49,7 @@ abbrev pub name_at : List Token → Option Name
 name_at [] = None
 name_at (t ∷ ts) = name_of t.at t.kind
 
+-- a text with its place, where the token is one
 abbrev pub text_of : ℕ → Kind → Option Name
 text_of at (text content) = Some (record { at = at; text = content })
 text_of at (fixed w) = None
@@ -56,6 +61,7 @@ abbrev pub text_at : List Token → Option Name
 text_at [] = None
 text_at (t ∷ ts) = text_of t.at t.kind
 
+-- a number with its place, where the token is one
 abbrev pub number_of : ℕ → Kind → Option (ℕ × ℤ)
 number_of at (number n) = Some (at, n)
 number_of at (fixed w) = None
@@ -69,6 +75,7 @@ number_at (t ∷ ts) = number_of t.at t.kind
 
 -- ---- where no token is left
 
+-- what ends these tokens, where there is none of them
 abbrev pub end_behind : List Token → End → Option End
 end_behind [] end = Some end
 end_behind (t ∷ ts) end = None
@@ -83,15 +90,18 @@ fault_of (t ∷ ts) end = record { at = t.at; kind = Grammar }
 fault_of [] (File at) = record { at = at; kind = Grammar }
 fault_of [] (Fault fault) = fault
 
+-- what is wrong where no program goes on as what is left does
 abbrev pub fault_at : Scan → SyntaxFault
 fault_at s = fault_of s.tokens s.end
 
 -- ---- taking it
 
+-- the tokens behind the one in front
 abbrev pub behind_first : List Token → List Token
 behind_first [] = []
 behind_first (t ∷ ts) = ts
 
+-- what is left behind the token in front
 abbrev pub rest_of : Scan → Scan
 rest_of s = record { tokens = behind_first s.tokens; end = s.end }
 

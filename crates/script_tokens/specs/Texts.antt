@@ -5,6 +5,7 @@ use Rattle.script_tokens.specs.declared.text.Mode.TheVariants.{Plain, Escaped, H
 use Rattle.script_tokens.specs.declared.text.Step.{Step}
 use Rattle.script_tokens.specs.declared.text.Step.TheVariants.{Ends, Fails, Goes, Puts}
 
+-- whether the last one is within the bounds of the first two
 abbrev pub between : ℕ → ℕ → ℕ → Bool
 between low high b = nat_le low b && nat_le b high
 
@@ -16,10 +17,12 @@ hex_value b =
     else if between 65 70 b then Some (b - 65 + 10)
     else None
 
+-- behind the first digit of an escape comes the second one; what is no digit fails
 abbrev pub high : Option ℕ → Step
 high None = Fails
 high (Some n) = Goes (Low n)
 
+-- both digits of an escape put one byte; what is no digit fails
 abbrev pub low : ℕ → Option ℕ → Step
 low h None = Fails
 low h (Some n) = Puts Plain (h % 16 * 16 + n)
@@ -37,6 +40,7 @@ abbrev pub behind : List ℕ → ℕ → Option (List ℕ × ℕ) → Option (Li
 behind front n None = None
 behind front n (Some t) = Some (front ++ t.0, n + t.1)
 
+-- the content of a text and how many bytes it takes, by its first step and what the rest gives
 abbrev pub stepped : Step → (Mode → Option (List ℕ × ℕ)) → Option (List ℕ × ℕ)
 stepped Ends rest = Some ([], 1)
 stepped Fails rest = None

@@ -11,12 +11,14 @@ use Rattle.script_tokens.specs.declared.lexeme.Class.{Class}
 use Rattle.script_tokens.specs.declared.lexeme.Class.TheVariants.{Name as Names, Digit, Comment}
 use Rattle.script_tokens.specs.declared.text.Mode.TheVariants.{Plain}
 
+-- what stands at the front of a text: blanks, a whole token, or what is wrong there
 pub data Lexeme : Type 0 where
   -- blanks or a comment
   blank : (len : ℕ) → Lexeme
   whole : kind.Kind → (len : ℕ) → Lexeme
   wrong : SyntaxFaultKind → Lexeme
 
+-- 0 to 9
 abbrev pub is_digit : ℕ → Bool
 is_digit b = between 48 57 b
 
@@ -48,6 +50,7 @@ abbrev pub named : List ℕ → Option Word → Lexeme
 named x (Some w) = whole (kind.fixed w) (length x)
 named x None = if nat_le (length x) MOST_IDENTIFIER_BYTES then whole (kind.name x) (length x) else wrong Limit
 
+-- what letters and digits are: a keyword, or else a name
 abbrev pub name_or_keyword : List ℕ → Lexeme
 name_or_keyword x = named x (word_of x)
 
@@ -56,13 +59,16 @@ abbrev pub value_from : ℕ → List ℕ → ℕ
 value_from n [] = n
 value_from n (d ∷ ds) = value_from (n * 10 + (d - 48)) ds
 
+-- a number that isn't above the limit
 abbrev pub within_limit : ℕ → Option ℕ
 within_limit n = if nat_le n MOST_NUMBER then Some n else None
 
+-- a number of so many digits; a fault where it is above the limit
 abbrev pub number : ℕ → Option ℕ → Lexeme
 number len None = wrong Limit
 number len (Some n) = whole (kind.number (pos n)) len
 
+-- the number that these digits write
 abbrev pub number_of : List ℕ → Lexeme
 number_of digits = number (length digits) (within_limit (value_from 0 digits))
 
@@ -71,6 +77,7 @@ abbrev pub text : Option (List ℕ × ℕ) → Lexeme
 text None = wrong NoToken
 text (Some t) = if nat_le (length t.0) MOST_LITERAL_BYTES then whole (kind.text t.0) (1 + t.1) else wrong Limit
 
+-- the word that these bytes are; where they are none, the other
 abbrev pub word_lexeme : List ℕ → Option Word → Lexeme → Lexeme
 word_lexeme bs None other = other
 word_lexeme bs (Some w) other = whole (kind.fixed w) (length bs)
@@ -89,6 +96,7 @@ lexeme_of b bs =
     else if b == 34 then text (text_from Plain bs)
     else sign (b ∷ bs)
 
+-- what stands at the front of these bytes
 abbrev pub lexeme : List ℕ → Lexeme
 lexeme [] = wrong NoToken
 lexeme (b ∷ bs) = lexeme_of b bs

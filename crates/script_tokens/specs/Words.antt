@@ -56,6 +56,7 @@ spelling_of Times = codes "*"
 spelling_of Over = codes "/"
 spelling_of Percent = codes "%"
 
+-- all of them
 unfoldable pub words : List Word
 words =
     Store ∷ Table ∷ Function ∷ Page ∷ Let ∷ Set ∷ If ∷ Else ∷ While ∷ For

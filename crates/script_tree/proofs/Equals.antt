@@ -115,7 +115,8 @@ statement_is a b e = absurd (true≢false (sym e))
 statement_itself : (a : Statement) → same_statement a a ≡ true
 statement_itself (Insert t r) = and_from _ _ (nat_tells.1 t) ((each_tells same_datum datum_tells).1 r)
 statement_itself (Select t c a) = and_from _ _ (nat_tells.1 t) (and_from _ _ ((each_tells nat_eq nat_tells).1 c) ((each_tells same_test test_tells).1 a))
-statement_itself (Update t c a) = and_from _ _ (nat_tells.1 t) (and_from _ _ ((each_tells same_change change_tells).1 c) ((each_tells same_test test_tells).1 a))
+statement_itself (Update t c a) = and_from _ _ (nat_tells.1 t)
+    (and_from _ _ ((each_tells same_change change_tells).1 c) ((each_tells same_test test_tells).1 a))
 statement_itself (Delete t a) = and_from _ _ (nat_tells.1 t) ((each_tells same_test test_tells).1 a)
 statement_itself (Expect n t a) = and_from _ _ (int_tells.1 n) (and_from _ _ (nat_tells.1 t) ((each_tells same_test test_tells).1 a))
 
@@ -213,4 +214,6 @@ path_is a b e =
     λ i. record { page = number_is a.page b.page p.0 i; decisions = (each_tells same_decision (truth_is, truth_itself)).0 a.decisions b.decisions q.0 i; steps = eqb-true a.steps b.steps r.0 i; end = end_is a.end b.end r.1 i }
 
 pub path_itself : (a : Path) → same_path a a ≡ true
-path_itself a = and_from _ _ (number_itself a.page) (and_from _ _ ((each_tells same_decision (truth_is, truth_itself)).1 a.decisions) (and_from _ _ (nat_tells.1 a.steps) (end_itself a.end)))
+path_itself a = and_from _ _ (number_itself a.page)
+    (and_from _ _ ((each_tells same_decision (truth_is, truth_itself)).1 a.decisions)
+    (and_from _ _ (nat_tells.1 a.steps) (end_itself a.end)))

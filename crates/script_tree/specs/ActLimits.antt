@@ -7,6 +7,7 @@ use Rattle.script_tree.specs.declared.transaction.Statement.{Statement}
 use Rattle.script_tree.specs.declared.transaction.Statement.TheVariants.{Insert, Select, Update, Delete, Expect}
 use Rattle.script_tree.specs.declared.transaction.Test.{Test}
 
+-- Each of these values is within the limits of a value.
 abbrev pub AreWithinLimits : List Datum → Type 0
 AreWithinLimits [] = Unit {0}
 AreWithinLimits (d ∷ ds) = IsWithinLimits d × AreWithinLimits ds
@@ -15,6 +16,7 @@ AreWithinLimits (d ∷ ds) = IsWithinLimits d × AreWithinLimits ds
 abbrev pub tested : List Test → List Datum
 tested tests = map (λ t. t.value) tests
 
+-- The values that a statement inserts, sets and tests with are within the limits of a value.
 abbrev pub IsStatementWithinLimits : Statement → Type 0
 IsStatementWithinLimits (Insert t row) = AreWithinLimits row
 IsStatementWithinLimits (Select t columns tests) = AreWithinLimits (tested tests)
@@ -22,10 +24,12 @@ IsStatementWithinLimits (Update t changes tests) = AreWithinLimits (map (λ c. c
 IsStatementWithinLimits (Delete t tests) = AreWithinLimits (tested tests)
 IsStatementWithinLimits (Expect n t tests) = AreWithinLimits (tested tests)
 
+-- The values of all these statements are within the limits of a value.
 abbrev pub AreStatementsWithinLimits : List Statement → Type 0
 AreStatementsWithinLimits [] = Unit {0}
 AreStatementsWithinLimits (s ∷ ss) = IsStatementWithinLimits s × AreStatementsWithinLimits ss
 
+-- The values that an act writes, puts, or takes in its statements are within the limits of a value.
 abbrev pub IsActWithinLimits : Act → Type 0
 IsActWithinLimits Read = Unit {0}
 IsActWithinLimits (Write d) = IsWithinLimits d

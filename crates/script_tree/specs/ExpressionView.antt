@@ -9,12 +9,15 @@ use Rattle.script_tree.specs.declared.syntax.expression.QueryNode.TheVariants.{I
 use Rattle.script_tree.specs.declared.syntax.expression.Condition.{Condition}
 use Rattle.script_tree.specs.declared.syntax.expression.Assignment.{Assignment}
 
+-- the test that a test of the code stands for
 abbrev pub condition_of : Condition → s.Condition
 condition_of c = record { column = c.column; comparison = c.comparison; value = c.value }
 
+-- the assignment that an assignment of the code stands for
 abbrev pub assignment_of : Assignment → s.Assignment
 assignment_of a = record { column = a.column; value = a.value }
 
+-- the expression that a node stands for, at a place
 abbrev pub expression_of : ℕ → ExpressionNode → s.Expression
 expression_of at (Number n) = s.number at n
 expression_of at (Text shared) = s.text at shared.value
@@ -31,6 +34,7 @@ expression_of at (And a b) = s.and_ at a.value b.value
 expression_of at (Or a b) = s.or_ at a.value b.value
 expression_of at (Index a b) = s.index at a.value b.value
 
+-- the statement of a transaction that a node stands for, at a place
 abbrev pub query_of : ℕ → QueryNode → s.Query
 query_of at (Insert table es) = s.insert at table (expressions_of es)
 query_of at (Select columns table cs) = s.select at columns table (conditions_of (map condition_of cs))

@@ -34,6 +34,7 @@ table_widths (Page at path body ∷ ds) = table_widths ds
 
 -- ---- what fits
 
+-- A key, or the name of a register, isn't too long.
 abbrev pub IsKey : List ℕ → Type 0
 IsKey k = length k ≤ MOST_KEY_BYTES
 
@@ -57,6 +58,7 @@ pub record IsTable (width : ℕ) (table : Table) : Type 0 where
   pub rows : (i : ℕ) (row : Row) → nth table i ≡ Some row → IsRow width row
   pub in_order : (i j : ℕ) (a b : Row) → i < j → nth table i ≡ Some a → nth table j ≡ Some b → compare (key a) (key b) ≡ Less
 
+-- These are tables of these widths, one for each, in order.
 abbrev pub AreTables : List ℕ → List Table → Type 0
 AreTables [] [] = Unit {0}
 AreTables [] (table ∷ tables) = ⊥

@@ -23,6 +23,7 @@ pub data Cell : Type 0 where
 abbrev pub Objects : Type 0
 Objects = Object → Cell
 
+-- whether two objects are one
 abbrev pub is_same : Object → Object → Bool
 is_same (Register a) (Register b) = bytes_eq a b
 is_same (Store a) (Store b) = bytes_eq a b
@@ -70,6 +71,7 @@ acted (Roll bound) Nothing cell = (cell, null)
 acted (Roll bound) (Number n) none = (none, number n)
 acted (Roll bound) (Number n) cell = (cell, null)
 
+-- the choice where nothing is left open
 abbrev pub is_nothing : Choice → Bool
 is_nothing Nothing = true
 is_nothing (Number n) = false

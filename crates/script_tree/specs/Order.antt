@@ -17,6 +17,7 @@ rank (text bs) = 3
 rank (list ds) = 4
 
 abbrev mutual
+  -- how a value stands to another one in the order of all values
   pub compare : Datum → Datum → Ordering
   compare (bool a) (bool b) = bool_cmp a b
   compare (number a) (number b) = int_cmp a b

@@ -16,14 +16,17 @@ abbrev truth : Datum → ℕ
 truth (bool true) = 1
 truth d = 0
 
+-- the number that a value is, else 0
 abbrev integer : Datum → ℤ
 integer (number n) = n
 integer d = pos 0
 
+-- the text that a value is, else the empty one
 abbrev bytes : Datum → List ℕ
 bytes (text bs) = bs
 bytes d = []
 
+-- the members of the list that a value is, else none
 abbrev parts : Datum → List Datum
 parts (list ds) = members ds
 parts d = []
@@ -35,20 +38,24 @@ down_to (suc n) =
     then_cmp (on rank nat_cmp) (then_cmp (on truth nat_cmp) (then_cmp (on integer int_cmp)
     (then_cmp (on bytes (slice_cmp nat_cmp)) (on parts (slice_cmp (down_to n))))))
 
+-- The order in which all values tie is total.
 flat_total : IsTotalOrder {K = Datum} (λ _ _. Equal)
 flat_total = record { antisymm = λ x y. refl; trans = λ x y z h g. h; congr = λ x y z h. refl }
 
+-- The order down to a depth is total.
 down_total : (n : ℕ) → IsTotalOrder (down_to n)
 down_total zero = flat_total
 down_total (suc n) =
     then_total (on_total rank nat_cmp_total) (then_total (on_total truth nat_cmp_total) (then_total (on_total integer int_cmp_total)
     (then_total (on_total bytes nat_list_cmp_total) (on_total parts (lists_total (down_total n))))))
 
+-- Where a tie comes second, what came first stands.
 last : (o : Ordering) → ordering_then o Equal ≡ o
 last Less = refl
 last Equal = refl
 last Greater = refl
 
+-- Booleans are ordered by their numbers, 0 and 1.
 same_bool : (a b : Bool) → nat_cmp (truth (bool a)) (truth (bool b)) ≡ bool_cmp a b
 same_bool true true = refl
 same_bool true false = refl
@@ -67,6 +74,7 @@ mutual
   deep_enough n null (bool b) h = refl
   deep_enough n a b h = refl
 
+  -- Deep enough, it is the order of members.
   members_deep : (n : ℕ) (xs ys : Data) → members_nesting xs ≤ n → slice_cmp (down_to (suc n)) (members xs) (members ys) ≡ compare_members xs ys
   members_deep n none none h = refl
   members_deep n none (more b ys) h = refl
@@ -74,9 +82,11 @@ mutual
   members_deep n (more a xs) (more b ys) h =
       λ i. ordering_then (deep_enough n a b (omega arith) i) (members_deep n xs ys (omega arith) i)
 
+-- The same, with the values first.
 at : (x y : Datum) (n : ℕ) → nesting x ≤ n → down_to (suc n) x y ≡ compare x y
 at x y n h = deep_enough n x y h
 
+-- The order of values is total.
 pub compare_total : IsTotalOrder compare
 compare_total = record {
   antisymm = λ x y.
@@ -90,11 +100,13 @@ compare_total = record {
       sym (at x z n (omega arith)) ∙ (down_total (suc n)).congr x y z (at x y n (omega arith) ∙ h) ∙ at y z n (omega arith);
 }
 
+-- What ties in one order and then in another ties in both.
 then_first : (o p : Ordering) → ordering_then o p ≡ Equal → (o ≡ Equal) × (p ≡ Equal)
 then_first Less p h = cc
 then_first Equal p h = (refl, h)
 then_first Greater p h = cc
 
+-- Booleans that compare alike are one.
 exact_bools : (a b : Bool) → bool_cmp a b ≡ Equal → a ≡ b
 exact_bools true true h = refl
 exact_bools false false h = refl
@@ -111,6 +123,7 @@ mutual
   compare_exact (list xs) (list ys) h = ap list (members_exact xs ys h)
   compare_exact a b h = cc
 
+  -- Members that compare alike are one.
   members_exact : (xs ys : Data) → compare_members xs ys ≡ Equal → xs ≡ ys
   members_exact none none h = refl
   members_exact none (more b ys) h = cc

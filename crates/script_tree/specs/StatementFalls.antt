@@ -12,14 +12,17 @@ use Rattle.script_tree.specs.declared.syntax.statement.Else.{Else}
 use Rattle.script_tree.specs.declared.syntax.statement.Else.TheVariants.{None, Block}
 use Rattle.script_tree.specs.declared.syntax.statement.Statement.TheDeep.{deep-Statement, deep-StatementNode, deep-Else}
 
+-- Each statement of a list weighs less than the list.
 each_statement : (ss : List s.Statement) → most (λ t. statement_weight t + 1) ss ≤ statement_list_weight ss
 each_statement [] = omega arith
 each_statement (t ∷ ss) = omega (arith, each_statement ss)
 
+-- What is in an else weighs less than it.
 else_falls : (o : Else) → deep-Else o ≤ else_weight (else_of o)
 else_falls None = omega arith
 else_falls (Block ss) = omega (arith, each_statement ss)
 
+-- What is in a node weighs less than the statement of the node.
 node_falls : (at : ℕ) (n : StatementNode) → deep-StatementNode n ≤ statement_weight (statement_of at n)
 node_falls at (Let x e) = omega arith
 node_falls at (Set x e) = omega arith
@@ -31,5 +34,6 @@ node_falls at (Status e) = omega arith
 node_falls at (Return e) = omega arith
 node_falls at (Do e) = omega arith
 
+-- What is in a statement weighs less than it.
 pub statement_falls : (a : InStatement) → deep-Statement a ≤ statement_weight (statement_of a.at a.node)
 statement_falls a = omega (arith, node_falls a.at a.node)

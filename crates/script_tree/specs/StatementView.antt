@@ -7,10 +7,12 @@ use Rattle.script_tree.specs.declared.syntax.statement.StatementNode.TheVariants
 use Rattle.script_tree.specs.declared.syntax.statement.Else.{Else}
 use Rattle.script_tree.specs.declared.syntax.statement.Else.TheVariants.{None, Block}
 
+-- the else that an else of the code stands for
 abbrev pub else_of : Else → s.Else
 else_of None = s.no_else
 else_of (Block ss) = s.else_ (statements_of ss)
 
+-- the statement that a node stands for, at a place
 abbrev pub statement_of : ℕ → StatementNode → s.Statement
 statement_of at (Let x e) = s.let_ at x e
 statement_of at (Set x e) = s.set_ at x e

@@ -6,6 +6,7 @@ use Rattle.script_tree.specs.declared.syntax.operator.BinaryOperator.{BinaryOper
 use Rattle.script_tree.specs.declared.syntax.name.Name.{Name}
 
 mutual
+  -- an expression, by its form
   pub data Expression : Type 0 where
     number : (at : ℕ) → ℤ → Expression
     text : (at : ℕ) → (bytes : List ℕ) → Expression
@@ -22,6 +23,7 @@ mutual
     or_ : (at : ℕ) → Expression → Expression → Expression
     index : (at : ℕ) → Expression → Expression → Expression
 
+  -- expressions in a row: arguments of a call, members of a list, values of an insert
   pub data Expressions : Type 0 where
     no_expression : Expressions
     expression : Expression → Expressions → Expressions
@@ -34,6 +36,7 @@ mutual
     delete : (at : ℕ) → (table : Name) → Conditions → Query
     expect : (at : ℕ) → Expression → (table : Name) → Conditions → Query
 
+  -- the statements of a transaction, in order
   pub data Queries : Type 0 where
     no_query : Queries
     query : Query → Queries → Queries
@@ -54,11 +57,13 @@ pub record Condition : Type 0 where
   pub comparison : Comparison
   pub value : Expression
 
+-- an assignment of an update
 pub record Assignment : Type 0 where
   pub column : Name
   pub value : Expression
 
 mutual
+  -- a statement, by its form
   pub data Statement : Type 0 where
     let_ : (at : ℕ) → Name → Expression → Statement
     set_ : (at : ℕ) → Name → Expression → Statement
@@ -70,10 +75,12 @@ mutual
     return : (at : ℕ) → Expression → Statement
     do_ : (at : ℕ) → Expression → Statement
 
+  -- the else of an if, where it has one
   pub data Else : Type 0 where
     no_else : Else
     else_ : Statements → Else
 
+  -- the statements of a block, in order
   pub data Statements : Type 0 where
     no_statement : Statements
     statement : Statement → Statements → Statements

@@ -14,9 +14,11 @@ use Rattle.script_tree.specs.declared.transaction.Statement.TheVariants.{Insert,
 abbrev pub Row : Type 0
 Row = List Datum
 
+-- a table
 abbrev pub Table : Type 0
 Table = List Row
 
+-- a row's value in a column; null where it has none
 abbrev pub column : ℕ → Row → Datum
 column c row = nth_or null row c
 
@@ -31,6 +33,7 @@ abbrev pub meets : List Test → Row → Bool
 meets [] row = true
 meets (t ∷ ts) row = compares t.comparison (column t.column row) t.value && meets ts row
 
+-- the rows that pass all tests
 abbrev pub meeting_rows : List Test → Table → Table
 meeting_rows tests rows = filter (meets tests) rows
 
@@ -66,6 +69,7 @@ other_rows tests rows = filter (λ r. not (meets tests r)) rows
 
 -- ---- statements
 
+-- the table of a number; no rows where there is none
 abbrev pub table_at : ℕ → List Table → Table
 table_at t tables = nth_or [] tables t
 

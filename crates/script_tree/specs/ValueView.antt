@@ -3,6 +3,7 @@ use Rattle.script_tree.specs.Datum.{Datum, null, bool, number, text, list, data_
 use Rattle.script_tree.specs.declared.value.Node.{Node}
 use Rattle.script_tree.specs.declared.value.Node.TheVariants.{Null, Bool, Number, Text, List as Listed}
 
+-- the value that a node stands for
 abbrev pub datum_of : Node → Datum
 datum_of Null = null
 datum_of (Bool b) = bool b

@@ -7,7 +7,8 @@ use Rattle.script_tree.specs.declared.syntax.builtin.Builtin.TheVariants.{Len, S
 use Rattle.script_meaning.specs.BuiltinCalls.{built_in}
 use Rattle.script_meaning.specs.Operands.{first, second, third}
 
-pub first_three : (q : Request) (store : List ℕ) (b : Builtin) (ds : List Datum) → built_in q store b (first ds ∷ second ds ∷ third ds ∷ []) ≡ built_in q store b ds
+pub first_three : (q : Request) (store : List ℕ) (b : Builtin) (ds : List Datum)
+    → built_in q store b (first ds ∷ second ds ∷ third ds ∷ []) ≡ built_in q store b ds
 first_three q store Len ds = refl
 first_three q store Str ds = refl
 first_three q store Escape ds = refl

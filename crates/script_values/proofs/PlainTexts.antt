@@ -1,5 +1,5 @@
 -- A text of plain bytes is spelled as it is.
-use Rattle.std.proofs.Common.{◌≡◌, ◌==◌, ℕ, Bool, true, false, List, [], ◌∷◌, ◌++◌, codes, if◌then◌else◌, refl, ap}
+use Rattle.std.proofs.Common.{◌≡◌, ◌==◌, ℕ, Bool, true, false, List, [], ◌∷◌, codes, if◌then◌else◌, refl, ap}
 use Rattle.std.proofs.lemmas.Bool.{and_parts}
 use Rattle.script_meaning.specs.Operators.{escaped_byte, escaped_bytes}
 use Rattle.script_values.specs.Plain.{is_plain, are_plain}

@@ -10,14 +10,17 @@ use Rattle.script_values.specs.declared.arguments.Arguments.{Arguments}
 use Rattle.script_values.specs.declared.builtins.Called.{Called}
 use Rattle.script_values.specs.declared.builtins.Called.TheVariants.{Value, Operation}
 
+-- of a value, or the fault of it
 abbrev pub value_made : Answer → Result Called ScriptFault
 value_made (Ok d) = Ok (Value d)
 value_made (Err f) = Err f
 
+-- of an operation, or the fault of its values
 abbrev pub operation_made : OpAnswer → Result Called ScriptFault
 operation_made (Ok op) = Ok (Operation op)
 operation_made (Err f) = Err f
 
+-- what the call comes to: a value, an operation or a fault
 abbrev pub made : Call → Result Called ScriptFault
 made (plain a) = value_made a
 made (of_request a) = value_made a

@@ -8,5 +8,6 @@ is_plain b =
     if b == 38 then false else (if b == 60 then false else (if b == 62 then false
     else (if b == 34 then false else (if b == 39 then false else true))))
 
+-- bytes of which none is spelled out
 abbrev pub are_plain : List ℕ → Bool
 are_plain bytes = list_all is_plain bytes

@@ -13,6 +13,7 @@ mod operand;
 mod operations;
 mod operators;
 mod order;
+mod output;
 mod texts;
 mod transactions;
 
@@ -24,5 +25,6 @@ pub use lists::{copied, listed};
 pub use operand::Operand;
 pub use operations::status_in;
 pub use operators::{binary, indexed, unary};
+pub use output::Output;
 pub use texts::printed;
 pub use transactions::{Unchecked, transact_op};

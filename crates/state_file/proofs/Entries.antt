@@ -32,7 +32,9 @@ once_behind front last h = by_test (has_twice (keys_of last)) refl where
   by_test false e = refl
 
 -- whether a name stands before others, by what is given there
-pub stands : {A : Type 0} (name : List ℕ) (x : A) (last : List (Named A)) (had : Bool) → had ≡ is_some (given_at last name) → has_twice (keys_of last) ≡ false → has_twice (keys_of ((name, x) ∷ last)) ≡ had
+pub stands : {A : Type 0} (name : List ℕ) (x : A) (last : List (Named A)) (had : Bool)
+    → had ≡ is_some (given_at last name) → has_twice (keys_of last) ≡ false
+    → has_twice (keys_of ((name, x) ∷ last)) ≡ had
 stands name x last had e once = rw (← is_some-lookup (bytes_eq name) last, once) (or-false (is_some (given_at last name)) ∙ sym e)
 
 none_is : {A : Type 0} (o : Option A) → is_some o ≡ false → o ≡ None

@@ -25,7 +25,10 @@ key_fits (list ds) is short = absurd cc
 
 values_fit : (row : Row) → list_all is_within_limits row ≡ true → AreWithinLimits row
 values_fit [] h = tt
-values_fit (d ∷ row) h = (both-left (is_within_limits d) (list_all is_within_limits row) h, values_fit row (both-right (is_within_limits d) (list_all is_within_limits row) h))
+values_fit (d ∷ row) h = (
+  both-left (is_within_limits d) (list_all is_within_limits row) h,
+  values_fit row (both-right (is_within_limits d) (list_all is_within_limits row) h),
+)
 
 pub row_fits : (width : ℕ) (row : Row) → is_row_of width row ≡ true → is_row_within_limits row ≡ true → IsRow width row
 row_fits width row is within =

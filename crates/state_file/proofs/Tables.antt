@@ -3,8 +3,8 @@ use Rattle.std.proofs.Common.{◌≡◌, ℕ, suc, ◌+◌, List, [], ◌∷◌,
 use Rattle.std.specs.Str.{bytes_eq}
 use Rattle.basis.specs.Lists.{nth}
 use Rattle.basis.proofs.Options.{some_is, none_is_not}
-use Rattle.script_index.specs.Found.{table_of}
-use Rattle.script_index.specs.declared.index.FoundTable.{FoundTable}
+use Rattle.script_check.specs.FoundByName.{table_of}
+use Rattle.script_check.specs.declared.lookup.FoundTable.{FoundTable}
 use Rattle.script_tree.specs.Declarations.{NumberedTable, table_from}
 use Rattle.script_tree.specs.Fit.{table_widths}
 use Rattle.script_tree.specs.declared.syntax.declaration.Declaration.{Declaration}
@@ -34,5 +34,6 @@ width_at x ds n e =
     subst (λ i. nth (table_widths ds) i ≡ Some (length n.columns)) same m.2
 
 -- the same where it is found by name
-pub width_there : (x : List ℕ) (ds : List Declaration) (t : FoundTable) → Some (table_of t) ≡ table_from 0 x ds → nth (table_widths ds) t.number ≡ Some (length t.columns.now)
+pub width_there : (x : List ℕ) (ds : List Declaration) (t : FoundTable) → Some (table_of t) ≡ table_from 0 x ds
+    → nth (table_widths ds) t.number ≡ Some (length t.columns.now)
 width_there x ds t e = width_at x ds (table_of t) (sym e)

@@ -24,7 +24,8 @@ use Rattle.state_file.specs.declared.given.Given.{Given}
 use Rattle.state_file.proofs.Entries.{all_same}
 
 -- the stores that are given are still there
-pub there_still : (program : Program) (given : Given) (old mid : HeldObjects) → IsSetOf program old → mid.stores ≡ old.stores → are_declared program given ≡ true
+pub there_still : (program : Program) (given : Given) (old mid : HeldObjects) → IsSetOf program old
+    → mid.stores ≡ old.stores → are_declared program given ≡ true
     → list_all (λ s. has_store mid.stores s.0) given.stores ≡ true
 there_still program given old mid of same declared =
     let now = λ (s : Named (List Entry)). has_store mid.stores s.0 in
@@ -41,14 +42,17 @@ stores_within given h =
 
 -- the tables from none are those that are given
 stored_tables : (program : Program) (given : Given) (old mid new : HeldObjects) → IsEmptySet old → IsSetOf program old → mid.tables ≡ old.tables
-    → with_tables program.declarations given.tables mid.tables.tables ≡ Some new.tables.tables → new.tables.tables ≡ unwrap_or (given_tables program given.tables) []
+    → with_tables program.declarations given.tables mid.tables.tables ≡ Some new.tables.tables
+    → new.tables.tables ≡ unwrap_or (given_tables program given.tables) []
 stored_tables program given old mid new empty of same put =
     let ds = program.declarations in
     let none : mid.tables.tables ≡ no_rows (table_widths ds) = ap (λ t. t.tables) same ∙ empty.tables ∙ ap no_rows of.widths in
     sym (ap (λ o. unwrap_or o []) (ap (with_tables ds given.tables) (sym none) ∙ put))
 
-pub holds : (program : Program) (given : Given) (h a b d : HeldObjects) → IsEmptySet h → IsSetOf program h → PutsRegisters given.registers h a → PutsStores given.stores a b
-    → with_tables program.declarations given.tables b.tables.tables ≡ Some d.tables.tables → ChangesTables b d → Holds program given (record d { clock = given.clock })
+pub holds : (program : Program) (given : Given) (h a b d : HeldObjects) → IsEmptySet h → IsSetOf program h
+    → PutsRegisters given.registers h a → PutsStores given.stores a b
+    → with_tables program.declarations given.tables b.tables.tables ≡ Some d.tables.tables → ChangesTables b d
+    → Holds program given (record d { clock = given.clock })
 holds program given h a b d empty of registers stores tables rest = record {
   declared = record {
     stores = λ (s : List ℕ). ap (λ ss. has_store ss s) rest.stores ∙ stores.others.same s ∙ ap (λ ss. has_store ss s) registers.stores ∙ of.stores s;

@@ -15,6 +15,7 @@ use Rattle.state_file.specs.declared.given.Given.{Given}
 
 -- ---- names
 
+-- whether the program declares each store and each table that is given
 abbrev pub are_declared : Program → Given → Bool
 are_declared program given =
     list_all (λ s. declares_store program.declarations s.0) given.stores
@@ -22,9 +23,11 @@ are_declared program given =
 
 -- ---- limits
 
+-- whether the key isn't too long, and the value is within its limits
 abbrev pub is_entry_within_limits : Entry → Bool
 is_entry_within_limits e = nat_le (length e.0) MOST_KEY_BYTES && is_within_limits e.1
 
+-- the same of each entry
 abbrev pub are_entries_within_limits : List Entry → Bool
 are_entries_within_limits entries = list_all is_entry_within_limits entries
 
@@ -36,12 +39,15 @@ is_short (number n) = true
 is_short (text bytes) = nat_le (length bytes) MOST_KEY_BYTES
 is_short (list ds) = true
 
+-- whether the values are within their limits, and the key isn't too long
 abbrev pub is_row_within_limits : Row → Bool
 is_row_within_limits row = list_all is_within_limits row && is_short (key row)
 
+-- the same of each row
 abbrev pub are_rows_within_limits : List Row → Bool
 are_rows_within_limits rows = list_all is_row_within_limits rows
 
+-- the same of all entries and rows, and that the clock isn't below zero
 abbrev pub are_within_limits : Given → Bool
 are_within_limits given =
     are_entries_within_limits given.registers
@@ -51,6 +57,7 @@ are_within_limits given =
 
 -- ---- what can be stored
 
+-- whether a store is given a key twice
 abbrev pub some_key_is_twice : List (Named (List Entry)) → Bool
 some_key_is_twice stores = list_any (λ s. has_twice (keys_of s.1)) stores
 

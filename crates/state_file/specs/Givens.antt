@@ -24,29 +24,37 @@ entry_of d = do
   value ← datum_of pair.1
   Some (name, value)
 
+-- an array of entries
 abbrev pub entries_of : json.Data → Option (List Entry)
 entries_of = array_of entry_of
 
+-- an array of values
 abbrev pub row_of : json.Data → Option Row
 row_of d = as_array d >>= values_of
 
+-- an array of rows
 abbrev pub rows_of : json.Data → Option (List Row)
 rows_of = array_of row_of
 
+-- an object whose members are stores, each with its entries
 abbrev pub stores_of : json.Data → Option (List (Named (List Entry)))
 stores_of = object_of entries_of
 
+-- an object whose members are tables, each with its rows
 abbrev pub tables_of : json.Data → Option (List (Named (List Row)))
 tables_of = object_of rows_of
 
+-- a whole number
 abbrev pub clock_of : json.Data → Option ℤ
 clock_of = whole_number_of
 
 -- ---- the whole
 
+-- the names that a state's members may have
 abbrev pub member_names : List (List ℕ)
 member_names = codes "registers" ∷ codes "stores" ∷ codes "tables" ∷ codes "clock" ∷ []
 
+-- what these parts give, where each is there
 abbrev pub whole : Option (List Entry) → Option (List (Named (List Entry))) → Option (List (Named (List Row))) → Option ℤ → Option Given
 whole registers stores tables clock = do
   rs ← registers
@@ -65,5 +73,6 @@ given_in ms =
     (read_or (pos 0) clock_of (get_member (codes "clock") ms))
     else None
 
+-- a state, which is an object
 abbrev pub given_of : json.Data → Option Given
 given_of d = as_object d >>= given_in

@@ -1,6 +1,6 @@
 -- What a state is, and which faults it has, by the JSON tree that its bytes spell.
 use Rattle.std.specs.Prelude.{◌≡◌, ℕ, true, false, List}
-use Rattle.json_texts.specs.Reading.{IsNoJson, Gives, HasOtherShape}
+use Rattle.json_texts.specs.Reading.{IsNoJson, IsJsonOf, HasOtherShape}
 use Rattle.script_tree.specs.Programs.{Program}
 use Rattle.state_file.specs.Givens.{given_of}
 use Rattle.state_file.specs.Faults.{are_declared, are_within_limits, is_storable}
@@ -25,16 +25,17 @@ HasGivenFault program given Unstorable =
 
 -- The bytes are a state without a fault, which gives this.
 abbrev pub SpellsState : Program → List ℕ → Given → Type 0
-SpellsState program bytes given = Gives given_of bytes given × IsFaultless program given
+SpellsState program bytes given = IsJsonOf given_of bytes given × IsFaultless program given
 
 -- The fault with the least kind that the bytes have.
 abbrev pub HasStateFault : Program → List ℕ → StateFault → Type 0
 HasStateFault program bytes NotJson = IsNoJson bytes
 HasStateFault program bytes OtherShape = HasOtherShape given_of bytes
-HasStateFault program bytes Undeclared = (given : Given) × Gives given_of bytes given × HasGivenFault program given Undeclared
-HasStateFault program bytes BeyondLimit = (given : Given) × Gives given_of bytes given × HasGivenFault program given BeyondLimit
-HasStateFault program bytes Unstorable = (given : Given) × Gives given_of bytes given × HasGivenFault program given Unstorable
+HasStateFault program bytes Undeclared = (given : Given) × IsJsonOf given_of bytes given × HasGivenFault program given Undeclared
+HasStateFault program bytes BeyondLimit = (given : Given) × IsJsonOf given_of bytes given × HasGivenFault program given BeyondLimit
+HasStateFault program bytes Unstorable = (given : Given) × IsJsonOf given_of bytes given × HasGivenFault program given Unstorable
 
+-- the number by which a fault is printed
 abbrev pub fault_kind : StateFault → ℕ
 fault_kind NotJson = 1
 fault_kind OtherShape = 2

@@ -3,7 +3,7 @@ use Rattle.std.specs.Prelude.{ℕ, Bool, true, false, ◌&&◌, ◌==◌, List, 
 use Rattle.std.specs.Map.{lookup}
 use Rattle.std.specs.Str.{bytes_eq}
 use Rattle.basis.specs.Options.{◌>>=◌}
-use Rattle.object_tables.specs.Outcomes.{with_row_at}
+use Rattle.object_tables.specs.TransactionEnds.{with_row_at}
 use Rattle.object_tables.specs.TableSets.{no_rows}
 use Rattle.script_tree.specs.Datum.{Datum, null, bool, number, text, list}
 use Rattle.script_tree.specs.Declarations.{table_from}
@@ -29,6 +29,7 @@ cell_at stores s k = given_at (unwrap_or (given_at stores s) []) k
 
 -- ---- tables
 
+-- whether a value is a text
 abbrev pub is_text : Datum → Bool
 is_text null = false
 is_text (bool b) = false
@@ -63,6 +64,7 @@ given_tables program tables = with_tables program.declarations tables (no_rows (
 
 -- ---- all objects
 
+-- what each object holds at the start
 abbrev pub given_objects : Program → Given → Objects
 given_objects program given (Register x) = one (given_at given.registers x)
 given_objects program given (Store s) = many (cell_at given.stores s)

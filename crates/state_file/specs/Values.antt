@@ -7,6 +7,7 @@ use Rattle.script_tree.specs.Datum.{Datum, null, bool, number, text, list, data_
 use Rattle.json_texts.specs.Texts.{hex_text}
 
 abbrev mutual
+  -- a value, where its numbers are whole ones of 64 bits
   pub datum_of : json.Data → Option Datum
   datum_of json.null = Some null
   datum_of (json.boolean b) = Some (bool b)
@@ -15,6 +16,7 @@ abbrev mutual
   datum_of (json.array items) = option_map (λ ds. list (data_of ds)) (values_of items)
   datum_of (json.object ms) = option_map text (hex_text ms)
 
+  -- the values of an array's items, where each stands for one
   pub values_of : json.Items → Option (List Datum)
   values_of json.no_items = Some []
   values_of (json.item d items) = do

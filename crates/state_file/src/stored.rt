@@ -25,8 +25,8 @@ use crate::given::Given;
 use crate::limits::are_within_limits;
 use basis::{Items, OrMemory};
 use object_set::ObjectSet;
+use script_check::lookup::Index;
 use script_check::program::Program;
-use script_index::Index;
 use script_tree::text::Text;
 use script_tree::value::{Node, Value, Values};
 use std::alloc::{AllocError, Global};
@@ -116,7 +116,7 @@ fn put_all(objects: &mut ObjectSet, index: &Index, given: Given) -> Result<bool,
     Ok(true)
 }
 
-/// Gives registers their values, and tells whether none is given twice.
+/// IsJsonOf registers their values, and tells whether none is given twice.
 fn put_registers(
     objects: &mut ObjectSet,
     mut registers: Vec<(Text, Value)>,

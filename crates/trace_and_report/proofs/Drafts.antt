@@ -14,12 +14,12 @@ use Rattle.script_tree.specs.declared.operation.Object.{Object}
 use Rattle.script_tree.specs.declared.operation.Op.{Op}
 use Rattle.script_tree.specs.declared.path.Path.{Path}
 use Rattle.script_tree.specs.declared.request.Response.{Response}
-use Rattle.script_tree.specs.declared.trace.TraceEvent.{TraceEvent}
-use Rattle.script_tree.specs.declared.trace.TraceEvent.TheVariants.{Asked, Answered}
+use Rattle.period.specs.declared.trace.TraceEvent.{TraceEvent}
+use Rattle.period.specs.declared.trace.TraceEvent.TheVariants.{Asked, Answered}
 use Rattle.script_fit.specs.FitsOperation.{FitsOperation}
 use Rattle.wire.specs.Files.{Format, file_spelling, record_spelling, records_spelling}
 use Rattle.trace_format.specs.Events.{trace_format, IsResponse}
-use Rattle.report.specs.declared.LogEntry.{LogEntry}
+use Rattle.period.specs.declared.report.LogEntry.{LogEntry}
 use Rattle.report_format.specs.Reports.{entry_field}
 use Rattle.history.specs.Names.{Named, came, did, went}
 use Rattle.script_tree.specs.Paths.{same_path}
@@ -111,7 +111,8 @@ goes_on names named old new is of = record {
   logs =
       of.logs _ is.logs
       ∙ ap (map spelled_log) (sym (grouped_more is_same used_in object_in entry_in objects_laws object_used entry_used names named));
-  groups = of.groups ∙ ap (and_member_if same_path (taken_in named)) is.groups ∙ sym (grouped_more same_path taken_in path_in member_in paths_laws path_taken member_taken names named);
+  groups = of.groups ∙ ap (and_member_if same_path (taken_in named)) is.groups
+      ∙ sym (grouped_more same_path taken_in path_in member_in paths_laws path_taken member_taken names named);
   spellings = each_more HasSpelling names named is.spellings of.spelling;
 }
 
@@ -138,7 +139,8 @@ counted_more false n k = sym (add-zero n)
 
 pub acts : (names : List Named) (old new : Draft) (rid number : ℕ) (op : Op) (choice : Choice) → IsOfNames names old
     → new.trace ≡ old.trace → new.arrived ≡ old.arrived → ((r : ℕ) → counted new.operations.items r ≡ one_more_of rid (counted old.operations.items) r)
-    → ((gs : List (Object × List LogEntry)) → entries_in old.logs ≡ map spelled_log gs → entries_in new.logs ≡ map spelled_log (and_member is_same op.object (entry_of rid number op choice) gs))
+    → ((gs : List (Object × List LogEntry)) → entries_in old.logs ≡ map spelled_log gs
+    → entries_in new.logs ≡ map spelled_log (and_member is_same op.object (entry_of rid number op choice) gs))
     → new.groups ≡ old.groups → entry_field.allows (entry_of rid number op choice)
     → IsOfNames (names ++ did rid number op choice ∷ []) new
 acts names old new rid number op choice is trace arrived operations logs groups allowed =
@@ -184,14 +186,17 @@ pub counts_one : (old new : List (Option ℕ)) (rid more : ℕ) → at_seat new 
     → (r : ℕ) → counted new r ≡ one_more_of rid (counted old) r
 counts_one old new rid more put is r = ap (λ (f : ℕ → Option ℕ). unwrap_or (f r) 0) put ∙ by (eqb_tells rid r)
   where
-    by : ((nat_eq rid r ≡ true) × (rid ≡ r)) ⊎ ((nat_eq rid r ≡ false) × (rid ≢ r)) → unwrap_or (seated rid (Some more) (at_seat old) r) 0 ≡ one_more_of rid (counted old) r
+    by : ((nat_eq rid r ≡ true) × (rid ≡ r)) ⊎ ((nat_eq rid r ≡ false) × (rid ≢ r))
+        → unwrap_or (seated rid (Some more) (at_seat old) r) 0 ≡ one_more_of rid (counted old) r
     by (inl (here, same)) =
         ap (λ b. unwrap_or (cond b (Some more) (at_seat old r)) 0) here ∙ is ∙ ap (λ n. counted old n + 1) same
         ∙ sym (ap (λ b. cond b (counted old r + 1) (counted old r)) (nat_eq_equiv.symm r rid ∙ here))
     by (inr (apart, other)) =
-        ap (λ b. unwrap_or (cond b (Some more) (at_seat old r)) 0) apart ∙ sym (ap (λ b. cond b (counted old r + 1) (counted old r)) (nat_eq_equiv.symm r rid ∙ apart))
+        ap (λ b. unwrap_or (cond b (Some more) (at_seat old r)) 0) apart
+        ∙ sym (ap (λ b. cond b (counted old r + 1) (counted old r)) (nat_eq_equiv.symm r rid ∙ apart))
 
 -- the same of what is so for each that is given
-pub on_ok_all : {X : Type 0} (A P : X → Type 0) (result : Result (Unit {0}) AllocError) → ((x : X) → A x → OnOk result (P x)) → OnOk result ((x : X) → A x → P x)
+pub on_ok_all : {X : Type 0} (A P : X → Type 0) (result : Result (Unit {0}) AllocError)
+    → ((x : X) → A x → OnOk result (P x)) → OnOk result ((x : X) → A x → P x)
 on_ok_all A P (Ok u) all = all
 on_ok_all A P (Err e) all = tt

@@ -19,7 +19,8 @@ module _ (history : List Happening) (recorded : Recorded) (files : AreFiles (nam
   unfolding trace_of
   trace_file short = record {
     within = (files.trace, short);
-    read_again = λ few. trace_read_again (names history) recorded.trace.items (omega (arith, few, requests_counted history)) files.spellings (files.trace, short);
+    read_again = λ few. trace_read_again (names history) recorded.trace.items
+        (omega (arith, few, requests_counted history)) files.spellings (files.trace, short);
   }
 
   report_file : length recorded.report.items ≤ MOST_FILE_BYTES → IsReportFile history recorded.report.items

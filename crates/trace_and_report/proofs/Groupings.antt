@@ -95,7 +95,8 @@ module _ {K V : Type 0} (alike : K → K → Bool) where
         grouped_first p (ps ++ (k, v) ∷ [])
         ∙ (λ i. (p.0, p.1 ∷ members_more p.0 k v ps i) ∷ others p.0 (groups_more k v ps i))
         ∙ goes_on (alike p.0 k) p k v (members p.0 ps) (groups ps) refl
-        ∙ ap (λ b. cond b ((p.0, p.1 ∷ (members p.0 ps ++ v ∷ [])) ∷ others p.0 (groups ps)) ((p.0, p.1 ∷ members p.0 ps) ∷ and_member alike k v (others p.0 (groups ps)))) (laws.symm p.0 k)
+        ∙ ap (λ b. cond b ((p.0, p.1 ∷ (members p.0 ps ++ v ∷ [])) ∷ others p.0 (groups ps))
+        ((p.0, p.1 ∷ members p.0 ps) ∷ and_member alike k v (others p.0 (groups ps)))) (laws.symm p.0 k)
         ∙ sym (ap (and_member alike k v) (grouped_first p ps))
 
 -- ---- lists of what may be a member
@@ -139,7 +140,8 @@ module _ {A K V : Type 0} (alike : K → K → Bool) (keyed : A → Option (K ×
   members_in k [] = refl
   members_in k (x ∷ xs) = ap (cons_option (member_of alike k (keyed x))) (members_in k xs) ∙ first_member k (keyed x) (filter_map keyed xs)
 
-  grouped_pairs : (xs : List A) → grouped alike (λ x. option_map (λ p. p.0) (keyed x)) (λ k x. member_of alike k (keyed x)) xs ≡ groups alike (filter_map keyed xs)
+  grouped_pairs : (xs : List A) → grouped alike (λ x. option_map (λ p. p.0) (keyed x))
+      (λ k x. member_of alike k (keyed x)) xs ≡ groups alike (filter_map keyed xs)
   grouped_pairs xs = λ i. map (λ k. (k, members_in k xs i)) (firsts alike (keys_of xs i))
 
   pairs_more : IsEquivalence alike → (o : Option (K × V)) (ps : List (K × V)) → groups alike (ps ++ cons_option o []) ≡ and_member_if alike o (groups alike ps)
@@ -156,7 +158,8 @@ module _ {A K V : Type 0} (alike : K → K → Bool) (keyed : A → Option (K ×
       → ((x : A) → key_in x ≡ option_map (λ p. p.0) (keyed x)) → ((k : K) (x : A) → member_in k x ≡ member_of alike k (keyed x))
       → (xs : List A) (x : A) → grouped alike key_in member_in (xs ++ x ∷ []) ≡ and_member_if alike (keyed x) (grouped alike key_in member_in xs)
   grouped_more key_in member_in laws key_is member_is xs x =
-      as_pairs key_in member_in key_is member_is (xs ++ x ∷ []) ∙ ap (groups alike) (filter_map_more keyed xs x) ∙ pairs_more laws (keyed x) (filter_map keyed xs)
+      as_pairs key_in member_in key_is member_is (xs ++ x ∷ []) ∙ ap (groups alike) (filter_map_more keyed xs x)
+      ∙ pairs_more laws (keyed x) (filter_map keyed xs)
       ∙ sym (ap (and_member_if alike (keyed x)) (as_pairs key_in member_in key_is member_is xs))
 
 -- ---- none is empty

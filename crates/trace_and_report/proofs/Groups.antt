@@ -39,7 +39,8 @@ module _ {K V : Type 0} (alike : K → K → Bool) (k : K) (v : V) where
   unfolding groups_in
   written old made left was none before after same put found empty is more =
       ap (λ (m : IndexMap K (Vec V Global) _). lists m.entries) same ∙ ap lists put
-      ∙ inserted old.entries after (more ∙ ap (λ (w : Vec V Global). w.items ++ v ∷ []) is ∙ ap (λ vs. vs ++ v ∷ []) (or_none was none empty ∙ ap members_at found))
+      ∙ inserted old.entries after (more ∙ ap (λ (w : Vec V Global). w.items ++ v ∷ []) is
+      ∙ ap (λ vs. vs ++ v ∷ []) (or_none was none empty ∙ ap members_at found))
 
 pub empty_list : {A : Type 0} (xs : List A) → length xs ≡ 0 → xs ≡ []
 empty_list [] none = refl
@@ -75,7 +76,8 @@ module _ {K V W : Type 0} (seen : List V → W) (alike : K → K → Bool) (k : 
   list_at None = []
   list_at (Some vs) = vs
 
-  seen_there : (b : Bool) (vs : List V) (o : Option (List V)) (p : Option W) → p ≡ option_map seen o → cond b (Some (seen vs)) p ≡ option_map seen (cond b (Some vs) o)
+  seen_there : (b : Bool) (vs : List V) (o : Option (List V)) (p : Option W) → p ≡ option_map seen o
+      → cond b (Some (seen vs)) p ≡ option_map seen (cond b (Some vs) o)
   seen_there true vs o p is = refl
   seen_there false vs o p is = is
 

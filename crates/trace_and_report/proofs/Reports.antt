@@ -9,9 +9,9 @@ use Rattle.script_tree.specs.Objects.{is_same}
 use Rattle.script_tree.specs.declared.operation.Object.{Object}
 use Rattle.script_tree.specs.declared.path.Path.{Path}
 use Rattle.wire.specs.Files.{file_spelling, record_spelling, records_spelling}
-use Rattle.report.specs.declared.Count.{Count}
-use Rattle.report.specs.declared.Log.{Log}
-use Rattle.report.specs.declared.LogEntry.{LogEntry}
+use Rattle.period.specs.declared.report.Count.{Count}
+use Rattle.period.specs.declared.report.Log.{Log}
+use Rattle.period.specs.declared.report.LogEntry.{LogEntry}
 use Rattle.report_format.specs.Parts.{AllAllowed}
 use Rattle.report_format.specs.Reports.{any_record_field, count_field, entry_field, group_field, log_field, records_of, report_format, IsRecord, IsSpellable}
 use Rattle.report_format.specs.declared.format.ReportRecord.{ReportRecord}
@@ -37,25 +37,30 @@ AllAllowed-append (x ∷ xs) ys p q = (p.0, AllAllowed-append xs ys p.1 q)
 pub none_added : (bytes : List ℕ) → AreAdded [] bytes bytes
 none_added bytes = record { behind = sym (append-nil bytes); allowed = tt }
 
-pub one_added : (rs : List ReportRecord) (r : ReportRecord) (old mid new : List ℕ) → AreAdded rs old mid → new ≡ mid ++ record_spelling report_format r → IsRecord r → AreAdded (rs ++ r ∷ []) old new
+pub one_added : (rs : List ReportRecord) (r : ReportRecord) (old mid new : List ℕ) → AreAdded rs old mid
+    → new ≡ mid ++ record_spelling report_format r → IsRecord r → AreAdded (rs ++ r ∷ []) old new
 one_added rs r old mid new added is allowed = record {
   behind =
-      is ∙ ap (λ bs. bs ++ record_spelling report_format r) added.behind ∙ append_assoc old (records_spelling report_format rs) (record_spelling report_format r)
+      is ∙ ap (λ bs. bs ++ record_spelling report_format r) added.behind
+      ∙ append_assoc old (records_spelling report_format rs) (record_spelling report_format r)
       ∙ ap (λ bs. old ++ (records_spelling report_format rs ++ bs)) (sym (append-nil (record_spelling report_format r)))
       ∙ ap (λ bs. old ++ bs) (sym (records_append report_format rs (r ∷ [])));
   allowed = AllAllowed-append rs (r ∷ []) added.allowed (allowed, tt);
 }
 
-pub counts_more : (operations : List (Option ℕ)) (arrived : List ℕ) (i n : ℕ) (old mid new : List ℕ) → AreAdded (count_records operations (take i arrived)) old mid
+pub counts_more : (operations : List (Option ℕ)) (arrived : List ℕ) (i n : ℕ) (old mid new : List ℕ)
+    → AreAdded (count_records operations (take i arrived)) old mid
     → i < length arrived → n ≡ counted operations (get_or arrived i 0) → IsWideCount (record { rid = get_or arrived i 0; operations = n })
-    → new ≡ mid ++ record_spelling report_format (it.Count (record { rid = get_or arrived i 0; operations = n })) → AreAdded (count_records operations (take (i + 1) arrived)) old new
+    → new ≡ mid ++ record_spelling report_format (it.Count (record { rid = get_or arrived i 0; operations = n }))
+    → AreAdded (count_records operations (take (i + 1) arrived)) old new
 counts_more operations arrived i n old mid new added inside is wide more =
     let rid : ℕ = get_or arrived i 0 in
     let count : Count = record { rid = rid; operations = n } in
     let next : take (i + 1) arrived ≡ take i arrived ++ rid ∷ [] = ap (λ k. take k arrived) (add-one i) ∙ take-suc arrived i 0 inside in
     let so : it.Count count ≡ it.Count (count_at operations rid) = ap (λ k. it.Count (record { rid = rid; operations = k })) is in
     let all : count_records operations (take i arrived) ++ it.Count count ∷ [] ≡ count_records operations (take (i + 1) arrived)
-    = ap (λ r. count_records operations (take i arrived) ++ r ∷ []) so ∙ sym (map-append _ (take i arrived) (rid ∷ [])) ∙ sym (ap (count_records operations) next) in
+    = ap (λ r. count_records operations (take i arrived) ++ r ∷ []) so
+    ∙ sym (map-append _ (take i arrived) (rid ∷ [])) ∙ sym (ap (count_records operations) next) in
     subst (λ rs. AreAdded rs old new) all (one_added (count_records operations (take i arrived)) (it.Count count) old mid new added more wide)
 
 -- ---- what is allowed of the records of a kind
@@ -89,7 +94,8 @@ counts_are : (names : List Named) (draft : Draft) → IsOfNames names draft
     → count_records draft.operations.items draft.arrived.items ≡ map it.Count (report_in names).counts
 counts_are names draft of =
     sym (mapped it.Count (count_at draft.operations.items) draft.arrived.items)
-    ∙ ap (λ rs. map it.Count (map (count_at draft.operations.items) rs)) of.arrived ∙ ap (map it.Count) (counts_so names names draft.operations.items of.operations)
+    ∙ ap (λ rs. map it.Count (map (count_at draft.operations.items) rs)) of.arrived
+    ∙ ap (map it.Count) (counts_so names names draft.operations.items of.operations)
 
 abbrev pub logs_of : List Named → List (Object × List LogEntry)
 logs_of names = grouped is_same object_in entry_in names
@@ -153,8 +159,13 @@ whole names draft first counts logs groups of is added_counts added_logs added_g
     let g : AreAdded gs logs groups = subst (λ rs. AreAdded rs logs groups) (groups_are names draft of) added_groups in
     record {
       file =
-          g.behind ∙ ap (λ bs. bs ++ records_spelling report_format gs) (l.behind ∙ ap (λ bs. bs ++ records_spelling report_format ls) (c.behind ∙ ap (λ bs. bs ++ records_spelling report_format cs) is))
-          ∙ sym (file_append report_format (cs ++ ls) gs ∙ ap (λ bs. bs ++ records_spelling report_format gs) (file_append report_format cs ls ∙ ap (λ bs. bs ++ records_spelling report_format ls) (file_append report_format [] cs)))
+          g.behind ∙ ap (λ bs. bs ++ records_spelling report_format gs)
+          (l.behind ∙ ap (λ bs. bs ++ records_spelling report_format ls)
+          (c.behind ∙ ap (λ bs. bs ++ records_spelling report_format cs) is))
+          ∙ sym (file_append report_format (cs ++ ls) gs
+          ∙ ap (λ bs. bs ++ records_spelling report_format gs)
+          (file_append report_format cs ls ∙ ap (λ bs. bs ++ records_spelling report_format ls)
+          (file_append report_format [] cs)))
           ∙ ap (file_spelling report_format) (append_assoc cs ls gs);
       spellable = record {
         counts = counts_allowed (report_in names).counts c.allowed;

@@ -6,7 +6,7 @@ use Rattle.history.specs.Names.{names}
 use Rattle.history.specs.TraceOf.{trace_in}
 use Rattle.history.specs.declared.happening.Happening.{Happening}
 use Rattle.history.specs.declared.happening.Happening.TheVariants.{Arrive, Act, Depart}
-use Rattle.script_tree.specs.declared.trace.TraceEvent.TheVariants.{Asked, Answered}
+use Rattle.period.specs.declared.trace.TraceEvent.TheVariants.{Asked, Answered}
 use Rattle.trace_format.specs.Events.{request_count}
 use Rattle.trace_and_report.specs.Draft.{arrival_in}
 use Rattle.trace_and_report.proofs.TraceFollows.{count_split}

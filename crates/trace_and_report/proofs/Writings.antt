@@ -4,7 +4,7 @@ use Rattle.std.proofs.lemmas.List.{map-append}
 use Rattle.script_tree.specs.declared.operation.Object.{Object}
 use Rattle.script_tree.specs.declared.path.Path.{Path}
 use Rattle.wire.specs.Files.{record_spelling}
-use Rattle.report.specs.declared.LogEntry.{LogEntry}
+use Rattle.period.specs.declared.report.LogEntry.{LogEntry}
 use Rattle.report_format.specs.Operations.{IsObject}
 use Rattle.report_format.specs.Reports.{report_format}
 use Rattle.report_format.specs.Spelled.{Spelled, spelled, log_with}
@@ -25,7 +25,8 @@ pub record AreUnderWay (gs : List (Object × List LogEntry)) (left : List (Objec
   pub may : Each HasSpellings others
   pub added : AreAdded (map log_record done) old new
 
-pub begin : (gs : List (Object × List LogEntry)) (left all : List (Object × Spelled)) (bytes : List ℕ) → left ≡ all → all ≡ map spelled_log gs → Each HasSpellings gs
+pub begin : (gs : List (Object × List LogEntry)) (left all : List (Object × Spelled)) (bytes : List ℕ) → left ≡ all
+    → all ≡ map spelled_log gs → Each HasSpellings gs
     → AreUnderWay gs left bytes bytes
 begin gs left all bytes same are may = record { done = []; others = gs; all = refl; are = same ∙ are; may = may; added = none_added bytes }
 
@@ -69,7 +70,8 @@ no_others : (hs : List (Object × List LogEntry)) → map spelled_log hs ≡ [] 
 no_others [] e = refl
 no_others (h ∷ hs) e = absurd (cc)
 
-pub ends : (gs : List (Object × List LogEntry)) (left : List (Object × Spelled)) (old new : List ℕ) → AreUnderWay gs left old new → left ≡ [] → AreAdded (map log_record gs) old new
+pub ends : (gs : List (Object × List LogEntry)) (left : List (Object × Spelled)) (old new : List ℕ)
+    → AreUnderWay gs left old new → left ≡ [] → AreAdded (map log_record gs) old new
 ends gs left old new under none = subst (λ hs. AreAdded (map log_record hs) old new) (sym (under.all ∙ ap (λ hs. under.done ++ hs) (no_others under.others (sym under.are ∙ none)) ∙ append-nil under.done)) under.added
 
 -- ---- groups
@@ -84,7 +86,8 @@ pub record AreGroupsUnderWay (all left : List (Path × List ℕ)) (old new : Lis
 pub groups_begin : (all left : List (Path × List ℕ)) (bytes : List ℕ) → left ≡ all → HaveMembers all → AreGroupsUnderWay all left bytes bytes
 groups_begin all left bytes is have = record { done = []; whole = sym is; have = subst HaveMembers (sym is) have; added = none_added bytes }
 
-pub group_goes_on : (all left : List (Path × List ℕ)) (path : Path) (rids group : List ℕ) (old mid new : List ℕ) → AreGroupsUnderWay all ((path, rids) ∷ left) old mid
+pub group_goes_on : (all left : List (Path × List ℕ)) (path : Path) (rids group : List ℕ) (old mid new : List ℕ)
+    → AreGroupsUnderWay all ((path, rids) ∷ left) old mid
     → group ≡ rids → IsWideGroup group → new ≡ mid ++ record_spelling report_format (it.Group group) → AreGroupsUnderWay all left old new
 group_goes_on all left path rids group old mid new under is wide more = record {
   done = under.done ++ (path, group) ∷ [];

@@ -6,12 +6,12 @@ use Rattle.script_tree.specs.Requests.{IsRequestWithinLimits}
 use Rattle.script_tree.specs.declared.operation.Choice.{Choice}
 use Rattle.script_tree.specs.declared.operation.Object.{Object}
 use Rattle.script_tree.specs.declared.operation.Op.{Op}
-use Rattle.script_tree.specs.declared.trace.TraceEvent.{TraceEvent}
-use Rattle.script_tree.specs.declared.trace.TraceEvent.TheVariants.{Asked, Answered}
+use Rattle.period.specs.declared.trace.TraceEvent.{TraceEvent}
+use Rattle.period.specs.declared.trace.TraceEvent.TheVariants.{Asked, Answered}
 use Rattle.wire.specs.Files.{file_spelling}
 use Rattle.trace_format.specs.Events.{trace_format, IsResponse}
-use Rattle.report.specs.declared.Count.{Count}
-use Rattle.report.specs.declared.LogEntry.{LogEntry}
+use Rattle.period.specs.declared.report.Count.{Count}
+use Rattle.period.specs.declared.report.LogEntry.{LogEntry}
 use Rattle.report_format.specs.Reports.{entry_field}
 use Rattle.report_format.specs.Spelled.{Spelled, spelled}
 use Rattle.history.specs.Names.{Named, came, did, went}
@@ -37,9 +37,11 @@ counted operations r = unwrap_or (at_seat operations r) 0
 abbrev pub one_more_of : ℕ → (ℕ → ℕ) → ℕ → ℕ
 one_more_of rid operations r = if nat_eq r rid then operations r + 1 else operations r
 
+-- the count of a request, of a list by id
 abbrev pub count_at : List (Option ℕ) → ℕ → Count
 count_at operations r = record { rid = r; operations = counted operations r }
 
+-- the entry of an operation in the log of its object
 abbrev pub entry_of : ℕ → ℕ → Op → Choice → LogEntry
 entry_of r k op choice = record { rid = r; number = k; act = op.act; choice = choice }
 

@@ -31,9 +31,11 @@ pub record IsReportFile (history : List Happening) (bytes : List ℕ) : Type 0 w
 abbrev pub IsTooLong : {A : Type 0} → Format A → List A → Type 0
 IsTooLong format items = MOST_FILE_BYTES < length (file_spelling format items)
 
+-- the file of the trace of this history would be longer than a file may be
 abbrev pub TraceIsTooLong : List Happening → Type 0
 TraceIsTooLong history = IsTooLong trace_format (trace_of history)
 
+-- the file of its report would be longer than a file may be
 abbrev pub ReportIsTooLong : List Happening → Type 0
 ReportIsTooLong history = IsTooLong report_format (records_of (report_of history))
 

@@ -8,9 +8,9 @@ use Rattle.script_tree.specs.declared.transaction.Change.{Change}
 use Rattle.script_tree.specs.declared.transaction.Statement.{Statement}
 use Rattle.script_tree.specs.declared.transaction.Statement.TheVariants.{Insert, Select, Update, Delete, Expect}
 use Rattle.wire.specs.Spellings.{integer_field, bytes_field, HasWideNumbers, HaveWideNumbers, IsWideChoice}
-use Rattle.report.specs.Groups.{IsSome}
-use Rattle.report.specs.declared.Count.{Count}
-use Rattle.report.specs.declared.LogEntry.{LogEntry}
+use Rattle.period.specs.Groups.{IsSome}
+use Rattle.period.specs.declared.report.Count.{Count}
+use Rattle.period.specs.declared.report.LogEntry.{LogEntry}
 use Rattle.report_format.specs.Operations.{u32_field}
 
 -- each of them is so
@@ -28,9 +28,11 @@ IsWide n = u32_field.allows n
 
 -- ---- transactions
 
+-- a test whose column and value are so
 abbrev pub IsWideTest : Test → Type 0
 IsWideTest t = IsWide t.column × HasWideNumbers t.value
 
+-- a change whose column and value are so
 abbrev pub IsWideChange : Change → Type 0
 IsWideChange c = IsWide c.column × HasWideNumbers c.value
 
@@ -38,6 +40,7 @@ IsWideChange c = IsWide c.column × HasWideNumbers c.value
 abbrev pub IsWideRow : List Datum → Type 0
 IsWideRow row = (length row < 2 ^ 32) × HaveWideNumbers (data_of row)
 
+-- a table statement whose numbers and lists are so
 abbrev pub IsWideStatement : Statement → Type 0
 IsWideStatement (Insert table row) = IsWide table × IsWideRow row
 IsWideStatement (Select table columns tests) = IsWide table × EachCounted IsWide columns × EachCounted IsWideTest tests
@@ -47,6 +50,7 @@ IsWideStatement (Expect count table tests) = integer_field.allows count × IsWid
 
 -- ---- operations
 
+-- an act whose keys, values and statements are so
 abbrev pub IsWideAct : Act → Type 0
 IsWideAct Read = Unit {0}
 IsWideAct (Write value) = HasWideNumbers value
@@ -59,11 +63,14 @@ IsWideAct (Roll bound) = integer_field.allows bound
 
 -- ---- reports
 
+-- a count whose numbers are so
 abbrev pub IsWideCount : Count → Type 0
 IsWideCount c = IsWide c.rid × IsWide c.operations
 
+-- an entry whose numbers, act and choice are so
 abbrev pub IsWideEntry : LogEntry → Type 0
 IsWideEntry e = IsWide e.rid × IsWide e.number × IsWideAct e.act × IsWideChoice e.choice
 
+-- a group with a member, and members that are so
 abbrev pub IsWideGroup : List ℕ → Type 0
 IsWideGroup rids = IsSome rids × EachCounted IsWide rids

@@ -5,7 +5,7 @@ use Rattle.script_tree.specs.declared.path.Path.{Path}
 use Rattle.wire.specs.Files.{file_spelling, record_spelling, records_spelling}
 use Rattle.wire.specs.declared.limits.TheConstants.{MOST_FILE_BYTES}
 use Rattle.trace_format.specs.Events.{trace_format}
-use Rattle.report.specs.declared.LogEntry.{LogEntry}
+use Rattle.period.specs.declared.report.LogEntry.{LogEntry}
 use Rattle.report_format.specs.Operations.{IsObject}
 use Rattle.report_format.specs.Parts.{AllAllowed}
 use Rattle.report_format.specs.Reports.{any_record_field, entry_field, records_of, report_format, IsSpellable}
@@ -36,9 +36,11 @@ pub record IsLogWritten (object : Object) (entries : Spelled) (old new : List �
 abbrev pub count_records : List (Option ℕ) → List ℕ → List ReportRecord
 count_records operations rids = map (λ r. it.Count (count_at operations r)) rids
 
+-- the record of the log of an object
 abbrev pub log_record : Object × List LogEntry → ReportRecord
 log_record g = it.Log (log_with g.0 g.1)
 
+-- the record of a group
 abbrev pub group_record : Path × List ℕ → ReportRecord
 group_record g = it.Group g.1
 

@@ -17,7 +17,7 @@ use crate::recorded::Recorded;
 use crate::widths::Wide;
 use crate::writing::{write_counts, write_groups, write_logs};
 use history::Happening;
-use report::LogEntry;
+use period::report::LogEntry;
 use report_format::appending::begin as begin_report;
 use script_tree::operation::{Choice, Op};
 use script_tree::path::Path;

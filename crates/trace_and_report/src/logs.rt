@@ -1,13 +1,13 @@
 ghost use Rattle.std.specs.Prelude.{◌≡◌, [], List, map, OnOk};
 ghost use Rattle.script_tree.specs.Objects.{is_same};
 ghost use Rattle.script_tree.specs.declared.operation.Object.{Object as Used};
-ghost use Rattle.report.specs.declared.LogEntry.{LogEntry as Entry};
+ghost use Rattle.period.specs.declared.report.LogEntry.{LogEntry as Entry};
 ghost use Rattle.report_format.specs.Reports.{entry_field};
 ghost use Rattle.trace_and_report.specs.Draft.{spelled_log};
 ghost use Rattle.trace_and_report.specs.Grouped.{and_member, entries_in};
 
 use indexmap::IndexMap;
-use report::LogEntry;
+use period::report::LogEntry;
 use report_format::appending::SpelledEntries;
 use script_tree::operation::Object;
 use std::alloc::{AllocError, Global};

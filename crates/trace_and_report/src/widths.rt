@@ -6,7 +6,8 @@ ghost use Rattle.script_tree.specs.ValueView.{datum_of};
 ghost use Rattle.wire.specs.Spellings.{HasWideNumbers, HaveWideNumbers};
 ghost use Rattle.trace_and_report.specs.Widths.{Each, EachCounted};
 
-use report::{Count, Group, LogEntry};
+use period::group::Group;
+use period::report::{Count, LogEntry};
 use script_tree::operation::{Act, Choice, Object};
 use script_tree::request::Response;
 use script_tree::transaction::{Change, Statement, Test};

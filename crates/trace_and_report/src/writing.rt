@@ -1,7 +1,7 @@
 //! The records of a report, one behind the other.
 ghost use Rattle.std.specs.Prelude.{◌≡◌, List, map, OnOk};
 ghost use Rattle.script_tree.specs.declared.operation.Object.{Object as Used};
-ghost use Rattle.report.specs.declared.LogEntry.{LogEntry as Entry};
+ghost use Rattle.period.specs.declared.report.LogEntry.{LogEntry as Entry};
 ghost use Rattle.trace_and_report.specs.Draft.{spelled_log};
 ghost use Rattle.trace_and_report.specs.Grouped.{entries_in, groups_in, HaveMembers};
 ghost use Rattle.trace_and_report.specs.Widths.{Each};
@@ -12,7 +12,8 @@ use crate::counts::counted;
 use crate::grouped::Grouped;
 use crate::logs::Logs;
 use crate::widths::Wide;
-use report::{Count, Group};
+use period::group::Group;
+use period::report::Count;
 use report_format::appending::{SpelledEntries, add_count, add_group, add_log};
 use script_tree::operation::Object;
 use script_tree::path::Path;

@@ -6,8 +6,8 @@ use Rattle.basis.specs.declared.or_memory.OrMemory.{OrMemory}
 use Rattle.wire.specs.declared.fault.Unreadable.{Unreadable}
 use Rattle.script_tree.specs.Requests.{Request}
 use Rattle.script_tree.specs.declared.request.Response.{Response}
-use Rattle.script_tree.specs.declared.trace.TraceEvent.{TraceEvent}
-use Rattle.script_tree.specs.declared.trace.TraceEvent.TheVariants.{Asked, Answered}
+use Rattle.period.specs.declared.trace.TraceEvent.{TraceEvent}
+use Rattle.period.specs.declared.trace.TraceEvent.TheVariants.{Asked, Answered}
 use Rattle.wire.specs.Spellings.{Field, IsSpelled, IsFieldAt, NoneIsAt, HasOneSpelling, TakesPart, byte_field, number_field}
 use Rattle.wire.specs.Files.{TakesPayload, SpellsNone, IsExact}
 use Rattle.wire.proofs.Spelled.{first_part, second_part, same_field}
@@ -51,11 +51,15 @@ unfolding tag_of id_of
 head_allowed asked (Asked rid q) p = (omega arith, p.0)
 head_allowed asked (Answered rid x) p = (omega arith, p.0)
 
-head_there : (asked : ℕ) (bytes : List ℕ) (at : ℕ) (e : TraceEvent) (next : ℕ) → IsFieldAt (event_field asked) bytes at e next → IsSpelled bytes at (head_field.spelling (head_of e) ++ rest_of e) next
+head_there : (asked : ℕ) (bytes : List ℕ) (at : ℕ) (e : TraceEvent) (next : ℕ)
+    → IsFieldAt (event_field asked) bytes at e next
+    → IsSpelled bytes at (head_field.spelling (head_of e) ++ rest_of e) next
 head_there asked bytes at e next p = let Here : List ℕ → Type 0 = λ s. IsSpelled bytes at s next in subst Here (by_head e) p.1
 
 -- the tag and the id are the event's
-pub head_is : (asked : ℕ) (bytes : List ℕ) (at tag mid rid place : ℕ) (e : TraceEvent) (next : ℕ) → IsFieldAt byte_field bytes at tag mid → IsFieldAt (number_field w32) bytes mid rid place → IsFieldAt (event_field asked) bytes at e next → (tag ≡ tag_of e) × (rid ≡ id_of e)
+pub head_is : (asked : ℕ) (bytes : List ℕ) (at tag mid rid place : ℕ) (e : TraceEvent) (next : ℕ)
+    → IsFieldAt byte_field bytes at tag mid → IsFieldAt (number_field w32) bytes mid rid place
+    → IsFieldAt (event_field asked) bytes at e next → (tag ≡ tag_of e) × (rid ≡ id_of e)
 head_is asked bytes at tag mid rid place e next first second p =
     let there = head_there asked bytes at e next p in
     let ends : ℕ = at + length (head_field.spelling (head_of e)) in
@@ -65,7 +69,9 @@ head_is asked bytes at tag mid rid place e next first second p =
     (ap (λ (h : ℕ × ℕ). h.0) same.0, ap (λ (h : ℕ × ℕ). h.1) same.0)
 
 -- what is left of the event that begins with a tag and an id
-behind_head : (asked : ℕ) (bytes : List ℕ) (at tag mid rid place : ℕ) (e : TraceEvent) (next : ℕ) → IsFieldAt byte_field bytes at tag mid → IsFieldAt (number_field w32) bytes mid rid place → IsFieldAt (event_field asked) bytes at e next → (tag ≡ tag_of e) × IsSpelled bytes place (rest_of e) next
+behind_head : (asked : ℕ) (bytes : List ℕ) (at tag mid rid place : ℕ) (e : TraceEvent) (next : ℕ)
+    → IsFieldAt byte_field bytes at tag mid → IsFieldAt (number_field w32) bytes mid rid place
+    → IsFieldAt (event_field asked) bytes at e next → (tag ≡ tag_of e) × IsSpelled bytes place (rest_of e) next
 behind_head asked bytes at tag mid rid place e next first second p =
     let there = head_there asked bytes at e next p in
     let ends : ℕ = at + length (head_field.spelling (head_of e)) in
@@ -79,15 +85,22 @@ behind_head asked bytes at tag mid rid place e next first second p =
 
 no_head : (asked : ℕ) (bytes : List ℕ) (at : ℕ) → NoneIsAt head_field bytes at → NoneIsAt (event_field asked) bytes at
 no_head asked bytes at none e next p =
-    none (head_of e) (at + length (head_field.spelling (head_of e))) (head_allowed asked e p.0, first_part bytes (head_field.spelling (head_of e)) (rest_of e) at next (head_there asked bytes at e next p))
+    none (head_of e) (at + length (head_field.spelling (head_of e))) (
+      head_allowed asked e p.0,
+      first_part bytes (head_field.spelling (head_of e)) (rest_of e) at next
+          (head_there asked bytes at e next p),
+    )
 
 pub no_tag : (asked : ℕ) (bytes : List ℕ) (at : ℕ) → NoneIsAt byte_field bytes at → NoneIsAt (event_field asked) bytes at
 no_tag asked bytes at none = no_head asked bytes at (no_first byte_field (λ tag. number_field w32) bytes at none)
 
-pub no_id : (asked : ℕ) (bytes : List ℕ) (at tag mid : ℕ) → IsFieldAt byte_field bytes at tag mid → NoneIsAt (number_field w32) bytes mid → NoneIsAt (event_field asked) bytes at
+pub no_id : (asked : ℕ) (bytes : List ℕ) (at tag mid : ℕ) → IsFieldAt byte_field bytes at tag mid
+    → NoneIsAt (number_field w32) bytes mid → NoneIsAt (event_field asked) bytes at
 no_id asked bytes at tag mid here none = no_head asked bytes at (no_second byte_field (λ t. number_field w32) byte_one bytes at tag mid here none)
 
-pub no_request : (asked : ℕ) (bytes : List ℕ) (at tag mid rid place : ℕ) → IsFieldAt byte_field bytes at tag mid → IsFieldAt (number_field w32) bytes mid rid place → tag ≡ 1 → NoneIsAt request_field bytes place → NoneIsAt (event_field asked) bytes at
+pub no_request : (asked : ℕ) (bytes : List ℕ) (at tag mid rid place : ℕ) → IsFieldAt byte_field bytes at tag mid
+    → IsFieldAt (number_field w32) bytes mid rid place → tag ≡ 1 → NoneIsAt request_field bytes place
+    → NoneIsAt (event_field asked) bytes at
 unfolding tag_of rest_of
 no_request asked bytes at tag mid rid place first second is none e next p = go e p.0 (behind_head asked bytes at tag mid rid place e next first second p)
   where
@@ -95,7 +108,9 @@ no_request asked bytes at tag mid rid place first second is none e next p = go e
     go (Asked i q) allowed h = none q next (allowed.1.0, h.1)
     go (Answered i x) allowed h = omega (arith, h.0)
 
-pub no_response : (asked : ℕ) (bytes : List ℕ) (at tag mid rid place : ℕ) → IsFieldAt byte_field bytes at tag mid → IsFieldAt (number_field w32) bytes mid rid place → tag ≡ 2 → NoneIsAt response_field bytes place → NoneIsAt (event_field asked) bytes at
+pub no_response : (asked : ℕ) (bytes : List ℕ) (at tag mid rid place : ℕ) → IsFieldAt byte_field bytes at tag mid
+    → IsFieldAt (number_field w32) bytes mid rid place → tag ≡ 2 → NoneIsAt response_field bytes place
+    → NoneIsAt (event_field asked) bytes at
 unfolding tag_of rest_of
 no_response asked bytes at tag mid rid place first second is none e next p = go e p.0 (behind_head asked bytes at tag mid rid place e next first second p)
   where
@@ -120,12 +135,17 @@ event_one asked (Answered i x) (Asked j p) r s a b e = absurd (cc)
 -- ---- payloads
 
 -- behind events with so many requests, no payload is one of an event where none begins, or ends, as the payload does
-pub no_event : (before : List TraceEvent) (asked : ℕ) (payload : List ℕ) (fault : OrMemory Unreadable) (r : Result TraceEvent (OrMemory Unreadable)) → asked ≡ request_count before → TakesPart {A = TraceEvent} {X = TraceEvent} (λ x. x) (event_field asked) payload 0 (Err fault) → IsErrAnd r (λ e. e ≡ fault) → TakesPayload trace_format before payload r
+pub no_event : (before : List TraceEvent) (asked : ℕ) (payload : List ℕ) (fault : OrMemory Unreadable)
+    (r : Result TraceEvent (OrMemory Unreadable)) → asked ≡ request_count before
+    → TakesPart {A = TraceEvent} {X = TraceEvent} (λ x. x) (event_field asked) payload 0 (Err fault)
+    → IsErrAnd r (λ e. e ≡ fault) → TakesPayload trace_format before payload r
 no_event before asked payload fault r kept missed is =
     let Missed : ℕ → Type 0 = λ n. TakesPart {A = TraceEvent} {X = TraceEvent} (λ x. x) (event_field n) payload 0 (Err fault) in
     no_payload trace_format before payload fault r (subst Missed kept missed) is
 
-pub not_whole_event : (before : List TraceEvent) (asked : ℕ) (payload : List ℕ) (e : TraceEvent) (next : ℕ) → asked ≡ request_count before → IsFieldAt (event_field asked) payload 0 e next → next ≢ length payload → SpellsNone trace_format before payload
+pub not_whole_event : (before : List TraceEvent) (asked : ℕ) (payload : List ℕ) (e : TraceEvent) (next : ℕ)
+    → asked ≡ request_count before → IsFieldAt (event_field asked) payload 0 e next → next ≢ length payload
+    → SpellsNone trace_format before payload
 not_whole_event before asked payload e next kept here more =
     let Here : ℕ → Type 0 = λ n. IsFieldAt (event_field n) payload 0 e next in
     not_whole (event_field (request_count before)) (event_one (request_count before)) payload e next (subst Here kept here) more

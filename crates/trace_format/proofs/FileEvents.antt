@@ -7,9 +7,9 @@ use Rattle.std.specs.Coded.{Coded-set, coded_option}
 use Rattle.std.specs.Int.{w32}
 use Rattle.basis.specs.Lists.{nth}
 use Rattle.basis.proofs.Options.{some_is, none_is_not}
-use Rattle.script_tree.specs.declared.trace.TraceEvent.{TraceEvent}
-use Rattle.script_tree.specs.declared.trace.TraceEvent.TheVariants.{Asked, Answered}
-use Rattle.script_tree.specs.contracts.trace.TraceEvent as item
+use Rattle.period.specs.declared.trace.TraceEvent.{TraceEvent}
+use Rattle.period.specs.declared.trace.TraceEvent.TheVariants.{Asked, Answered}
+use Rattle.period.specs.contracts.trace.TraceEvent as item
 use Rattle.wire.specs.Files.{MayFollow, Spells}
 use Rattle.wire.specs.Recorded.{SpellsPayloads}
 use Rattle.wire.specs.Spellings.{IsFieldAt, NoneIsAt, byte_field, number_field}
@@ -69,7 +69,8 @@ are_spelled bytes ps s =
 -- the file spells them
 pub read_events : (bytes : List ℕ) (ps : List (List ℕ)) → SpellsPayloads trace_format bytes ps → (s : Spelled ps) → Spells trace_format bytes s.0
 unfolding are_spelled
-read_events bytes ps payloads s = subst (Spells trace_format bytes) (ap (λ (t : Spelled ps). t.0) (spelled_once ps (are_spelled bytes ps payloads) s)) payloads.spelled
+read_events bytes ps payloads s = subst (Spells trace_format bytes)
+    (ap (λ (t : Spelled ps). t.0) (spelled_once ps (are_spelled bytes ps payloads) s)) payloads.spelled
 
 -- ---- the event of a payload
 
@@ -105,7 +106,8 @@ answers (Asked r q) tag rid t i other = absurd (other t)
 answers (Answered r x) tag rid t i other = ap (λ n. Answers n) i
 
 -- what has a tag and an id at the start of its payload is the head of the event there
-pub has_head : (ps : List (List ℕ)) (s : Spelled ps) (now : List TraceEvent) (i : ℕ) (p : List ℕ) (head : EventHead) (tag mid rid next : ℕ) → s.0 ≡ now → nth ps i ≡ Some p
+pub has_head : (ps : List (List ℕ)) (s : Spelled ps) (now : List TraceEvent) (i : ℕ) (p : List ℕ) (head : EventHead)
+    (tag mid rid next : ℕ) → s.0 ≡ now → nth ps i ≡ Some p
     → IsFieldAt byte_field p 0 tag mid → IsFieldAt (number_field w32) p mid rid next
     → ((e : TraceEvent) → tag ≡ tag_of e → rid ≡ id_of e → head ≡ head_of e) → HasHead now i head
 has_head ps s now i p head tag mid rid next view here first second is e at =

@@ -3,8 +3,8 @@ use Rattle.std.proofs.Common.{◌≡◌, ◌≢◌, ◌∙◌, ◌<◌, ◌+◌,
 use Rattle.std.proofs.lemmas.Bool.{cases_eq}
 use Rattle.basis.specs.Lists.{nth}
 use Rattle.script_tree.specs.Requests.{Request}
-use Rattle.script_tree.specs.declared.trace.TraceEvent.{TraceEvent}
-use Rattle.script_tree.specs.declared.trace.TraceEvent.TheVariants.{Asked, Answered}
+use Rattle.period.specs.declared.trace.TraceEvent.{TraceEvent}
+use Rattle.period.specs.declared.trace.TraceEvent.TheVariants.{Asked, Answered}
 use Rattle.trace_format.specs.Heads.{head_of, HasHead}
 use Rattle.trace_format.specs.Stages.{head_id, is_open, asks_open, NoneOpen, IsFirstOpen}
 use Rattle.trace_format.specs.declared.balance.Stage.{Stage}
@@ -23,11 +23,13 @@ open_is (Some Open) e = refl
 open_is (Some Closed) e = absurd (true≢false (sym e))
 
 -- a request of an open id
-pub asked_open : (stage : ℕ → Option Stage) (e : TraceEvent) → asks_open stage (head_of e) ≡ true → (q : Request) × (e ≡ Asked (head_id (head_of e)) q) × (stage (head_id (head_of e)) ≡ Some Open)
+pub asked_open : (stage : ℕ → Option Stage) (e : TraceEvent) → asks_open stage (head_of e) ≡ true
+    → (q : Request) × (e ≡ Asked (head_id (head_of e)) q) × (stage (head_id (head_of e)) ≡ Some Open)
 asked_open stage (Asked r q) t = (q, refl, open_is (stage r) t)
 asked_open stage (Answered r x) t = absurd (true≢false (sym t))
 
-pub first_asked : (stage : ℕ → Option Stage) (trace : List TraceEvent) (place : ℕ) (head : EventHead) → place < length trace → HasHead trace place head → asks_open stage head ≡ true
+pub first_asked : (stage : ℕ → Option Stage) (trace : List TraceEvent) (place : ℕ) (head : EventHead)
+    → place < length trace → HasHead trace place head → asks_open stage head ≡ true
     → NoneOpen stage trace place → IsFirstOpen stage trace (Some (head_id head))
 first_asked stage trace place head lt has t so_far =
     let e = some_at trace place lt in

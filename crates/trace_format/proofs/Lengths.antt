@@ -20,4 +20,11 @@ few_parameters q ps e short =
     let s3 : List ℕ = to_be_bytes w32 (length q.parameters) ++ s4 in
     let s2 : List ℕ = bytes_spelling q.path ++ s3 in
     let same : length ps ≡ length q.parameters = ap length e in
-    omega (arith, parameters_len q.parameters, length-append (bytes_spelling q.method) s2, length-append (bytes_spelling q.path) s3, length-append (to_be_bytes w32 (length q.parameters)) s4, length-append (parameters_spelling q.parameters) (bytes_spelling q.body))
+    omega (
+      arith,
+      parameters_len q.parameters,
+      length-append (bytes_spelling q.method) s2,
+      length-append (bytes_spelling q.path) s3,
+      length-append (to_be_bytes w32 (length q.parameters)) s4,
+      length-append (parameters_spelling q.parameters) (bytes_spelling q.body),
+    )

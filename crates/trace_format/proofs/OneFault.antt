@@ -3,8 +3,8 @@ use Rattle.std.proofs.Common.{◌≡◌, ℕ, List, Some, None, ◌⊎◌, inl, 
 use Rattle.std.proofs.lemmas.Bool.{cases_order}
 use Rattle.basis.proofs.Options.{some_once}
 use Rattle.basis.specs.Lists.{nth}
-use Rattle.script_tree.specs.declared.trace.TraceEvent.{TraceEvent}
-use Rattle.script_tree.specs.declared.trace.TraceEvent.TheVariants.{Asked, Answered}
+use Rattle.period.specs.declared.trace.TraceEvent.{TraceEvent}
+use Rattle.period.specs.declared.trace.TraceEvent.TheVariants.{Asked, Answered}
 use Rattle.trace_format.specs.Balance.{IsFitting, IsAskedAgain, IsAnsweredInVain, IsFirstMisfit, IsFirstUnanswered, IsOneFault}
 use Rattle.trace_format.specs.Stages.{id_of}
 
@@ -13,7 +13,8 @@ misfit_apart trace n r fit (inl (q, is, before)) = fit.is_new r q is before
 misfit_apart trace n r fit (inr (x, is, inl never)) = never (fit.was_asked r x is)
 misfit_apart trace n r fit (inr (x, is, inr before)) = fit.is_open r x is before
 
-misfit_event : (trace : List TraceEvent) (n r : ℕ) → IsAskedAgain trace n r ⊎ IsAnsweredInVain trace n r → (e : TraceEvent) × (nth trace n ≡ Some e) × (id_of e ≡ r)
+misfit_event : (trace : List TraceEvent) (n r : ℕ) → IsAskedAgain trace n r ⊎ IsAnsweredInVain trace n r
+    → (e : TraceEvent) × (nth trace n ≡ Some e) × (id_of e ≡ r)
 misfit_event trace n r (inl (q, is, before)) = (Asked r q, is, refl)
 misfit_event trace n r (inr (x, is, why)) = (Answered r x, is, refl)
 

@@ -5,7 +5,7 @@ use Rattle.std.specs.Coded.{Coded-set, coded_ℕ, coded_bool, coded_list}
 use Rattle.script_tree.specs.Requests.{Request, is_request_within_limits, IsRequestWithinLimits}
 use Rattle.script_tree.specs.contracts.request.Request as request_type
 use Rattle.std.specs.Int.{w32, to_be_bytes}
-use Rattle.script_tree.specs.declared.trace.TraceEvent.TheVariants.{Asked}
+use Rattle.period.specs.declared.trace.TraceEvent.TheVariants.{Asked}
 use Rattle.wire.specs.Files.{record_spelling}
 use Rattle.wire.specs.Spellings.{IsFieldAt, NoneIsAt}
 use Rattle.wire.proofs.FileSteps.{start_there}

@@ -31,7 +31,8 @@ parameter_one x y r s p q e =
 pub no_name : (bytes : List ℕ) (at : ℕ) → NoneIsAt bytes_field bytes at → NoneIsAt parameter_field bytes at
 no_name bytes at none p next here = no_first bytes_field (λ name. bytes_field) bytes at none (p.name, p.value) next here
 
-pub no_value : (bytes : List ℕ) (at : ℕ) (name : List ℕ) (mid : ℕ) → IsFieldAt bytes_field bytes at name mid → NoneIsAt bytes_field bytes mid → NoneIsAt parameter_field bytes at
+pub no_value : (bytes : List ℕ) (at : ℕ) (name : List ℕ) (mid : ℕ) → IsFieldAt bytes_field bytes at name mid
+    → NoneIsAt bytes_field bytes mid → NoneIsAt parameter_field bytes at
 no_value bytes at name mid there none p next here = no_second bytes_field (λ n. bytes_field) bytes_one bytes at name mid there none (p.name, p.value) next here
 
 pub parameters_one : (count : ℕ) → HasOneSpelling (parameters_field count)
@@ -48,7 +49,9 @@ parameters_one count (x ∷ xs) (y ∷ ys) r s p q e =
 
 parameters_spelling-append : (xs ys : List Parameter) → parameters_spelling (xs ++ ys) ≡ parameters_spelling xs ++ parameters_spelling ys
 parameters_spelling-append [] ys = refl
-parameters_spelling-append (x ∷ xs) ys = ap (λ (s : List ℕ). parameter_spelling x ++ s) (parameters_spelling-append xs ys) ∙ sym (append_assoc (parameter_spelling x) (parameters_spelling xs) (parameters_spelling ys))
+parameters_spelling-append (x ∷ xs) ys = ap (λ (s : List ℕ). parameter_spelling x ++ s)
+    (parameters_spelling-append xs ys) ∙ sym
+    (append_assoc (parameter_spelling x) (parameters_spelling xs) (parameters_spelling ys))
 
 AreParameters-append : (xs ys : List Parameter) → AreParameters xs → AreParameters ys → AreParameters (xs ++ ys)
 AreParameters-append [] ys p q = q
@@ -59,7 +62,9 @@ AreParameters-parts [] ys p = (tt, p)
 AreParameters-parts (x ∷ xs) ys p = let rest = AreParameters-parts xs ys p.1 in ((p.0, rest.0), rest.1)
 
 -- one parameter more
-pub parameter_more : (count : ℕ) (bytes : List ℕ) (at : ℕ) (xs : List Parameter) (mid : ℕ) (x : Parameter) (next : ℕ) → IsFieldAt (parameters_field count) bytes at xs mid → IsFieldAt parameter_field bytes mid x next → IsFieldAt (parameters_field (count + 1)) bytes at (xs ++ x ∷ []) next
+pub parameter_more : (count : ℕ) (bytes : List ℕ) (at : ℕ) (xs : List Parameter) (mid : ℕ) (x : Parameter) (next : ℕ)
+    → IsFieldAt (parameters_field count) bytes at xs mid → IsFieldAt parameter_field bytes mid x next
+    → IsFieldAt (parameters_field (count + 1)) bytes at (xs ++ x ∷ []) next
 parameter_more count bytes at xs mid x next p q =
     let more : parameters_spelling (xs ++ x ∷ []) ≡ parameters_spelling xs ++ parameter_spelling x = parameters_spelling-append xs (x ∷ []) ∙ ap (λ (s : List ℕ). parameters_spelling xs ++ s) (append-nil (parameter_spelling x)) in
     let Here : List ℕ → Type 0 = λ s. IsSpelled bytes at s next in (
@@ -68,12 +73,16 @@ parameter_more count bytes at xs mid x next p q =
     )
 
 -- where a parameter is missed behind these, there are no more
-pub no_parameter : (count : ℕ) (bytes : List ℕ) (at : ℕ) (xs : List Parameter) (mid n : ℕ) → IsFieldAt (parameters_field n) bytes at xs mid → n < count → NoneIsAt parameter_field bytes mid → NoneIsAt (parameters_field count) bytes at
+pub no_parameter : (count : ℕ) (bytes : List ℕ) (at : ℕ) (xs : List Parameter) (mid n : ℕ)
+    → IsFieldAt (parameters_field n) bytes at xs mid → n < count → NoneIsAt parameter_field bytes mid
+    → NoneIsAt (parameters_field count) bytes at
 no_parameter count bytes at xs mid n here fewer none ps next p =
     let Whole : List Parameter → Type 0 = λ qs. AreParameters qs × IsSpelled bytes at (parameters_spelling qs) next in
-    go (take n ps) (drop n ps) (omega (arith, length-take n ps, p.0.0)) (omega (arith, length-drop n ps, p.0.0)) (subst Whole (sym (take-append-drop n ps)) (p.0.1, p.1))
+    go (take n ps) (drop n ps) (omega (arith, length-take n ps, p.0.0)) (omega (arith, length-drop n ps, p.0.0))
+    (subst Whole (sym (take-append-drop n ps)) (p.0.1, p.1))
   where
-    go : (front back : List Parameter) → length front ≡ n → 0 < length back → AreParameters (front ++ back) × IsSpelled bytes at (parameters_spelling (front ++ back)) next → ⊥
+    go : (front back : List Parameter) → length front ≡ n → 0 < length back
+        → AreParameters (front ++ back) × IsSpelled bytes at (parameters_spelling (front ++ back)) next → ⊥
     go front [] len some whole = absurd (omega arith)
     go front (y ∷ ys) len some whole =
         let rest : List ℕ = parameter_spelling y ++ parameters_spelling ys in
@@ -157,64 +166,120 @@ no_parts bytes at none q next p = none (parts_of q) next (parts_allowed q p.0, p
 pub no_method : (bytes : List ℕ) (at : ℕ) → NoneIsAt bytes_field bytes at → NoneIsAt request_field bytes at
 no_method bytes at none = no_parts bytes at (no_first bytes_field (λ method. path_parts) bytes at none)
 
-behind_method : (bytes : List ℕ) (at : ℕ) (m : List ℕ) (a : ℕ) → IsFieldAt bytes_field bytes at m a → NoneIsAt path_parts bytes a → NoneIsAt request_field bytes at
+behind_method : (bytes : List ℕ) (at : ℕ) (m : List ℕ) (a : ℕ) → IsFieldAt bytes_field bytes at m a
+    → NoneIsAt path_parts bytes a → NoneIsAt request_field bytes at
 behind_method bytes at m a method none = no_parts bytes at (no_second bytes_field (λ x. path_parts) bytes_one bytes at m a method none)
 
-pub no_path : (bytes : List ℕ) (at : ℕ) (m : List ℕ) (a : ℕ) → IsFieldAt bytes_field bytes at m a → NoneIsAt bytes_field bytes a → NoneIsAt request_field bytes at
+pub no_path : (bytes : List ℕ) (at : ℕ) (m : List ℕ) (a : ℕ) → IsFieldAt bytes_field bytes at m a
+    → NoneIsAt bytes_field bytes a → NoneIsAt request_field bytes at
 no_path bytes at m a method none = behind_method bytes at m a method (no_first bytes_field (λ path. counted_parts) bytes a none)
 
-behind_path : (bytes : List ℕ) (at : ℕ) (m : List ℕ) (a : ℕ) (p : List ℕ) (b : ℕ) → IsFieldAt bytes_field bytes at m a → IsFieldAt bytes_field bytes a p b → NoneIsAt counted_parts bytes b → NoneIsAt request_field bytes at
+behind_path : (bytes : List ℕ) (at : ℕ) (m : List ℕ) (a : ℕ) (p : List ℕ) (b : ℕ) → IsFieldAt bytes_field bytes at m a
+    → IsFieldAt bytes_field bytes a p b → NoneIsAt counted_parts bytes b → NoneIsAt request_field bytes at
 behind_path bytes at m a p b method path none =
     behind_method bytes at m a method (no_second bytes_field (λ x. counted_parts) bytes_one bytes a p b path none)
 
-pub no_count : (bytes : List ℕ) (at : ℕ) (m : List ℕ) (a : ℕ) (p : List ℕ) (b : ℕ) → IsFieldAt bytes_field bytes at m a → IsFieldAt bytes_field bytes a p b → NoneIsAt (number_field w32) bytes b → NoneIsAt request_field bytes at
+pub no_count : (bytes : List ℕ) (at : ℕ) (m : List ℕ) (a : ℕ) (p : List ℕ) (b : ℕ)
+    → IsFieldAt bytes_field bytes at m a → IsFieldAt bytes_field bytes a p b → NoneIsAt (number_field w32) bytes b
+    → NoneIsAt request_field bytes at
 no_count bytes at m a p b method path none =
     behind_path bytes at m a p b method path (no_first few_field last_parts bytes b (λ n next here. none n next (here.0.0, here.1)))
 
-pub too_many : (bytes : List ℕ) (at : ℕ) (m : List ℕ) (a : ℕ) (p : List ℕ) (b n c : ℕ) → IsFieldAt bytes_field bytes at m a → IsFieldAt bytes_field bytes a p b → IsFieldAt (number_field w32) bytes b n c → MOST_PARAMETERS < n → NoneIsAt request_field bytes at
+pub too_many : (bytes : List ℕ) (at : ℕ) (m : List ℕ) (a : ℕ) (p : List ℕ) (b n c : ℕ)
+    → IsFieldAt bytes_field bytes at m a → IsFieldAt bytes_field bytes a p b
+    → IsFieldAt (number_field w32) bytes b n c → MOST_PARAMETERS < n → NoneIsAt request_field bytes at
 too_many bytes at m a p b n c method path count more =
     behind_path bytes at m a p b method path (no_first few_field last_parts bytes b (λ k next here. let same : k ≡ n = (same_field (number_field w32) one_of_32 bytes b k n next c (here.0.0, here.1) count).0 in omega (arith, here.0.1)))
 
--- the parts of a request up to its parameters
-pub record IsBegun (bytes : List ℕ) (at : ℕ) (m : List ℕ) (a : ℕ) (p : List ℕ) (b n c : ℕ) : Type 0 where
-  pub method : IsFieldAt bytes_field bytes at m a
-  pub path : IsFieldAt bytes_field bytes a p b
-  pub count : IsFieldAt (number_field w32) bytes b n c
-  pub few : n ≤ MOST_PARAMETERS
+-- A request at a place, read as far as its parameters: its fields, and where they stand.
+pub record Begun (bytes : List ℕ) (at : ℕ) : Type 0 where
+  pub method : List ℕ
+  pub path_at : ℕ
+  pub path : List ℕ
+  pub count_at : ℕ
+  pub count : ℕ
+  pub next : ℕ
+  pub has_method : IsFieldAt bytes_field bytes at method path_at
+  pub has_path : IsFieldAt bytes_field bytes path_at path count_at
+  pub has_count : IsFieldAt (number_field w32) bytes count_at count next
+  pub few : count ≤ MOST_PARAMETERS
 
-behind_count : (bytes : List ℕ) (at : ℕ) (m : List ℕ) (a : ℕ) (p : List ℕ) (b n c : ℕ) → IsBegun bytes at m a p b n c → NoneIsAt (last_parts n) bytes c → NoneIsAt request_field bytes at
-behind_count bytes at m a p b n c begun none =
-    behind_path bytes at m a p b begun.method begun.path (no_second few_field last_parts few_one bytes b n c ((begun.count.0, begun.few), begun.count.1) none)
+-- what was read, by the facts of its fields
+abbrev pub begun : {bytes : List ℕ} {at : ℕ} {m : List ℕ} {a : ℕ} {p : List ℕ} {b n c : ℕ}
+    → IsFieldAt bytes_field bytes at m a → IsFieldAt bytes_field bytes a p b
+    → IsFieldAt (number_field w32) bytes b n c → n ≤ MOST_PARAMETERS → Begun bytes at
+begun method path count few = record {
+  method = _;
+  path_at = _;
+  path = _;
+  count_at = _;
+  count = _;
+  next = _;
+  has_method = method;
+  has_path = path;
+  has_count = count;
+  few = few;
+}
 
-pub no_parameters : (bytes : List ℕ) (at : ℕ) (m : List ℕ) (a : ℕ) (p : List ℕ) (b n c : ℕ) → IsBegun bytes at m a p b n c → NoneIsAt (parameters_field n) bytes c → NoneIsAt request_field bytes at
-no_parameters bytes at m a p b n c begun none =
-    behind_count bytes at m a p b n c begun (no_first (parameters_field n) (λ ps. bytes_field) bytes c none)
+behind_count : (bytes : List ℕ) (at : ℕ) (r : Begun bytes at) → NoneIsAt (last_parts r.count) bytes r.next → NoneIsAt request_field bytes at
+behind_count bytes at r none =
+    let behind = no_second few_field last_parts few_one bytes r.count_at r.count r.next ((r.has_count.0, r.few), r.has_count.1) none in
+    behind_path bytes at r.method r.path_at r.path r.count_at r.has_method r.has_path behind
 
-pub no_body : (bytes : List ℕ) (at : ℕ) (m : List ℕ) (a : ℕ) (p : List ℕ) (b n c : ℕ) (ps : List Parameter) (d : ℕ) → IsBegun bytes at m a p b n c → IsFieldAt (parameters_field n) bytes c ps d → NoneIsAt bytes_field bytes d → NoneIsAt request_field bytes at
-no_body bytes at m a p b n c ps d begun parameters none =
-    behind_count bytes at m a p b n c begun (no_second (parameters_field n) (λ xs. bytes_field) (parameters_one n) bytes c ps d parameters none)
+pub no_parameters : (bytes : List ℕ) (at : ℕ) (r : Begun bytes at) → NoneIsAt (parameters_field r.count) bytes r.next → NoneIsAt request_field bytes at
+no_parameters bytes at r none = behind_count bytes at r (no_first (parameters_field r.count) (λ ps. bytes_field) bytes r.next none)
+
+-- One that was read as far as its body, with its parameters.
+pub record BegunWhole (bytes : List ℕ) (at : ℕ) : Type 0 where
+  pub begun : Begun bytes at
+  pub parameters : List Parameter
+  pub next : ℕ
+  pub has_parameters : IsFieldAt (parameters_field begun.count) bytes begun.next parameters next
+
+-- with these parameters behind it
+abbrev pub begun_whole : {bytes : List ℕ} {at : ℕ} (r : Begun bytes at) (ps : List Parameter) (next : ℕ)
+    → IsFieldAt (parameters_field r.count) bytes r.next ps next → BegunWhole bytes at
+begun_whole r ps next has = record { begun = r; parameters = ps; next = next; has_parameters = has }
+
+pub no_body : (bytes : List ℕ) (at : ℕ) (r : BegunWhole bytes at) → NoneIsAt bytes_field bytes r.next → NoneIsAt request_field bytes at
+no_body bytes at r none =
+    let n = r.begun.count in
+    behind_count bytes at r.begun (no_second (parameters_field n) (λ ps. bytes_field)
+    (parameters_one n) bytes r.begun.next r.parameters r.next r.has_parameters none)
+
+-- the request of what was read, and this body
+abbrev pub request_read : {bytes : List ℕ} {at : ℕ} → BegunWhole bytes at → List ℕ → Request
+request_read r body = request_with r.begun.method r.begun.path r.parameters body
+
+abbrev parts_read : {bytes : List ℕ} {at : ℕ} → BegunWhole bytes at → List ℕ → List ℕ × (List ℕ × (ℕ × (List Parameter × List ℕ)))
+parts_read r body = (r.begun.method, (r.begun.path, (r.begun.count, (r.parameters, body))))
+
+all_parts : (bytes : List ℕ) (at : ℕ) (r : BegunWhole bytes at) (body : List ℕ) (next : ℕ)
+    → IsFieldAt bytes_field bytes r.next body next → IsFieldAt request_parts bytes at (parts_read r body) next
+all_parts bytes at r body next rest =
+    let b = r.begun in
+    let last = both_there (parameters_field b.count) (λ xs. bytes_field) bytes b.next r.parameters r.next body next r.has_parameters rest in
+    let counted = both_there few_field last_parts bytes b.count_at b.count b.next (r.parameters, body) next ((b.has_count.0, b.few), b.has_count.1) last in
+    let path = both_there bytes_field (λ x. counted_parts) bytes b.path_at b.path b.count_at (b.count, (r.parameters, body)) next b.has_path counted in
+    both_there bytes_field (λ x. path_parts) bytes at b.method b.path_at (b.path, (b.count, (r.parameters, body))) next b.has_method path
 
 -- the whole of it
-pub all_parts : (bytes : List ℕ) (at : ℕ) (m : List ℕ) (a : ℕ) (p : List ℕ) (b n c : ℕ) (ps : List Parameter) (d : ℕ) (body : List ℕ) (next : ℕ) → IsBegun bytes at m a p b n c → IsFieldAt (parameters_field n) bytes c ps d → IsFieldAt bytes_field bytes d body next → IsFieldAt request_parts bytes at (m, (p, (n, (ps, body)))) next
-all_parts bytes at m a p b n c ps d body next begun parameters rest =
-    let last = both_there (parameters_field n) (λ xs. bytes_field) bytes c ps d body next parameters rest in
-    let counted = both_there few_field last_parts bytes b n c (ps, body) next ((begun.count.0, begun.few), begun.count.1) last in
-    let path = both_there bytes_field (λ x. counted_parts) bytes a p b (n, (ps, body)) next begun.path counted in
-    both_there bytes_field (λ x. path_parts) bytes at m a (p, (n, (ps, body))) next begun.method path
-
-pub request_there : (bytes : List ℕ) (at : ℕ) (m p : List ℕ) (n : ℕ) (ps : List Parameter) (body : List ℕ) (q : Request) (next : ℕ) → IsFieldAt request_parts bytes at (m, (p, (n, (ps, body)))) next → q ≡ request_with m p ps body → IsRequestWithinLimits (request_with m p ps body) → IsFieldAt request_field bytes at q next
-request_there bytes at m p n ps body q next parts is limited =
-    let len : n ≡ length ps = sym parts.0.1.1.1.0.0 in
-    let s4 : List ℕ = parameters_spelling ps ++ bytes_spelling body in
-    let Count : ℕ → Type 0 = λ k. IsSpelled bytes at (bytes_spelling m ++ (bytes_spelling p ++ (to_be_bytes w32 k ++ s4))) next in
+pub request_there : (bytes : List ℕ) (at : ℕ) (r : BegunWhole bytes at) (body : List ℕ) (next : ℕ) (q : Request) → IsFieldAt bytes_field bytes r.next body next
+    → q ≡ request_read r body → IsRequestWithinLimits (request_read r body) → IsFieldAt request_field bytes at q next
+request_there bytes at r body next q rest is limited =
+    let parts = all_parts bytes at r body next rest in
+    let len : r.begun.count ≡ length r.parameters = sym r.has_parameters.0.0 in
+    let s4 : List ℕ = parameters_spelling r.parameters ++ bytes_spelling body in
+    let Count : ℕ → Type 0 = λ k. IsSpelled bytes at (bytes_spelling r.begun.method ++ (bytes_spelling r.begun.path ++ (to_be_bytes w32 k ++ s4))) next in
     let Here : Request → Type 0 = λ x. IsFieldAt request_field bytes at x next in
     subst Here (sym is) (limited, subst Count len parts.1)
 
--- parts of a request that is beyond its limits
-pub not_limited : (bytes : List ℕ) (at : ℕ) (m p : List ℕ) (n : ℕ) (ps : List Parameter) (body : List ℕ) (next : ℕ) → IsFieldAt request_parts bytes at (m, (p, (n, (ps, body)))) next → ¬ IsRequestWithinLimits (request_with m p ps body) → NoneIsAt request_field bytes at
-not_limited bytes at m p n ps body next parts not q end' here =
-    let found : List ℕ × (List ℕ × (ℕ × (List Parameter × List ℕ))) = (m, (p, (n, (ps, body)))) in
-    let same = same_field request_parts parts_one bytes at (parts_of q) found end' next (parts_allowed q here.0, here.1) parts in
+-- and none where it is beyond the limits
+pub not_limited : (bytes : List ℕ) (at : ℕ) (r : BegunWhole bytes at) (body : List ℕ) (next : ℕ)
+    → IsFieldAt bytes_field bytes r.next body next → ¬ IsRequestWithinLimits (request_read r body)
+    → NoneIsAt request_field bytes at
+not_limited bytes at r body next rest not q end' here =
+    let same = same_field request_parts parts_one bytes at (parts_of q) (parts_read r body) end' next (parts_allowed q here.0, here.1) (all_parts bytes at r body next rest) in
     not (subst IsRequestWithinLimits (ap request_from same.0) here.0)
 
 -- ---- responses
@@ -233,5 +298,8 @@ response_one x y r s p q e =
 pub no_status : (bytes : List ℕ) (at : ℕ) → NoneIsAt (number_field w16) bytes at → NoneIsAt response_field bytes at
 no_status bytes at none x next here = no_first (number_field w16) (λ status. bytes_field) bytes at none (x.status, x.body) next here
 
-pub no_response_body : (bytes : List ℕ) (at status mid : ℕ) → IsFieldAt (number_field w16) bytes at status mid → NoneIsAt bytes_field bytes mid → NoneIsAt response_field bytes at
-no_response_body bytes at status mid there none x next here = no_second (number_field w16) (λ s. bytes_field) one_of_16 bytes at status mid there none (x.status, x.body) next here
+pub no_response_body : (bytes : List ℕ) (at status mid : ℕ) → IsFieldAt (number_field w16) bytes at status mid
+    → NoneIsAt bytes_field bytes mid → NoneIsAt response_field bytes at
+no_response_body bytes at status mid there none x next here =
+    no_second (number_field w16) (λ s. bytes_field) one_of_16 bytes at status mid there none
+    (x.status, x.body) next here

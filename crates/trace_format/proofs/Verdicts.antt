@@ -4,10 +4,10 @@ use Rattle.std.proofs.lemmas.Bool.{cases_lt, cases_order}
 use Rattle.basis.proofs.Places.{nth_within}
 use Rattle.basis.specs.Lists.{nth}
 use Rattle.script_tree.specs.Requests.{Request}
-use Rattle.script_tree.specs.Traces.{IsBalanced}
+use Rattle.period.specs.Traces.{IsBalanced}
 use Rattle.script_tree.specs.declared.request.Response.{Response}
-use Rattle.script_tree.specs.declared.trace.TraceEvent.{TraceEvent}
-use Rattle.script_tree.specs.declared.trace.TraceEvent.TheVariants.{Asked, Answered}
+use Rattle.period.specs.declared.trace.TraceEvent.{TraceEvent}
+use Rattle.period.specs.declared.trace.TraceEvent.TheVariants.{Asked, Answered}
 use Rattle.trace_format.specs.Balance.{IsAskedBefore, IsAnswered, IsFitting, IsAskedAgain, IsAnsweredInVain, IsFirstFault}
 use Rattle.trace_format.specs.Stages.{NoneOpen, IsFirstOpen}
 use Rattle.trace_format.specs.declared.balance.Stage.{Stage}
@@ -30,7 +30,8 @@ misfit_unbalanced trace n r b (inr (x, is, inl never)) =
     let less : asked.0 < answer.0 = answer.2 in
     never (asked.0, asked.1, omega arith, asked.2)
 
-pub misfit_is_fault : (trace : List TraceEvent) (n r : ℕ) → ((k : ℕ) → k < n → IsFitting trace k) → IsAskedAgain trace n r ⊎ IsAnsweredInVain trace n r → IsFirstFault trace (Some r)
+pub misfit_is_fault : (trace : List TraceEvent) (n r : ℕ) → ((k : ℕ) → k < n → IsFitting trace k)
+    → IsAskedAgain trace n r ⊎ IsAnsweredInVain trace n r → IsFirstFault trace (Some r)
 misfit_is_fault trace n r before here = (λ b. misfit_unbalanced trace n r b here, inl (record { place = n; before = before; here = here }))
 
 fitting_all : (stage : ℕ → Option Stage) (trace : List TraceEvent) → Known stage trace (length trace) → (k : ℕ) → IsFitting trace k
@@ -44,12 +45,14 @@ fitting_all stage trace known k =
       }
     ]
 
-answered_unless_open : (trace : List TraceEvent) (i r : ℕ) (q : Request) (o : Option Stage) → nth trace i ≡ Some (Asked r q) → StageIs trace (length trace) r o → o ≢ Some Open → IsAnswered trace r
+answered_unless_open : (trace : List TraceEvent) (i r : ℕ) (q : Request) (o : Option Stage)
+    → nth trace i ≡ Some (Asked r q) → StageIs trace (length trace) r o → o ≢ Some Open → IsAnswered trace r
 answered_unless_open trace i r q None is h closed = absurd (h (i, q, nth_within trace i (Asked r q) is, is))
 answered_unless_open trace i r q (Some Open) is h closed = absurd (closed refl)
 answered_unless_open trace i r q (Some Closed) is h closed = (h.1.0, h.1.1, h.1.3)
 
-asked_once : (trace : List TraceEvent) → ((k : ℕ) → IsFitting trace k) → (r i j : ℕ) (p q : Request) → nth trace i ≡ Some (Asked r p) → nth trace j ≡ Some (Asked r q) → i ≡ j
+asked_once : (trace : List TraceEvent) → ((k : ℕ) → IsFitting trace k) → (r i j : ℕ) (p q : Request)
+    → nth trace i ≡ Some (Asked r p) → nth trace j ≡ Some (Asked r q) → i ≡ j
 asked_once trace fitting r i j p q e f =
     elim (cases_order i j) [
       | inl same ↦ same
@@ -57,7 +60,8 @@ asked_once trace fitting r i j p q e f =
       | inr (inr more) ↦ absurd ((fitting i).is_new r p e (j, q, more, f))
     ]
 
-answered_once : (trace : List TraceEvent) → ((k : ℕ) → IsFitting trace k) → (r i j : ℕ) (x y : Response) → nth trace i ≡ Some (Answered r x) → nth trace j ≡ Some (Answered r y) → i ≡ j
+answered_once : (trace : List TraceEvent) → ((k : ℕ) → IsFitting trace k) → (r i j : ℕ) (x y : Response)
+    → nth trace i ≡ Some (Answered r x) → nth trace j ≡ Some (Answered r y) → i ≡ j
 answered_once trace fitting r i j x y e f =
     elim (cases_order i j) [
       | inl same ↦ same
@@ -65,14 +69,17 @@ answered_once trace fitting r i j x y e f =
       | inr (inr more) ↦ absurd ((fitting i).is_open r x e (j, y, more, f))
     ]
 
-answered_later : (trace : List TraceEvent) → ((k : ℕ) → IsFitting trace k) → (r i : ℕ) (q : Request) → nth trace i ≡ Some (Asked r q) → IsAnswered trace r → (j : ℕ) × (x : Response) × (i < j) × (nth trace j ≡ Some (Answered r x))
+answered_later : (trace : List TraceEvent) → ((k : ℕ) → IsFitting trace k) → (r i : ℕ) (q : Request)
+    → nth trace i ≡ Some (Asked r q) → IsAnswered trace r
+    → (j : ℕ) × (x : Response) × (i < j) × (nth trace j ≡ Some (Answered r x))
 answered_later trace fitting r i q is (j, x, e) =
     let asked : IsAskedBefore trace j r = (fitting j).was_asked r x e in
     let same : asked.0 ≡ i = asked_once trace fitting r asked.0 i asked.1 q asked.3 is in
     let less : asked.0 < j = asked.2 in
     (j, x, omega arith, e)
 
-asked_somewhere : (trace : List TraceEvent) → ((k : ℕ) → IsFitting trace k) → (r j : ℕ) (x : Response) → nth trace j ≡ Some (Answered r x) → (i : ℕ) × (q : Request) × (nth trace i ≡ Some (Asked r q))
+asked_somewhere : (trace : List TraceEvent) → ((k : ℕ) → IsFitting trace k) → (r j : ℕ) (x : Response)
+    → nth trace j ≡ Some (Answered r x) → (i : ℕ) × (q : Request) × (nth trace i ≡ Some (Asked r q))
 asked_somewhere trace fitting r j x is =
     let asked : IsAskedBefore trace j r = (fitting j).was_asked r x is in
     (asked.0, asked.1, asked.3)
@@ -83,7 +90,9 @@ balanced stage trace known none =
     record {
       asked_once = asked_once trace fitting;
       answered_once = answered_once trace fitting;
-      is_answered = λ r i q e. answered_later trace fitting r i q e (answered_unless_open trace i r q (stage r) e (known.stages r) (none i r q (nth_within trace i (Asked r q) e) e));
+      is_answered = λ r i q e. answered_later trace fitting r i q e
+          (answered_unless_open trace i r q (stage r) e (known.stages r)
+          (none i r q (nth_within trace i (Asked r q) e) e));
       was_asked = asked_somewhere trace fitting;
     }
 
@@ -93,7 +102,8 @@ open_unanswered trace r (Some Open) h e = λ (k, x, is). h.1 (k, x, nth_within t
 open_unanswered trace r (Some Closed) h e = absurd (cc)
 
 -- the first open request, if any, is the verdict on a trace whose events fit
-pub first_open_is_fault : (stage : ℕ → Option Stage) (trace : List TraceEvent) (o : Option ℕ) → Known stage trace (length trace) → IsFirstOpen stage trace o → IsFirstFault trace o
+pub first_open_is_fault : (stage : ℕ → Option Stage) (trace : List TraceEvent) (o : Option ℕ)
+    → Known stage trace (length trace) → IsFirstOpen stage trace o → IsFirstFault trace o
 first_open_is_fault stage trace None known h = balanced stage trace known h
 first_open_is_fault stage trace (Some r) known (place, q, is, waits, none) =
     let unanswered : ¬ IsAnswered trace r = open_unanswered trace r (stage r) (known.stages r) waits in (

@@ -2,15 +2,16 @@
 use Rattle.std.specs.Prelude.{◌≡◌, ℕ, ◌<◌, List, Option, Some, None, ◌⊎◌}
 use Rattle.basis.specs.Lists.{nth}
 use Rattle.script_tree.specs.Requests.{Request}
-use Rattle.script_tree.specs.Traces.{IsBalanced}
+use Rattle.period.specs.Traces.{IsBalanced}
 use Rattle.script_tree.specs.declared.request.Response.{Response}
-use Rattle.script_tree.specs.declared.trace.TraceEvent.{TraceEvent}
-use Rattle.script_tree.specs.declared.trace.TraceEvent.TheVariants.{Asked, Answered}
+use Rattle.period.specs.declared.trace.TraceEvent.{TraceEvent}
+use Rattle.period.specs.declared.trace.TraceEvent.TheVariants.{Asked, Answered}
 
--- This request, or this response, with this id stands at the place.
+-- This request with this id stands at the place.
 abbrev pub AsksAt : List TraceEvent → ℕ → ℕ → Request → Type 0
 AsksAt trace place r q = nth trace place ≡ Some (Asked r q)
 
+-- This response with this id stands at the place.
 abbrev pub AnswersAt : List TraceEvent → ℕ → ℕ → Response → Type 0
 AnswersAt trace place r x = nth trace place ≡ Some (Answered r x)
 

@@ -1,11 +1,12 @@
 -- What kind of event stands at a place.
 use Rattle.std.specs.Prelude.{◌≡◌, ℕ, List, Some}
 use Rattle.basis.specs.Lists.{nth}
-use Rattle.script_tree.specs.declared.trace.TraceEvent.{TraceEvent}
-use Rattle.script_tree.specs.declared.trace.TraceEvent.TheVariants.{Asked, Answered}
+use Rattle.period.specs.declared.trace.TraceEvent.{TraceEvent}
+use Rattle.period.specs.declared.trace.TraceEvent.TheVariants.{Asked, Answered}
 use Rattle.trace_format.specs.declared.trace_file.EventHead.{EventHead}
 use Rattle.trace_format.specs.declared.trace_file.EventHead.TheVariants.{Asks, Answers}
 
+-- what kind of event it is, and its id
 abbrev pub head_of : TraceEvent → EventHead
 head_of (Asked rid q) = Asks rid
 head_of (Answered rid x) = Answers rid

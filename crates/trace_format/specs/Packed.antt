@@ -21,11 +21,13 @@ pub record IsPackedAlone (bytes : List ℕ) (request : Request) : Type 0 where
 abbrev pub Packed : List ℕ → Type 0
 Packed bytes = (request : Request) × ∥ IsPackedAlone bytes request ∥₁
 
+-- Two such requests of the same bytes are one.
 same_request : (bytes : List ℕ) (p q : Request) → ∥ IsPackedAlone bytes p ∥₁ → ∥ IsPackedAlone bytes q ∥₁ → p ≡ q
 same_request bytes p q a b =
     let set = Coded-set request_type.the_row.coded p q in
     ∥∥₁_elim a set (λ x. ∥∥₁_elim b set (λ y. y.only p x.this))
 
+-- There is at most one request that bytes spell.
 pub packed_once : (bytes : List ℕ) → IsProp (Packed bytes)
 packed_once bytes x y =
     let same : x.0 ≡ y.0 = same_request bytes x.0 y.0 x.1 y.1 in

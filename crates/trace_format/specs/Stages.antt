@@ -5,17 +5,19 @@ use Rattle.std.specs.Ordering.{nat_cmp}
 use Rattle.std.specs.BTreeMap.{BTreeMap, get, Updates}
 use Rattle.trace_format.specs.Balance.{AsksAt}
 use Rattle.script_tree.specs.Requests.{Request}
-use Rattle.script_tree.specs.declared.trace.TraceEvent.{TraceEvent}
+use Rattle.period.specs.declared.trace.TraceEvent.{TraceEvent}
 use Rattle.trace_format.specs.Heads.{head_of}
 use Rattle.trace_format.specs.declared.trace_file.EventHead.{EventHead}
 use Rattle.trace_format.specs.declared.trace_file.EventHead.TheVariants.{Asks, Answers}
 use Rattle.trace_format.specs.declared.balance.Stage.{Stage}
 use Rattle.trace_format.specs.declared.balance.Stage.TheVariants.{Open, Closed}
 
+-- the id of a kind of event
 abbrev pub head_id : EventHead → ℕ
 head_id (Asks rid) = rid
 head_id (Answers rid) = rid
 
+-- the id of an event
 abbrev pub id_of : TraceEvent → ℕ
 id_of e = head_id (head_of e)
 
@@ -27,6 +29,7 @@ head_fits (Answers rid) None = false
 head_fits (Answers rid) (Some Open) = true
 head_fits (Answers rid) (Some Closed) = false
 
+-- the same of an event
 abbrev pub fits : TraceEvent → Option Stage → Bool
 fits e known = head_fits (head_of e) known
 
@@ -35,6 +38,7 @@ abbrev pub head_stage : EventHead → Stage
 head_stage (Asks rid) = Open
 head_stage (Answers rid) = Closed
 
+-- the same of an event
 abbrev pub stage_after : TraceEvent → Stage
 stage_after e = head_stage (head_of e)
 
@@ -44,6 +48,7 @@ is_open None = false
 is_open (Some Open) = true
 is_open (Some Closed) = false
 
+-- whether a kind of event is a request whose id is open
 abbrev pub asks_open : (ℕ → Option Stage) → EventHead → Bool
 asks_open stage (Asks rid) = is_open (stage rid)
 asks_open stage (Answers rid) = false

@@ -2,7 +2,7 @@
 ghost use Rattle.std.specs.Prelude.{[], ◌≡◌, ◌+◌, ◌++◌, length, IfOk, OnOk};
 ghost use Rattle.wire.specs.Files.{file_spelling, record_spelling};
 ghost use Rattle.trace_format.specs.Events.{trace_format, response_spelling};
-ghost use Rattle.script_tree.specs.declared.trace.TraceEvent.TheVariants as it;
+ghost use Rattle.period.specs.declared.trace.TraceEvent.TheVariants as it;
 
 use crate::encoding::{HEAD_BYTES, room_behind_response, write_answered, write_asked_head};
 use crate::format::Events;

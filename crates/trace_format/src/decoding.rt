@@ -6,8 +6,8 @@ ghost use Rattle.trace_format.specs.Events.{trace_format, event_field, request_c
 use crate::format::Events;
 use crate::request::{read_request, read_response};
 use basis::OrMemory;
+use period::trace::{Trace, TraceEvent};
 use script_tree::limits::MOST_REQUESTS;
-use script_tree::trace::{Trace, TraceEvent};
 use std::alloc::Global;
 use wire::fault::Unreadable;
 use wire::field::{read_u8, read_u32};

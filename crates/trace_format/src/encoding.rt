@@ -4,13 +4,13 @@ ghost use Rattle.wire.specs.Spellings.{bytes_spelling};
 ghost use Rattle.wire.specs.Files.{Encodes, LeavesRoom};
 ghost use Rattle.trace_format.specs.Events.{trace_format, parameter_spelling, parameters_spelling};
 ghost use Rattle.trace_format.specs.Events.{request_spelling, response_spelling, event_spelling};
-ghost use Rattle.script_tree.specs.declared.trace.TraceEvent.TheVariants.{Asked, Answered};
+ghost use Rattle.period.specs.declared.trace.TraceEvent.TheVariants.{Asked, Answered};
 
 use crate::format::Events;
 use basis::OrMemory;
+use period::trace::{Trace, TraceEvent};
 use script_tree::request::{Parameter, Request, Response};
 use script_tree::text::Text;
-use script_tree::trace::{Trace, TraceEvent};
 use std::alloc::{AllocError, Global};
 use wire::fault::PastLimit;
 use wire::file::write_file_within;

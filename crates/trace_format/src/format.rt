@@ -1,4 +1,4 @@
-use script_tree::trace::TraceEvent;
+use period::trace::TraceEvent;
 use wire::record::RecordFormat;
 
 /// The format of traces, with the number of requests that were read.

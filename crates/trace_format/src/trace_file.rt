@@ -8,7 +8,7 @@ ghost use Rattle.trace_format.specs.Heads.{HasHead};
 use crate::decoding::read_event;
 use crate::format::Events;
 use basis::OrMemory;
-use script_tree::trace::TraceEvent;
+use period::trace::TraceEvent;
 use std::alloc::{AllocError, Global};
 use std::marker::Model;
 use wire::fault::Unreadable;
@@ -33,8 +33,8 @@ pub struct TraceFile {
 impl Model for TraceFile {
     ghost use Rattle.std.specs.Prelude.{List};
     ghost use Rattle.std.specs.Coded.{coded_list};
-    ghost use Rattle.script_tree.specs.declared.trace.TraceEvent.{TraceEvent as AnyEvent};
-    ghost use Rattle.script_tree.specs.contracts.trace.TraceEvent as item;
+    ghost use Rattle.period.specs.declared.trace.TraceEvent.{TraceEvent as AnyEvent};
+    ghost use Rattle.period.specs.contracts.trace.TraceEvent as item;
 
     ghost Value = { List AnyEvent };
 

@@ -70,7 +70,8 @@ module _ {J : Type 0} (keeps : List Happening → J → Type 0) (s : Setting) wh
         goes =
             subst (λ n. Goes keeps s n new after) (omega arith)
             (one_turn now seat old new before after in_round.goes (round_seat s.listed in_round.round seat now within refl) laid kept);
-        under_way = subst (λ n. IsUnderWay n start new) (sym (add-one seat)) (goes_on s.reading seat kept.happened start old new within in_round.under_way kept.turn);
+        under_way = subst (λ n. IsUnderWay n start new) (sym (add-one seat))
+            (goes_on s.reading seat kept.happened start old new within in_round.under_way kept.turn);
       }
 
   pub round_ends : (start t : Table) (journal : J) → InRound keeps s SEATS start t journal → Between keeps s t journal
@@ -78,7 +79,8 @@ module _ {J : Type 0} (keeps : List Happening → J → Type 0) (s : Setting) wh
 
   -- ---- the end
 
-  pub all_kept : (t : Table) (journal : J) → Between keeps s t journal → IsDone t → KeepsRun keeps (IsRunOf s.program s.start s.jobs s.listed s.seed s.reading) journal
+  pub all_kept : (t : Table) (journal : J) → Between keeps s t journal → IsDone t
+      → KeepsRun keeps (IsRunOf s.program s.start s.jobs s.listed s.seed s.reading) journal
   all_kept t journal between done =
       let goes : Goes keeps s (length s.listed + SEATS * between.round) t journal = between.goes in
       (goes.history, closes s (length s.listed + SEATS * between.round) goes.history t goes.stands goes.laid done, goes.kept)

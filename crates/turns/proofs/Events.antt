@@ -1,8 +1,7 @@
 -- What events make of a recording.
 use Rattle.std.proofs.Common.{◌≡◌, ◌≢◌, ◌∙◌, cond, ℕ, Option, refl, ap, sym}
 use Rattle.std.proofs.lemmas.Bool.{ne_eqb}
-use Rattle.history.specs.Histories.{choice_in, happening_by, number_in, rid_in}
-use Rattle.history.specs.Recordings.{Recorded, room_of, happening_at, reply_to, Takes}
+use Rattle.history.specs.Recordings.{Recorded, room_of, happening_at, Takes}
 use Rattle.history.specs.Rooms.{Room, onward}
 use Rattle.history.specs.Seats.{at_seat, seated}
 use Rattle.history.specs.Visits.{Visit}
@@ -14,18 +13,13 @@ use Rattle.history.specs.declared.happening.Happening.TheVariants.{Arrive, Act, 
 use Rattle.turns.specs.ByTurns.{seat_in}
 use Rattle.turns.specs.Turned.{Happens}
 
--- The reply tells what happened.
-pub what_happened : (room : Room) (seat : ℕ) (event : Event) (reply : Reply) → reply ≡ reply_to room (happening_at room seat event) → happening_by seat event reply ≡ happening_at room seat event
-what_happened room seat (asks.Arrive request) reply is = ap (λ r. Arrive seat (rid_in r) request) is
-what_happened room seat (asks.Act op offer) reply is = ap (λ r. Act seat (rid_in r) (number_in r) op (choice_in r)) is
-what_happened room seat (asks.Depart response path) reply is = ap (λ r. Depart seat (rid_in r) response path) is
-
 seat_of : (room : Room) (seat : ℕ) (event : Event) → seat_in (happening_at room seat event) ≡ seat
 seat_of room seat (asks.Arrive request) = refl
 seat_of room seat (asks.Act op offer) = refl
 seat_of room seat (asks.Depart response path) = refl
 
-pub happens : (seat : ℕ) (event : Event) (reply : Reply) (old new : Recorded) → Takes old seat event reply new → Happens seat (happening_at (room_of old) seat event) old new
+pub happens : (seat : ℕ) (event : Event) (reply : Reply) (old new : Recorded) → Takes old seat event reply new
+    → Happens seat (happening_at (room_of old) seat event) old new
 happens seat event reply old new taken = record {
   here = seat_of (room_of old) seat event;
   allowed = taken.allowed;

@@ -32,7 +32,8 @@ replaced place a old new within is = record {
   same = ap length is ∙ length-set old place a;
 }
 
-pub replaced_again : {A : Type 0} (place : ℕ) (a b : Option A) (old between new : List (Option A)) → Replaces place a old between → Replaces place b between new → Replaces place b old new
+pub replaced_again : {A : Type 0} (place : ℕ) (a b : Option A) (old between new : List (Option A))
+    → Replaces place a old between → Replaces place b between new → Replaces place b old new
 replaced_again place a b old between new first second = record {
   here = second.here;
   others = λ x ne. second.others x ne ∙ first.others x ne;
@@ -72,7 +73,8 @@ threw seed place seat before after dice is within here =
 pub counted : {A : Type 0} (before came left : List A) (was is : ℕ) → was ≡ length before → before ≡ came ++ left → is + length came ≡ was → is ≡ length left
 counted before came left was is all parts less = omega (arith, all, ap length parts, length-append came left, less)
 
-other_seats : (program : Program) (x : ℕ) (visits more : List (Option Visit)) (runs left : List (Option Machine)) → at_seat more x ≡ at_seat visits x → at_seat left x ≡ at_seat runs x
+other_seats : (program : Program) (x : ℕ) (visits more : List (Option Visit)) (runs left : List (Option Machine))
+    → at_seat more x ≡ at_seat visits x → at_seat left x ≡ at_seat runs x
     → IsSeated program (at_seat visits x) (at_seat runs x) → IsSeated program (at_seat more x) (at_seat left x)
 other_seats program x visits more runs left is run seated =
     subst (λ o. IsSeated program o (at_seat left x)) (sym is) (subst (λ r. IsSeated program (at_seat visits x) r) (sym run) seated)
@@ -85,7 +87,7 @@ laid_on reading seat came h old new before after left laid moves replaces code d
     let program = moves.happens.program in
     record {
       code = subst (λ p. IsCodeOf p new.code.now) (sym program) (subst (λ k. IsCodeOf old.recording.program k.now) (sym code) laid.code);
-      valid = subst (λ p. IsValid p.declarations) (sym program) laid.valid;
+      valid = subst (λ p. IsValid p) (sym program) laid.valid;
       seated = λ x. by x (eqb_tells x seat);
       runs = replaces.same ∙ laid.runs;
       dice = dice ∙ laid.dice;
@@ -112,6 +114,7 @@ acts_on reading seat came h old new before after left moves jobs was is others r
   jobs = jobs;
   moves =
       subst (λ l. Moves reading seat came h old.recording new.recording (dice_at old seat) (dice_at new seat) l) (sym run)
-      (subst (λ d. Moves reading seat came h old.recording new.recording (dice_at old seat) d left) is (subst (λ d. Moves reading seat came h old.recording new.recording d after left) was moves));
+      (subst (λ d. Moves reading seat came h old.recording new.recording (dice_at old seat) d left) is
+      (subst (λ d. Moves reading seat came h old.recording new.recording d after left) was moves));
   others = others;
 }

@@ -40,7 +40,8 @@ use Rattle.turns.specs.Offers.{rolled, IsReadingOf}
 use Rattle.turns.specs.Seated.{IsAt, IsSeated, WaitsFor}
 use Rattle.turns.specs.Drawn.{HasBound, IsDrawn, IsShown, IsThrown}
 use Rattle.turns.specs.Turned.{Moves, turns_left}
-use Rattle.turns.proofs.Events.{what_happened, happens}
+use Rattle.history.proofs.Legal.{reply_tells}
+use Rattle.turns.proofs.Events.{happens}
 
 -- ---- what a machine tells
 
@@ -73,14 +74,15 @@ bound_of stores widths Tables (Roll bound) f = absurd f
 bound_of stores widths Clock (Roll bound) f = absurd f
 bound_of stores widths Dice (Roll bound) f = f
 
-pub fits_program : (program : Program) (here : Option Visit) (op : Op) (m : Machine) → IsValid program.declarations → WaitsFor program here op m → FitsOperation program op
+pub fits_program : (program : Program) (here : Option Visit) (op : Op) (m : Machine) → IsValid program → WaitsFor program here op m → FitsOperation program op
 unfolding ending_of
 fits_program program here op m valid waits = fits program waits.visit.request waits.visit.answers op valid waits.short waits.wants
 
-pub has_bound : (program : Program) (here : Option Visit) (op : Op) (m : Machine) → IsValid program.declarations → WaitsFor program here op m → HasBound op.act
+pub has_bound : (program : Program) (here : Option Visit) (op : Op) (m : Machine) → IsValid program → WaitsFor program here op m → HasBound op.act
 has_bound program here op m valid waits = bound_of _ _ op.object op.act (fits_program program here op m valid waits)
 
-asked_few : (program : Program) (here : Option Visit) (op : Op) (m : Machine) → (waits : WaitsFor program here op m) → length waits.visit.answers < MOST_OPERATIONS
+asked_few : (program : Program) (here : Option Visit) (op : Op) (m : Machine) → (waits : WaitsFor program here op m)
+    → length waits.visit.answers < MOST_OPERATIONS
 unfolding ending_of
 asked_few program here op m waits = counted_asks program waits.visit.request waits.visit.answers op waits.wants
 
@@ -91,16 +93,18 @@ at_itself seat v open_at = ap (λ here. cond here v (open_at seat)) (eq-eqb seat
 
 -- ---- what happened
 
-moved : (reading : Option ℕ) (seat : ℕ) (came : List Request) (event : Event) (reply : Reply) (h : Happening) (old new : Recorded) (before after : ChaCha) (left : Option Machine)
+moved : (reading : Option ℕ) (seat : ℕ) (came : List Request) (event : Event) (reply : Reply) (h : Happening)
+    (old new : Recorded) (before after : ChaCha) (left : Option Machine)
     → Takes old seat event reply new → h ≡ happening_by seat event reply
     → Moves reading seat came (happening_at (room_of old) seat event) old new before after left
     → Moves reading seat came h old new before after left
 moved reading seat came event reply h old new before after left taken is moves =
-    subst (λ k. Moves reading seat came k old new before after left) (sym (is ∙ what_happened (room_of old) seat event reply taken.replied)) moves
+    subst (λ k. Moves reading seat came k old new before after left) (sym (is ∙ reply_tells (room_of old) seat event reply taken.replied)) moves
 
 -- ---- an arrival
 
-pub arrives : (reading : Option ℕ) (seat : ℕ) (job : Request) (arc : Arc Request Global) (reply : Reply) (h : Happening) (old new : Recorded) (dice : ChaCha) (m : Machine)
+pub arrives : (reading : Option ℕ) (seat : ℕ) (job : Request) (arc : Arc Request Global) (reply : Reply)
+    (h : Happening) (old new : Recorded) (dice : ChaCha) (m : Machine)
     → arc.value ≡ job → Takes old seat (asks.Arrive arc) reply new → h ≡ happening_by seat (asks.Arrive arc) reply → at_seat old.visits seat ≡ None
     → Follows old.program job [] m → IsReady m → IsRequestWithinLimits job
     → Moves reading seat (job ∷ []) h old new dice dice (Some m)
@@ -124,7 +128,8 @@ arrives reading seat job arc reply h old new dice m same taken is empty follows 
 
 -- ---- a departure
 
-pub departs : (reading : Option ℕ) (seat : ℕ) (response : Response) (path : Path) (reply : Reply) (h : Happening) (old new : Recorded) (dice : ChaCha) (v : Visit)
+pub departs : (reading : Option ℕ) (seat : ℕ) (response : Response) (path : Path) (reply : Reply) (h : Happening)
+    (old new : Recorded) (dice : ChaCha) (v : Visit)
     → Takes old seat (asks.Depart response path) reply new → h ≡ happening_by seat (asks.Depart response path) reply
     → at_seat old.visits seat ≡ Some v → length v.answers ≤ MOST_OPERATIONS
     → Moves reading seat [] h old new dice dice None
@@ -145,7 +150,8 @@ departs reading seat response path reply h old new dice v taken is was few =
 
 -- ---- an operation
 
-thrown_by : (act : Deed) (offer : Option ℤ) (cell : Cell) (old new : ChaCha) → IsDrawn act old new offer → IsThrown (rolled act (choice_of act offer cell)) old new
+thrown_by : (act : Deed) (offer : Option ℤ) (cell : Cell) (old new : ChaCha) → IsDrawn act old new offer
+    → IsThrown (rolled act (choice_of act offer cell)) old new
 thrown_by Read offer cell old new is = is
 thrown_by (Write d) offer cell old new is = is
 thrown_by (Get k) offer cell old new is = is
@@ -176,8 +182,9 @@ shown_by reading n (Roll bound) offer cell is shown = tt
 the_answer : (rid r number n : ℕ) (choice made : Choice) (answer d : Datum) → Acted rid number choice answer ≡ Acted r n made d → answer ≡ d
 the_answer rid r number n choice made answer d e = cc
 
-pub acts : (reading : Option ℕ) (seat : ℕ) (op : Op) (offer : Option ℤ) (rid number : ℕ) (choice : Choice) (answer : Datum) (h : Happening) (old new : Recorded) (before after : ChaCha) (waiting m : Machine)
-    → IsValid old.program.declarations → (waits : WaitsFor old.program (at_seat old.visits seat) op waiting)
+pub acts : (reading : Option ℕ) (seat : ℕ) (op : Op) (offer : Option ℤ) (rid number : ℕ) (choice : Choice)
+    (answer : Datum) (h : Happening) (old new : Recorded) (before after : ChaCha) (waiting m : Machine)
+    → IsValid old.program → (waits : WaitsFor old.program (at_seat old.visits seat) op waiting)
     → Takes old seat (asks.Act op offer) (Acted rid number choice answer) new → h ≡ happening_by seat (asks.Act op offer) (Acted rid number choice answer)
     → IsDrawn op.act before after offer → IsShown reading op.act offer
     → Follows old.program waits.visit.request (waits.visit.answers ++ answer ∷ []) m → IsReady m

@@ -42,7 +42,7 @@ pub record WaitsFor (program : Program) (here : Option Visit) (op : Op) (m : Mac
 -- Each seat has its dice, and the machine of the request that is open there.
 pub record IsLaid (t : Table) : Type 0 where
   pub code : IsCodeOf t.recording.program t.code.now
-  pub valid : IsValid t.recording.program.declarations
+  pub valid : IsValid t.recording.program
   pub seated : (seat : ℕ) → IsSeated t.recording.program (at_seat t.recording.visits seat) (at_seat t.runs.items seat)
   pub runs : length t.runs.items ≡ SEATS
   pub dice : length t.dice.items ≡ SEATS

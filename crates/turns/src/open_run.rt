@@ -48,7 +48,7 @@ pub(crate) fn go_on<'c, C: Clock>(
     dice: &mut Dice,
     clock: &C,
 ) -> Result<(Happening, Option<Machine<'c>>), AllocError>
-    requires valid { IsValid recording.old.program.declarations }
+    requires valid { IsValid recording.old.program }
     requires seated { let program = recording.old.program in
         IsSeated program (at_seat recording.old.visits seat) (Some machine) }
     ensures { let reading = C.reading clock.now in IfOk result (λ r.
@@ -77,7 +77,7 @@ fn act<'c, C: Clock>(
     dice: &mut Dice,
     clock: &C,
 ) -> Result<(Happening, Machine<'c>), AllocError>
-    requires valid { IsValid recording.old.program.declarations }
+    requires valid { IsValid recording.old.program }
     requires waits { let program = recording.old.program in
         WaitsFor program (at_seat recording.old.visits seat) op machine }
     ensures { let reading = C.reading clock.now in IfOk result (λ r.

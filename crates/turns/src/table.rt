@@ -40,7 +40,7 @@ impl<'c> Table<'c> {
         jobs: Vec<PackedRequest>,
         seed: u64,
     ) -> Result<Table<'c>, AllocError>
-        requires valid { IsValid recording.program.declarations }
+        requires valid { IsValid recording.program }
         requires code { IsCodeOf recording.program code.now }
         requires empty { (seat : ℕ) → at_seat recording.visits seat ≡ None }
         ensures laid { IfOk result IsLaid }

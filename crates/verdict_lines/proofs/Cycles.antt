@@ -7,7 +7,8 @@ use Rattle.verdict_lines.specs.Fields.{cycle_text, node_text}
 next : (xs : List Node) (i : ℕ) (d : Node) → i < length xs → flat_map node_text (take (suc i) xs) ≡ flat_map node_text (take i xs) ++ node_text (get_or xs i d)
 next [] i d within = absurd (omega (arith, within))
 next (x ∷ xs) zero d within = append-nil (node_text x)
-next (x ∷ xs) (suc i) d within = ap (λ l. node_text x ++ l) (next xs i d (omega (arith, within))) ∙ sym (append_assoc (node_text x) (flat_map node_text (take i xs)) (node_text (get_or xs i d)))
+next (x ∷ xs) (suc i) d within = ap (λ l. node_text x ++ l) (next xs i d (omega (arith, within)))
+    ∙ sym (append_assoc (node_text x) (flat_map node_text (take i xs)) (node_text (get_or xs i d)))
 
 -- one more of them
 pub one_more : (xs : List Node) (i : ℕ) (d : Node) → i < length xs → cycle_text (take (i + 1) xs) ≡ cycle_text (take i xs) ++ node_text (get_or xs i d)

@@ -24,5 +24,6 @@ abbrev pub node_text : Node → List ℕ
 node_text (Number rid number) = codes " " ++ (decimal rid ++ (codes "." ++ decimal number))
 node_text (End rid) = codes " " ++ (decimal rid ++ codes ".end")
 
+-- a cycle of events
 abbrev pub cycle_text : List Node → List ℕ
 cycle_text nodes = codes "cycle" ++ flat_map node_text nodes

@@ -28,9 +28,11 @@ reason_number (OtherOperation rid operation) = 18
 reason_number (FewerOperations rid operation) = 19
 reason_number (OtherResponse rid) = 20
 
+-- a request, by its id
 abbrev pub request_text : ℕ → List ℕ
 request_text rid = codes "request " ++ decimal rid
 
+-- an operation, by its request and its number
 abbrev pub operation_text : ℕ → ℕ → List ℕ
 operation_text rid operation = codes "request " ++ (decimal rid ++ (codes " operation " ++ decimal operation))
 
@@ -57,6 +59,7 @@ reason_text (OtherOperation rid operation) = operation_text rid operation
 reason_text (FewerOperations rid operation) = operation_text rid operation
 reason_text (OtherResponse rid) = request_text rid
 
+-- the line of a rejection: the number of its reason, and the place that is at fault
 abbrev pub rejection_line : Reason → List ℕ
 rejection_line reason =
     codes "rejected "

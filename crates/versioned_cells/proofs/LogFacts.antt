@@ -8,7 +8,7 @@ use Rattle.script_tree.specs.declared.operation.Act.{Act}
 use Rattle.script_tree.specs.declared.operation.Act.TheVariants.{Read, Write, Get, Put, Remove, Transact, Now, Roll}
 use Rattle.script_tree.specs.declared.operation.Choice.{Choice}
 use Rattle.script_tree.specs.declared.operation.Choice.TheVariants.{Nothing, Number}
-use Rattle.report.specs.declared.LogEntry.{LogEntry}
+use Rattle.period.specs.declared.report.LogEntry.{LogEntry}
 use Rattle.std.proofs.Common.{subst}
 use Rattle.std.specs.declared.cmp.Ordering.TheVariants.{Less}
 use Rattle.std.specs.Cmp.Lexicographic.{slice_cmp}
@@ -26,7 +26,7 @@ use Rattle.object_cells.specs.Cells.{held}
 use Rattle.versioned_cells.specs.Versions.{Versions, VersionsByKey, as_of, history_at, held_at, AreUntil, AreAllUntil, Notes}
 use Rattle.versioned_cells.proofs.HistoryFacts.{as_of-one, until_more, notes_at, notes_until}
 use Rattle.versioned_cells.specs.Logs.{written, stored, TellsRegister, TellsStore, Writes, Stores, Begins, BeginsStore}
-use Rattle.report.specs.LeftBy.{left_by}
+use Rattle.period.specs.LeftBy.{left_by}
 
 -- ---- entries one after the other
 
@@ -37,7 +37,8 @@ left-one (x ∷ xs) e cell = left-one xs e (acted x.act x.choice cell).0
 -- What stands at each position stands there with one entry more, where the entry's effect is told from then on.
 pub one_more : {X : Type 0} (wrap : X → Cell) (step : Act → X → X) → ((a : Act) (c : Choice) (x : X) → (acted a c (wrap x)).0 ≡ wrap (step a x))
     → (start : Cell) (xs : List LogEntry) (e : LogEntry) (before after : ℕ → X) → ((p : ℕ) → left_by (take p xs) start ≡ wrap (before p))
-    → ((p : ℕ) → after p ≡ (if nat_le (length xs + 1) p then step e.act (before p) else before p)) → (p : ℕ) → left_by (take p (xs ++ e ∷ [])) start ≡ wrap (after p)
+    → ((p : ℕ) → after p ≡ (if nat_le (length xs + 1) p then step e.act (before p) else before p)) → (p : ℕ)
+    → left_by (take p (xs ++ e ∷ [])) start ≡ wrap (after p)
 one_more {X} wrap step steps start xs e before after tells is p = by (nat_le (length xs + 1) p) refl where
   by : (b : Bool) → nat_le (length xs + 1) p ≡ b → left_by (take p (xs ++ e ∷ [])) start ≡ wrap (after p)
   by true h =
@@ -45,12 +46,15 @@ one_more {X} wrap step steps start xs e before after tells is p = by (nat_le (le
       let all : take p (xs ++ e ∷ []) ≡ xs ++ e ∷ [] = take_all p (xs ++ e ∷ []) (omega (arith, length-append xs (e ∷ []))) in
       let some : take p xs ≡ xs = take_all p xs (omega arith) in
       ap (λ es. left_by es start) all ∙ left-one xs e start ∙ ap (λ es. (acted e.act e.choice (left_by es start)).0) (sym some)
-      ∙ ap (λ cell. (acted e.act e.choice cell).0) (tells p) ∙ steps e.act e.choice (before p) ∙ ap wrap (sym (is p ∙ ap (λ t. if t then step e.act (before p) else before p) h))
+      ∙ ap (λ cell. (acted e.act e.choice cell).0) (tells p) ∙ steps e.act e.choice (before p)
+      ∙ ap wrap (sym (is p ∙ ap (λ t. if t then step e.act (before p) else before p) h))
   by false h =
       let l = leb-false (length xs + 1) p h in
-      ap (λ es. left_by es start) (take-append-le p xs (e ∷ []) (omega arith)) ∙ tells p ∙ ap wrap (sym (is p ∙ ap (λ t. if t then step e.act (before p) else before p) h))
+      ap (λ es. left_by es start) (take-append-le p xs (e ∷ []) (omega arith)) ∙ tells p
+      ∙ ap wrap (sym (is p ∙ ap (λ t. if t then step e.act (before p) else before p) h))
 
-pub prefix_more : (entries : List LogEntry) (i : ℕ) (e : LogEntry) → i < length entries → e ≡ get_or entries i e → take (i + 1) entries ≡ take i entries ++ e ∷ []
+pub prefix_more : (entries : List LogEntry) (i : ℕ) (e : LogEntry) → i < length entries → e ≡ get_or entries i e
+    → take (i + 1) entries ≡ take i entries ++ e ∷ []
 prefix_more entries i e h is = take_more entries i e h ∙ ap (λ y. take i entries ++ y ∷ []) (sym is)
 
 -- ---- registers
@@ -68,11 +72,13 @@ writes Now (Number n) o = refl
 writes (Roll b) Nothing o = refl
 writes (Roll b) (Number n) o = refl
 
-pub register_more : (entries : List LogEntry) (i : ℕ) (e : LogEntry) (start : Option Datum) (old new : Versions Datum) → i < length entries → e ≡ get_or entries i e
+pub register_more : (entries : List LogEntry) (i : ℕ) (e : LogEntry) (start : Option Datum) (old new : Versions Datum)
+    → i < length entries → e ≡ get_or entries i e
     → TellsRegister (take i entries) start old → Writes (i + 1) e.act old new → TellsRegister (take (i + 1) entries) start new
 register_more entries i e start old new h is tells w =
     let l : length (take i entries) ≡ i = length-take-le i entries (omega arith) in
-    rw (prefix_more entries i e h is) (one_more one written writes (one start) (take i entries) e (λ p. as_of p None old) (λ p. as_of p None new) tells (rw l w.at))
+    rw (prefix_more entries i e h is) (one_more one written writes (one start) (take i entries) e
+    (λ p. as_of p None old) (λ p. as_of p None new) tells (rw l w.at))
 
 pub register_none : (start : Option Datum) (vs : Versions Datum) → Begins start vs → TellsRegister [] start vs
 register_none start vs b p = by p where
@@ -101,14 +107,16 @@ stores Now (Number n) m = refl
 stores (Roll b) Nothing m = refl
 stores (Roll b) (Number n) m = refl
 
-pub store_more : (entries : List LogEntry) (i : ℕ) (e : LogEntry) (start : List ℕ → Option Datum) (old new : VersionsByKey Datum) → i < length entries → e ≡ get_or entries i e
+pub store_more : (entries : List LogEntry) (i : ℕ) (e : LogEntry) (start : List ℕ → Option Datum)
+    (old new : VersionsByKey Datum) → i < length entries → e ≡ get_or entries i e
     → TellsStore (take i entries) start old → Stores (i + 1) e.act old new → TellsStore (take (i + 1) entries) start new
 store_more entries i e start old new h is tells w =
     let l : length (take i entries) ≡ i = length-take-le i entries (omega arith) in
     rw (prefix_more entries i e h is) (one_more many stored stores (many start) (take i entries) e (λ p. held_at p old) (λ p. held_at p new) tells
     (λ p. (λ j k. w.at p k j) ∙ by (nat_le (i + 1) p) (nat_le (length (take i entries) + 1) p) (ap (λ n. nat_le (n + 1) p) (sym l)) p))
   where
-    by : (a b : Bool) → a ≡ b → (p : ℕ) → (λ k. if a then stored e.act (held_at p old) k else held_at p old k) ≡ (if b then stored e.act (held_at p old) else held_at p old)
+    by : (a b : Bool) → a ≡ b → (p : ℕ) → (λ k. if a then stored e.act (held_at p old) k else held_at p old k)
+        ≡ (if b then stored e.act (held_at p old) else held_at p old)
     by true true s p = refl
     by false false s p = refl
     by true false s p = cc
@@ -141,7 +149,8 @@ nothing_written since act vs same until = record {
 pub is_put : (since : ℕ) (key : List ℕ) (d copy : Datum) (act : Act) (old new : VersionsByKey Datum) → act ≡ Put key d → copy ≡ d → AreAllUntil since old
     → Notes since key (Some copy) old new → Stores since act old new
 is_put since key d copy act old new is same until notes = rw is (record {
-  at = λ p k. notes_at since key (Some copy) old new notes p k ∙ ap (λ x. if nat_le since p then with_key key (Some x) (held_at p old) k else held_at p old k) same;
+  at = λ p k. notes_at since key (Some copy) old new notes p k
+      ∙ ap (λ x. if nat_le since p then with_key key (Some x) (held_at p old) k else held_at p old k) same;
   until = notes_until since key (Some copy) old new notes until;
 })
 
@@ -165,7 +174,8 @@ begun_more start key d copy rest old new same ordered at notes p k =
       none [] h = refl
       none (e ∷ es) h = rw h.0 (none es h.1)
 
-      by : (b : Bool) → bytes_eq k key ≡ b → or_else (held rest k) (if b then Some copy else held_at p old k) ≡ or_else (held ((key, d) ∷ rest) k) (held_at p old k)
+      by : (b : Bool) → bytes_eq k key ≡ b → or_else (held rest k) (if b then Some copy else held_at p old k)
+          ≡ or_else (held ((key, d) ∷ rest) k) (held_at p old k)
       by true e =
           let is : k ≡ key = (bytes_eq-Decides k key).0 e in
           let here : is_eq (slice_cmp nat_cmp k key) ≡ true = is_eq-slice_cmp k key ∙ e in
@@ -182,7 +192,8 @@ begun_all start rest es none at until = record {
   until = until;
 }
 
-pub nothing_begun : (start : List (List ℕ × Datum)) (es : VersionsByKey Datum) → es ≡ [] → (p : ℕ) (k : List ℕ) → or_else (held start k) (held_at p es k) ≡ held start k
+pub nothing_begun : (start : List (List ℕ × Datum)) (es : VersionsByKey Datum) → es ≡ [] → (p : ℕ) (k : List ℕ)
+    → or_else (held start k) (held_at p es k) ≡ held start k
 unfolding or_else
 nothing_begun start es none p k = ap (λ x. or_else (held start k) (held_at p x k)) none ∙ by (held start k) where
   by : (o : Option Datum) → or_else o None ≡ o

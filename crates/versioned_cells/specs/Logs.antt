@@ -4,8 +4,8 @@ use Rattle.script_tree.specs.Datum.{Datum}
 use Rattle.script_tree.specs.Objects.{one, many, with_key}
 use Rattle.script_tree.specs.declared.operation.Act.{Act}
 use Rattle.script_tree.specs.declared.operation.Act.TheVariants.{Read, Write, Get, Put, Remove, Transact, Now, Roll}
-use Rattle.report.specs.declared.LogEntry.{LogEntry}
-use Rattle.report.specs.LeftBy.{left_by}
+use Rattle.period.specs.declared.report.LogEntry.{LogEntry}
+use Rattle.period.specs.LeftBy.{left_by}
 use Rattle.versioned_cells.specs.Versions.{Versions, VersionsByKey, as_of, held_at, AreUntil, AreAllUntil}
 
 -- ---- one cell
@@ -38,6 +38,7 @@ stored (Roll bound) m = m
 abbrev pub TellsRegister : List LogEntry → Option Datum → Versions Datum → Type 0
 TellsRegister entries start vs = (p : ℕ) → left_by (take p entries) (one start) ≡ one (as_of p None vs)
 
+-- At each position of a store's log stands what the entries before it leave.
 abbrev pub TellsStore : List LogEntry → (List ℕ → Option Datum) → VersionsByKey Datum → Type 0
 TellsStore entries start es = (p : ℕ) → left_by (take p entries) (many start) ≡ many (held_at p es)
 
@@ -46,6 +47,7 @@ pub record Writes (since : ℕ) (act : Act) (old new : Versions Datum) : Type 0 
   pub at : (p : ℕ) → as_of p None new ≡ (if nat_le since p then written act (as_of p None old) else as_of p None old)
   pub until : AreUntil since new
 
+-- From a position on the act's effect on the store stands there, and before it what stood there.
 pub record Stores (since : ℕ) (act : Act) (old new : VersionsByKey Datum) : Type 0 where
   pub at : (p : ℕ) (k : List ℕ) → held_at p new k ≡ (if nat_le since p then stored act (held_at p old) k else held_at p old k)
   pub until : AreAllUntil since new
@@ -55,6 +57,7 @@ pub record Begins (start : Option Datum) (vs : Versions Datum) : Type 0 where
   pub at : (p : ℕ) → as_of p None vs ≡ start
   pub until : AreUntil 0 vs
 
+-- Nothing but what stands in the store at the start.
 pub record BeginsStore (start : List ℕ → Option Datum) (es : VersionsByKey Datum) : Type 0 where
   pub at : (p : ℕ) (k : List ℕ) → held_at p es k ≡ start k
   pub until : AreAllUntil 0 es

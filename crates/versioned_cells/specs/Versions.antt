@@ -33,9 +33,11 @@ AreChanges before (v ∷ vs) = (v.1 ≢ before) × AreChanges v.1 vs
 
 -- ---- under keys
 
+-- keys with their versions
 abbrev pub VersionsByKey : Type 0 → Type 0
 VersionsByKey X = List (List ℕ × Versions X)
 
+-- the versions of a key; none where the key isn't there
 abbrev pub history_at : {X : Type 0} → List ℕ → VersionsByKey X → Versions X
 history_at k es = unwrap_or (lookup (is_at (slice_cmp nat_cmp k)) es) []
 
@@ -43,6 +45,7 @@ history_at k es = unwrap_or (lookup (is_at (slice_cmp nat_cmp k)) es) []
 abbrev pub held_at : {X : Type 0} → ℕ → VersionsByKey X → List ℕ → Option X
 held_at p es k = as_of p None (history_at k es)
 
+-- no version of any key is from later
 abbrev pub AreAllUntil : {X : Type 0} → ℕ → VersionsByKey X → Type 0
 AreAllUntil p es = (k : List ℕ) → AreUntil p (history_at k es)
 

@@ -9,7 +9,7 @@ ghost use Rattle.versioned_cells.specs.Logs.{TellsRegister, Begins, Writes};
 use crate::history::History;
 use crate::position::next_position;
 use object_cells::Registers;
-use report::LogEntry;
+use period::report::LogEntry;
 use script_tree::operation::Act;
 use script_tree::text::Text;
 use script_tree::value::Value;

@@ -8,7 +8,7 @@ ghost use Rattle.versioned_cells.specs.Logs.{TellsStore, BeginsStore, Stores};
 use crate::histories::Histories;
 use crate::position::next_position;
 use object_cells::Store;
-use report::LogEntry;
+use period::report::LogEntry;
 use script_tree::operation::Act;
 use script_tree::text::Text;
 use script_tree::value::Value;

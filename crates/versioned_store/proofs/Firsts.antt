@@ -8,7 +8,7 @@ use Rattle.script_tree.specs.declared.operation.Act.{Act}
 use Rattle.script_tree.specs.declared.transaction.Statement.{Statement}
 use Rattle.script_tree.specs.declared.transaction.Statement.TheVariants.{Insert, Select, Update, Delete, Expect}
 use Rattle.script_tree.proofs.Equals.{act_is, act_itself}
-use Rattle.report.specs.declared.LogEntry.{LogEntry}
+use Rattle.period.specs.declared.report.LogEntry.{LogEntry}
 use Rattle.versioned_store.specs.Firsts.{Firsts, source_by, with_entry}
 use Rattle.versioned_tables.specs.Reads.{only_read, keeps_tables}
 use Rattle.versioned_store.specs.Sources.{are_selects, selects_alone, IsCalm, IsLike, IsSource}
@@ -73,7 +73,8 @@ like_has entries i j e at like =
     let x = get_or entries j e in
     (x, place entries j e l, like.same x e (place entries j e l) at)
 
-pub next_source : (entries : List LogEntry) (firsts : Firsts) (i : ℕ) (e : LogEntry) → nth entries i ≡ Some e → AreFirsts entries firsts i → IsSource entries i (source_by firsts e.act i)
+pub next_source : (entries : List LogEntry) (firsts : Firsts) (i : ℕ) (e : LogEntry) → nth entries i ≡ Some e
+    → AreFirsts entries firsts i → IsSource entries i (source_by firsts e.act i)
 next_source entries firsts i e at f = by (selects_alone e.act) refl where
   own : (b : Bool) → selects_alone e.act ≡ b → (x : LogEntry) → nth entries i ≡ Some x → selects_alone x.act ≡ b
   own b s x at_x = ap (λ (y : LogEntry). selects_alone y.act) (some_is (sym at_x ∙ at)) ∙ s
@@ -121,7 +122,8 @@ selects_read (Update t changes tests ∷ ss) e = cc
 selects_read (Delete t tests ∷ ss) e = cc
 selects_read (Expect n t tests ∷ ss) e = cc
 
-calm_one : (entries : List LogEntry) (s i : ℕ) (e : LogEntry) → nth entries i ≡ Some e → keeps_tables e.act ≡ true → IsCalm entries s i → IsCalm entries s (i + 1)
+calm_one : (entries : List LogEntry) (s i : ℕ) (e : LogEntry) → nth entries i ≡ Some e → keeps_tables e.act ≡ true
+    → IsCalm entries s i → IsCalm entries s (i + 1)
 calm_one entries s i e at k c j x l u at_x =
     last_or (λ j. nth entries j ≡ Some x → s ≤ j → keeps_tables x.act ≡ true) i j u
     (λ same at_x l. ap (λ (y : LogEntry). keeps_tables y.act) (some_is (sym at_x ∙ ap (nth entries) same ∙ at)) ∙ k) (λ less at_x l. c j x l less at_x) at_x l
@@ -133,7 +135,8 @@ record Told (entries : List LogEntry) (since i : ℕ) (a : Act) (q : ℕ) : Type
   pub has : HasAct entries q a
   pub first : NoneHas entries a since q
 
-pub with_more : (entries : List LogEntry) (firsts : Firsts) (i : ℕ) (e : LogEntry) → nth entries i ≡ Some e → keeps_tables e.act ≡ true → AreFirsts entries firsts i
+pub with_more : (entries : List LogEntry) (firsts : Firsts) (i : ℕ) (e : LogEntry) → nth entries i ≡ Some e
+    → keeps_tables e.act ≡ true → AreFirsts entries firsts i
     → AreFirsts entries (with_entry firsts e.act i) (i + 1)
 with_more entries firsts i e at k f = record {
   since = f.since;
@@ -158,7 +161,9 @@ with_more entries firsts i e at k f = record {
     first = λ j l u h. f.none e.act g s j l (omega (arith, u, r)) (subst (HasAct entries j) (sym is) h);
   }
 
-  by : (a : Act) (q : ℕ) (b c : Bool) → selects_alone e.act ≡ b → same_act e.act a ≡ c → (if_here : cond (b && c) (Some (cond b (unwrap_or (firsts e.act) i) i)) (firsts a) ≡ Some q) → Told entries f.since i a q
+  by : (a : Act) (q : ℕ) (b c : Bool) → selects_alone e.act ≡ b → same_act e.act a ≡ c
+      → (if_here : cond (b && c) (Some (cond b (unwrap_or (firsts e.act) i) i)) (firsts a) ≡ Some q)
+      → Told entries f.since i a q
   by a q true true s m g = new a q s (act_is e.act a m) (firsts e.act) refl (some_is g)
   by a q true false s m g = old a q g
   by a q false c s m g = old a q g
@@ -178,7 +183,8 @@ with_more entries firsts i e at k f = record {
     at_none true false e1 m g = earlier g (λ is. true≢false (sym (subst (λ b. same_act e.act b ≡ true) is (act_itself e.act)) ∙ m))
     at_none false c e1 m g = earlier g (λ is. true≢false (sym s ∙ ap selects_alone (sym is) ∙ e1))
 
-pub after_change : (entries : List LogEntry) (firsts : Firsts) (i : ℕ) (e : LogEntry) → nth entries i ≡ Some e → keeps_tables e.act ≡ false → ((a : Act) → firsts a ≡ None)
+pub after_change : (entries : List LogEntry) (firsts : Firsts) (i : ℕ) (e : LogEntry) → nth entries i ≡ Some e
+    → keeps_tables e.act ≡ false → ((a : Act) → firsts a ≡ None)
     → AreFirsts entries firsts (i + 1)
 after_change entries firsts i e at k empty = record {
   since = i + 1;
@@ -194,7 +200,8 @@ after_change entries firsts i e at k empty = record {
 
 -- ---- one source more
 
-pub push_each : (P : ℕ → ℕ → Type 0) (xs ys : List ℕ) (i s : ℕ) → ys ≡ xs ++ s ∷ [] → length xs ≡ i → ((p d : ℕ) → p < length xs → P p (get_or xs p d)) → P i s → (p d : ℕ) → p < length ys → P p (get_or ys p d)
+pub push_each : (P : ℕ → ℕ → Type 0) (xs ys : List ℕ) (i s : ℕ) → ys ≡ xs ++ s ∷ [] → length xs ≡ i
+    → ((p d : ℕ) → p < length xs → P p (get_or xs p d)) → P i s → (p d : ℕ) → p < length ys → P p (get_or ys p d)
 push_each P xs ys i s more l all one p d h =
     rw more (⊎_elim (λ same. subst (λ m. P m (get_or (xs ++ s ∷ []) m d)) (sym same) (subst (P (length xs)) (sym (last xs d)) (subst (λ m. P m s) (sym l) one)))
     (λ apart. let low : p < length xs = omega (arith, apart, h, ap (λ (zs : List ℕ). length zs) more, length-append xs (s ∷ [])) in subst (P p) (sym (first xs p d low)) (all p d low)) (cases_eq p (length xs)))
@@ -208,7 +215,8 @@ push_each P xs ys i s more l all one p d h =
     first (x ∷ xs) zero d h = refl
     first (x ∷ xs) (suc p) d h = first xs p d (omega arith)
 
-pub after_entry : (entries : List LogEntry) (old mid new : Firsts) (i : ℕ) (e : LogEntry) → nth entries i ≡ Some e → AreFirsts entries old i → mid ≡ with_entry old e.act i
+pub after_entry : (entries : List LogEntry) (old mid new : Firsts) (i : ℕ) (e : LogEntry) → nth entries i ≡ Some e
+    → AreFirsts entries old i → mid ≡ with_entry old e.act i
     → (keeps_tables e.act ≡ true → new ≡ mid) → (keeps_tables e.act ≡ false → (a : Act) → new a ≡ None) → AreFirsts entries new (i + 1)
 after_entry entries old mid new i e at f noted kept lost = by (keeps_tables e.act) refl where
   by : (b : Bool) → keeps_tables e.act ≡ b → AreFirsts entries new (i + 1)

@@ -6,8 +6,8 @@ use Rattle.basis.specs.Lists.{nth}
 use Rattle.basis.proofs.Options.{some_is}
 use Rattle.script_tree.specs.Datum.{Datum}
 use Rattle.script_tree.specs.Objects.{rows, acted}
-use Rattle.report.specs.declared.LogEntry.{LogEntry}
-use Rattle.report.specs.LeftBy.{left_by}
+use Rattle.period.specs.declared.report.LogEntry.{LogEntry}
+use Rattle.period.specs.LeftBy.{left_by}
 use Rattle.object_tables.specs.TableSets.{TableSet}
 use Rattle.versioned_tables.specs.OverTime.{OverTime, TellsTables, IsAnswerThen}
 use Rattle.versioned_tables.specs.Standing.{Stands}
@@ -18,7 +18,8 @@ use Rattle.versioned_store.proofs.Selecting.{tables_alike}
 use Rattle.versioned_store.proofs.Telling.{within, place}
 
 -- what is told of each member is told with one more
-pub push_nth : {A : Type 0} (P : ℕ → A → Type 0) (old new : List A) (i : ℕ) (x : A) → length old ≡ i → new ≡ old ++ x ∷ [] → ((p : ℕ) (y : A) → nth old p ≡ Some y → P p y) → P i x
+pub push_nth : {A : Type 0} (P : ℕ → A → Type 0) (old new : List A) (i : ℕ) (x : A) → length old ≡ i
+    → new ≡ old ++ x ∷ [] → ((p : ℕ) (y : A) → nth old p ≡ Some y → P p y) → P i x
     → (p : ℕ) (y : A) → nth new p ≡ Some y → P p y
 push_nth P old new i x l more all one p y at =
     let there : nth (old ++ x ∷ []) p ≡ Some y = ap (λ xs. nth xs p) (sym more) ∙ at in
@@ -41,7 +42,8 @@ stands_then entries start v p tells = let t = tells.holds p in record { tables =
 -- ---- answers
 
 -- an answer that the source keeps
-pub kept_is : (entries : List LogEntry) (start : TableSet) (t : SelectedTables) (p q : ℕ) (d : Datum) → TellsSelects entries start t → q ≡ slice_index_or t.sources.items p 0 → nth t.kept.items q ≡ Some (Some d)
+pub kept_is : (entries : List LogEntry) (start : TableSet) (t : SelectedTables) (p q : ℕ) (d : Datum)
+    → TellsSelects entries start t → q ≡ slice_index_or t.sources.items p 0 → nth t.kept.items q ≡ Some (Some d)
     → IsTablesAnswer entries start.tables p d
 kept_is entries start t p q d tells is kept e at =
     let l = within entries p e at in
@@ -52,7 +54,8 @@ kept_is entries start t p q d tells is kept e at =
     ∙ sym (tables_alike entries start.tables p q e f like at at_q)
 
 -- an answer that is computed
-pub computed_is : (entries : List LogEntry) (start : TableSet) (v : OverTime) (p : ℕ) (x : LogEntry) (d : Datum) → TellsTables entries start v → nth entries p ≡ Some x → IsAnswerThen x.act p v d
+pub computed_is : (entries : List LogEntry) (start : TableSet) (v : OverTime) (p : ℕ) (x : LogEntry) (d : Datum)
+    → TellsTables entries start v → nth entries p ≡ Some x → IsAnswerThen x.act p v d
     → IsTablesAnswer entries start.tables p d
 computed_is entries start v p x d tells at is e at_e =
     is (left_by (take p entries) (rows start.tables)) x.choice (tells.holds p)

@@ -10,9 +10,9 @@ use Rattle.script_tree.specs.declared.operation.Act.TheVariants.{Read, Write, Ge
 use Rattle.script_tree.specs.declared.operation.Choice.{Choice}
 use Rattle.script_tree.specs.declared.operation.Choice.TheVariants.{Nothing, Number}
 use Rattle.script_tree.specs.declared.operation.Object.TheVariants.{Tables}
-use Rattle.report.specs.declared.LogEntry.{LogEntry}
+use Rattle.period.specs.declared.report.LogEntry.{LogEntry}
 use Rattle.object_set.specs.ObjectSets.{objects_of}
-use Rattle.report.specs.LeftBy.{left_by}
+use Rattle.period.specs.LeftBy.{left_by}
 use Rattle.versioned_cells.proofs.LogFacts.{left-one}
 use Rattle.versioned_tables.proofs.Reading.{reads_keep}
 use Rattle.versioned_store.specs.Alike.{AlikeAnswers}
@@ -84,11 +84,14 @@ take_some [] i x e = absurd (none_is_not e)
 take_some (y ∷ xs) zero x e = ap (λ z. z ∷ []) (some_is e)
 take_some (y ∷ xs) (suc i) x e = ap (λ ys. y ∷ ys) (take_some xs i x e)
 
-calm_left : (entries : List LogEntry) (q p : ℕ) (ts : List Table) → q ≤ p → IsCalm entries q p → left_by (take p entries) (rows ts) ≡ left_by (take q entries) (rows ts)
+calm_left : (entries : List LogEntry) (q p : ℕ) (ts : List Table) → q ≤ p → IsCalm entries q p
+    → left_by (take p entries) (rows ts) ≡ left_by (take q entries) (rows ts)
 calm_left entries q zero ts l c = let none : 0 ≡ q = omega arith in ap (λ n. left_by (take n entries) (rows ts)) none
 calm_left entries q (suc p) ts l c = ⊎_elim (λ same. ap (λ n. left_by (take n entries) (rows ts)) (sym same)) (λ apart. by (nth entries p) refl (calm_left entries q p ts (omega (arith, apart)) (λ i e m n at. c i e m (omega arith) at)) (omega (arith, apart))) (cases_eq q (suc p))
   where
-    by : (o : Option LogEntry) → nth entries p ≡ o → left_by (take p entries) (rows ts) ≡ left_by (take q entries) (rows ts) → q ≤ p → left_by (take (suc p) entries) (rows ts) ≡ left_by (take q entries) (rows ts)
+    by : (o : Option LogEntry) → nth entries p ≡ o
+        → left_by (take p entries) (rows ts) ≡ left_by (take q entries) (rows ts) → q ≤ p
+        → left_by (take (suc p) entries) (rows ts) ≡ left_by (take q entries) (rows ts)
     by None e ih low = ap (λ es. left_by es (rows ts)) (take_none entries p e) ∙ ih
     by (Some x) e ih low =
         let r = left_rows (take p entries) ts in
@@ -100,10 +103,12 @@ pub tables_alike : (entries : List LogEntry) (ts : List Table) (p q : ℕ) (f e 
     → (acted f.act f.choice (left_by (take p entries) (rows ts))).1 ≡ (acted e.act e.choice (left_by (take q entries) (rows ts))).1
 tables_alike entries ts p q f e like at_p at_q =
     let r = left_rows (take q entries) ts in
-    ap (λ x. (acted f.act f.choice x).1) (calm_left entries q p ts like.before like.calm ∙ r.1) ∙ ap (λ a. (acted a f.choice (rows r.0)).1) (sym (like.same e f at_q at_p))
+    ap (λ x. (acted f.act f.choice x).1) (calm_left entries q p ts like.before like.calm ∙ r.1)
+    ∙ ap (λ a. (acted a f.choice (rows r.0)).1) (sym (like.same e f at_q at_p))
     ∙ choice_free e.act f.choice e.choice r.0 ∙ ap (λ x. (acted e.act e.choice x).1) (sym r.1)
 
-pub on_tables : (o : Logged) (p : ℕ) (e : LogEntry) → o.log.object ≡ Tables → answer_there o p e ≡ (acted e.act e.choice (left_by (take p o.log.entries) (rows o.start.tables.tables))).1
+pub on_tables : (o : Logged) (p : ℕ) (e : LogEntry) → o.log.object ≡ Tables
+    → answer_there o p e ≡ (acted e.act e.choice (left_by (take p o.log.entries) (rows o.start.tables.tables))).1
 on_tables o p e is = ap (λ object. (acted e.act e.choice (left_by (take p o.log.entries) (objects_of o.start object))).1) is
 
 pub alike_answers : AlikeAnswers

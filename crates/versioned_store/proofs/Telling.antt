@@ -11,8 +11,8 @@ use Rattle.script_tree.specs.declared.operation.Choice.{Choice}
 use Rattle.script_tree.specs.declared.operation.Choice.TheVariants.{Nothing, Number}
 use Rattle.script_tree.specs.declared.operation.Object.{Object}
 use Rattle.script_tree.specs.declared.operation.Object.TheVariants.{Register, Store, Tables, Clock, Dice}
-use Rattle.report.specs.declared.LogEntry.{LogEntry}
-use Rattle.report.specs.LeftBy.{left_by}
+use Rattle.period.specs.declared.report.LogEntry.{LogEntry}
+use Rattle.period.specs.LeftBy.{left_by}
 use Rattle.object_set.specs.Applied.{FitsSet, op_of}
 use Rattle.object_set.specs.ObjectSets.{HeldObjects, objects_of}
 use Rattle.versioned_cells.specs.Versions.{Versions as CellVersions, VersionsByKey, as_of, held_at}
@@ -165,11 +165,18 @@ told_tables o v t is tells = let told : Tells o (OfTables t) = subst (Tells o) i
 pub of_tables : (o : Logged) (v : Versions) (t : SelectedTables) → v ≡ OfTables t → Tells o v → o.log.object ≡ Tables
 of_tables o v t is tells = let told : Tells o (OfTables t) = subst (Tells o) is tells in told.0
 
-pub fit_entries : (start : HeldObjects) (object : Object) (entries : List LogEntry) → object ≡ Tables → FitAll start object entries → FitEntries start.tables.widths entries
+pub fit_entries : (start : HeldObjects) (object : Object) (entries : List LogEntry) → object ≡ Tables
+    → FitAll start object entries → FitEntries start.tables.widths entries
 fit_entries start object entries is f p e at = subst (λ object. FitsSet start (op_of object e.act)) is (f p e at)
 
-pub all_told : (o : Logged) (v : Versions) (t : SelectedTables) → v ≡ OfTables t → FitAll o.start o.log.object o.log.entries → Tells o v → IsToldSelects o.log.entries t
-all_told o v t is f tells = record { start = o.start.tables; fit = fit_entries o.start o.log.object o.log.entries (of_tables o v t is tells) f; tells = told_tables o v t is tells }
+pub all_told : (o : Logged) (v : Versions) (t : SelectedTables) → v ≡ OfTables t
+    → FitAll o.start o.log.object o.log.entries → Tells o v → IsToldSelects o.log.entries t
+all_told o v t is f tells = record {
+  start = o.start.tables;
+  fit = fit_entries o.start o.log.object o.log.entries
+      (of_tables o v t is tells) f;
+  tells = told_tables o v t is tells;
+}
 
 -- ---- objects without selects
 

@@ -9,7 +9,7 @@ use Rattle.script_tree.specs.Datum.{Datum}
 use Rattle.script_tree.specs.Objects.{Cell, acted}
 use Rattle.script_tree.specs.declared.operation.Object.{Object}
 use Rattle.script_tree.specs.declared.operation.Object.TheVariants.{Register, Store, Tables, Clock, Dice}
-use Rattle.report.specs.declared.LogEntry.{LogEntry}
+use Rattle.period.specs.declared.report.LogEntry.{LogEntry}
 use Rattle.versioned_tables.specs.OverTime.{IsAnswerThen}
 use Rattle.versioned_store.specs.Entries.{IsKept}
 use Rattle.versioned_store.specs.Logged.{Logged, cell_before, answer_there, named_cell, IsAnswer, IsCellBefore, FitsLog}
@@ -31,19 +31,23 @@ at_place (x ∷ xs) (suc p) h = at_place xs p (omega arith)
 
 -- ---- answers and cells
 
-pub answer_by : (o : Logged) (p : ℕ) (x : LogEntry) (cell : Cell) (d : Datum) → nth o.log.entries p ≡ Some x → cell_before o p ≡ cell → d ≡ (acted x.act x.choice cell).1 → IsAnswer o p d
+pub answer_by : (o : Logged) (p : ℕ) (x : LogEntry) (cell : Cell) (d : Datum) → nth o.log.entries p ≡ Some x
+    → cell_before o p ≡ cell → d ≡ (acted x.act x.choice cell).1 → IsAnswer o p d
 answer_by o p x cell d at is answer e at_e =
     answer ∙ ap (λ c. (acted x.act x.choice c).1) (sym is) ∙ ap (answer_there o p) (some_is (sym at ∙ at_e))
 
-pub answered_by : {E : Type 0} (o : Logged) (p : ℕ) (x : LogEntry) (cell : Cell) (r : Result Datum E) → nth o.log.entries p ≡ Some x → cell_before o p ≡ cell → IfOk r (λ d. d ≡ (acted x.act x.choice cell).1)
+pub answered_by : {E : Type 0} (o : Logged) (p : ℕ) (x : LogEntry) (cell : Cell) (r : Result Datum E)
+    → nth o.log.entries p ≡ Some x → cell_before o p ≡ cell → IfOk r (λ d. d ≡ (acted x.act x.choice cell).1)
     → IfOk r (IsAnswer o p)
 answered_by o p x cell r at is answer = IfOk-then r (λ d. d ≡ (acted x.act x.choice cell).1) (IsAnswer o p) (λ d same. answer_by o p x cell d at is same) answer
 
-pub answered_on_tables : {E : Type 0} (o : Logged) (p : ℕ) (r : Result Datum E) → o.log.object ≡ Tables → IfOk r (IsTablesAnswer o.log.entries o.start.tables.tables p) → IfOk r (IsAnswer o p)
+pub answered_on_tables : {E : Type 0} (o : Logged) (p : ℕ) (r : Result Datum E) → o.log.object ≡ Tables
+    → IfOk r (IsTablesAnswer o.log.entries o.start.tables.tables p) → IfOk r (IsAnswer o p)
 answered_on_tables o p r is answer =
     IfOk-then r (IsTablesAnswer o.log.entries o.start.tables.tables p) (IsAnswer o p) (λ d same e at. same e at ∙ sym (on_tables o p e is)) answer
 
-pub cell_by : (o : Logged) (p : ℕ) (x : LogEntry) (cell : Cell) (held : Option Datum) → nth o.log.entries p ≡ Some x → cell_before o p ≡ cell → held ≡ named_cell x.act cell → IsCellBefore o p held
+pub cell_by : (o : Logged) (p : ℕ) (x : LogEntry) (cell : Cell) (held : Option Datum) → nth o.log.entries p ≡ Some x
+    → cell_before o p ≡ cell → held ≡ named_cell x.act cell → IsCellBefore o p held
 cell_by o p x cell held at is same e at_e =
     same ∙ ap (named_cell x.act) (sym is) ∙ ap (λ (y : LogEntry). named_cell y.act (cell_before o p)) (some_is (sym at ∙ at_e))
 
@@ -74,7 +78,8 @@ other_object o OfDice n t = not_tables o.log.object (ap is_tables t)
 pub has_none : (o : Logged) (v : Versions) → tables_of v ≡ None → Tells o v → FitsLog o.start o.log → HasNone o
 has_none o v n tells fits p e at = no_selects o.log.object (other_object o v n tells) o.start e.act (fits p e at)
 
-pub is_of_tables : (o : Logged) (v : Versions) (t : SelectedTables) → tables_of v ≡ Some t → Tells o v → (o.log.object ≡ Tables) × TellsSelects o.log.entries o.start.tables t
+pub is_of_tables : (o : Logged) (v : Versions) (t : SelectedTables) → tables_of v ≡ Some t → Tells o v
+    → (o.log.object ≡ Tables) × TellsSelects o.log.entries o.start.tables t
 is_of_tables o (OfRegister vs) t n tells = absurd (none_is_not n)
 is_of_tables o (OfStore es) t n tells = absurd (none_is_not n)
 is_of_tables o (OfTables x) t n tells = (tells.0, subst (TellsSelects o.log.entries o.start.tables) (some_is n) tells.1)
@@ -96,16 +101,19 @@ nothing_kept o p none h = record {
 }
 
 -- an entry has one source
-one_source : (entries : List LogEntry) (p q : ℕ) (e : LogEntry) → nth entries p ≡ Some e → selects_alone e.act ≡ true → IsSource entries p p → IsSource entries p q → q ≡ p
+one_source : (entries : List LogEntry) (p q : ℕ) (e : LogEntry) → nth entries p ≡ Some e → selects_alone e.act ≡ true
+    → IsSource entries p p → IsSource entries p q → q ≡ p
 one_source entries p q e at s own source =
     let up = own.least e at s q source.like in
     let down = source.least e at s p (itself entries p) in
     omega (arith, up, down)
 
-kept_at : (o : Logged) (t : SelectedTables) (p : ℕ) (kept : Option Datum) (e : LogEntry) → nth o.log.entries p ≡ Some e → o.log.object ≡ Tables → TellsSelects o.log.entries o.start.tables t
+kept_at : (o : Logged) (t : SelectedTables) (p : ℕ) (kept : Option Datum) (e : LogEntry)
+    → nth o.log.entries p ≡ Some e → o.log.object ≡ Tables → TellsSelects o.log.entries o.start.tables t
     → nth t.kept.items p ≡ Some kept → IsKept o p kept
 kept_at o t p kept e at is told there = record {
-  there = λ own. told_own ∙ and_from (selects_alone e.act) (nat_eq q p) (own.selects e at) (eq-eqb q p (one_source o.log.entries p q e at (own.selects e at) own.source source));
+  there = λ own. told_own ∙ and_from (selects_alone e.act) (nat_eq q p) (own.selects e at)
+      (eq-eqb q p (one_source o.log.entries p q e at (own.selects e at) own.source source));
   only = λ some. let both = and_parts (selects_alone e.act) (nat_eq q p) (sym told_own ∙ some) in record {
     selects = λ x at_x. ap (λ (y : LogEntry). selects_alone y.act) (some_is (sym at_x ∙ at)) ∙ both.0;
     source = subst (IsSource o.log.entries p) (eqb-true q p both.1) source;
@@ -125,6 +133,7 @@ kept_at o t p kept e at is told there = record {
   answer None a = tt
   answer (Some d) a = λ x at_x. computed_is o.log.entries o.start.tables t.tables p e d told.tables at a x at_x ∙ sym (on_tables o p x is)
 
-pub source_kept : (o : Logged) (t : SelectedTables) (p : ℕ) (kept : Option Datum) → o.log.object ≡ Tables → TellsSelects o.log.entries o.start.tables t → p < length o.log.entries
+pub source_kept : (o : Logged) (t : SelectedTables) (p : ℕ) (kept : Option Datum) → o.log.object ≡ Tables
+    → TellsSelects o.log.entries o.start.tables t → p < length o.log.entries
     → nth t.kept.items p ≡ Some kept → IsKept o p kept
 source_kept o t p kept is told h there = let at = at_place o.log.entries p h in kept_at o t p kept at.0 at.1 is told there

@@ -3,7 +3,7 @@ use Rattle.std.specs.Prelude.{◌≡◌, ℕ, ◌<◌, true, List, length, Optio
 use Rattle.std.specs.Option.{is_some}
 use Rattle.basis.specs.Lists.{nth}
 use Rattle.script_tree.specs.Datum.{Datum}
-use Rattle.report.specs.declared.LogEntry.{LogEntry}
+use Rattle.period.specs.declared.report.LogEntry.{LogEntry}
 use Rattle.versioned_store.specs.Logged.{Logged, IsAnswer, IsCellBefore}
 use Rattle.versioned_store.specs.Sources.{IsSource, selects_alone}
 
@@ -28,14 +28,18 @@ pub record HasEntry (logs : List Logged) (l p : ℕ) : Type 0 where
   pub log_is : nth logs l ≡ Some object
   pub within : p < length object.log.entries
 
+-- The entry at a position of the log of this number, where there is one, is answered so.
 abbrev pub IsAnswerIn : List Logged → ℕ → ℕ → Datum → Type 0
 IsAnswerIn logs l p d = (o : Logged) → nth logs l ≡ Some o → IsAnswer o p d
 
+-- The cell of such an entry held this before.
 abbrev pub IsCellIn : List Logged → ℕ → ℕ → Option Datum → Type 0
 IsCellIn logs l p held = (o : Logged) → nth logs l ≡ Some o → IsCellBefore o p held
 
+-- The source of such an entry is the entry at the other position.
 abbrev pub IsSourceIn : List Logged → ℕ → ℕ → ℕ → Type 0
 IsSourceIn logs l p q = (o : Logged) → nth logs l ≡ Some o → IsSource o.log.entries p q
 
+-- This is kept of such an entry.
 abbrev pub IsKeptIn : List Logged → ℕ → ℕ → Option Datum → Type 0
 IsKeptIn logs l p kept = (o : Logged) → nth logs l ≡ Some o → IsKept o p kept

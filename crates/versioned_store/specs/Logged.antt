@@ -7,10 +7,10 @@ use Rattle.script_tree.specs.Objects.{Cell, one, many, rows, reading, none, acte
 use Rattle.script_tree.specs.declared.operation.Act.{Act}
 use Rattle.script_tree.specs.declared.operation.Act.TheVariants.{Get, Put, Remove}
 use Rattle.script_tree.specs.declared.operation.Object.{Object}
-use Rattle.report.specs.declared.Log.{Log}
-use Rattle.report.specs.declared.LogEntry.{LogEntry}
-use Rattle.report.specs.contracts.Log as log_row
-use Rattle.report.specs.LeftBy.{left_by}
+use Rattle.period.specs.declared.report.Log.{Log}
+use Rattle.period.specs.declared.report.LogEntry.{LogEntry}
+use Rattle.period.specs.contracts.report.Log as log_row
+use Rattle.period.specs.LeftBy.{left_by}
 use Rattle.object_set.specs.Applied.{FitsSet, op_of}
 use Rattle.object_set.specs.ObjectSets.{HeldObjects, objects_of, coded_objects}
 
@@ -19,6 +19,7 @@ pub record Logged : Type 0 where
   pub start : HeldObjects
   pub log : Log
 
+-- an object by its log, where this is what all objects held at the start
 abbrev pub logged : HeldObjects → Log → Logged
 logged start log = record { start = start; log = log }
 
@@ -57,6 +58,7 @@ IsCellBefore o p held = (e : LogEntry) → nth o.log.entries p ≡ Some e → he
 
 -- ---- entries that fit
 
+-- Each of these entries is an operation that the object is asked for.
 abbrev pub FitAll : HeldObjects → Object → List LogEntry → Type 0
 FitAll start object entries = (p : ℕ) (e : LogEntry) → nth entries p ≡ Some e → FitsSet start (op_of object e.act)
 
@@ -64,5 +66,6 @@ FitAll start object entries = (p : ℕ) (e : LogEntry) → nth entries p ≡ Som
 abbrev pub FitsLog : HeldObjects → Log → Type 0
 FitsLog start log = FitAll start log.object log.entries
 
+-- Each log's entries are such operations.
 abbrev pub FitLogs : HeldObjects → List Log → Type 0
 FitLogs start logs = (l : ℕ) (log : Log) → nth logs l ≡ Some log → FitsLog start log

@@ -3,6 +3,7 @@ use Rattle.versioned_store.specs.Logged.{Logged, logged, FitsLog}
 use Rattle.versioned_store.specs.Tellings.{Tells}
 use Rattle.versioned_store.specs.declared.logged.VersionedLog.TheInside.{Inside}
 
+-- the object by its log that versions of the code are of
 abbrev pub logged_in : Inside → Logged
 logged_in a = logged a.start.now a.log.now
 

@@ -5,8 +5,8 @@ use Rattle.basis.specs.Lists.{nth}
 use Rattle.script_tree.specs.Datum.{Datum}
 use Rattle.script_tree.specs.Objects.{rows, acted}
 use Rattle.script_tree.specs.Transactions.{Table}
-use Rattle.report.specs.declared.LogEntry.{LogEntry}
-use Rattle.report.specs.LeftBy.{left_by}
+use Rattle.period.specs.declared.report.LogEntry.{LogEntry}
+use Rattle.period.specs.LeftBy.{left_by}
 use Rattle.object_tables.specs.TableSets.{TableSet}
 use Rattle.versioned_tables.specs.OverTime.{OverTime, TellsTables, FitEntries, IsAnswerThen}
 use Rattle.versioned_store.specs.Sources.{AreSources, selects_alone}

@@ -6,7 +6,7 @@ ghost use Rattle.versioned_store.specs.Logged.{FitAll, FitsLog, FitLogs};
 
 use object_set::ObjectSet;
 use object_tables::tables::Tables;
-use report::{Log, LogEntry};
+use period::report::{Log, LogEntry};
 use script_tree::limits::MOST_KEY_BYTES;
 use script_tree::operation::{Act, Object};
 use script_tree::text::Text;

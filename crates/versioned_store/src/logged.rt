@@ -8,7 +8,7 @@ ghost use Rattle.versioned_store.specs.Sources.{IsSource};
 
 use crate::versions::{Versions, versions_of};
 use object_set::ObjectSet;
-use report::{Log, LogEntry};
+use period::report::{Log, LogEntry};
 use script_tree::operation::{Act, Choice};
 use script_tree::value::Value;
 use std::alloc::{AllocError, Global};

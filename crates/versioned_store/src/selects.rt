@@ -10,7 +10,7 @@ ghost use Rattle.versioned_store.specs.Tables.{AreKept, TellsSelects, IsToldSele
 use crate::acts::selects_alone;
 use crate::sources::sources_of;
 use object_tables::tables::Tables;
-use report::LogEntry;
+use period::report::LogEntry;
 use script_tree::value::Value;
 use std::alloc::{AllocError, Global};
 use versioned_cells::next_position;

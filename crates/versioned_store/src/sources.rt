@@ -4,7 +4,7 @@ ghost use Rattle.versioned_tables.specs.Reads.{keeps_tables};
 ghost use Rattle.versioned_store.specs.Sources.{AreSources};
 
 use crate::acts::selects_alone;
-use report::LogEntry;
+use period::report::LogEntry;
 use script_tree::operation::Act;
 use std::alloc::{AllocError, Global};
 use std::collections::BTreeMap;

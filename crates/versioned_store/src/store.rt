@@ -5,7 +5,7 @@ ghost use Rattle.versioned_store.specs.Entries.{HasEntry, IsAnswerIn, IsCellIn, 
 
 use crate::logged::VersionedLog;
 use object_set::ObjectSet;
-use report::Log;
+use period::report::Log;
 use script_tree::value::Value;
 use std::alloc::{AllocError, Global};
 use std::marker::Model;

@@ -8,7 +8,7 @@ ghost use Rattle.versioned_store.specs.Tellings.{Tells, tables_of};
 use crate::selects::SelectedTables;
 use object_cells::Store;
 use object_set::ObjectSet;
-use report::{Log, LogEntry};
+use period::report::{Log, LogEntry};
 use script_tree::operation::Object;
 use script_tree::text::Text;
 use script_tree::value::Value;

@@ -22,11 +22,11 @@ use Rattle.script_fit.specs.FitsOperation.{FitsTables}
 use Rattle.script_fit.specs.FitsTransaction.{FitsTransaction}
 use Rattle.script_fit.proofs.TableRows.{AreRows, table_of_rows}
 use Rattle.script_fit.proofs.Transacted.{transacted}
-use Rattle.report.specs.declared.LogEntry.{LogEntry}
+use Rattle.period.specs.declared.report.LogEntry.{LogEntry}
 use Rattle.object_tables.specs.Keys.{is_key, row_at}
 use Rattle.object_tables.specs.TableSets.{TableSet}
 use Rattle.object_tables.proofs.Keeping.{as_many}
-use Rattle.report.specs.LeftBy.{left_by}
+use Rattle.period.specs.LeftBy.{left_by}
 use Rattle.versioned_cells.specs.Versions.{VersionsByKey, as_of, held_at, history_at, AreUntil, AreAllUntil, AreChanges, Notes}
 use Rattle.versioned_cells.proofs.HistoryFacts.{notes_at}
 use Rattle.versioned_cells.proofs.LogFacts.{left-one, prefix_more}
@@ -46,12 +46,15 @@ transaction widths (Transact ss) f = (ss, refl)
 transaction widths Now f = absurd f
 transaction widths (Roll bound) f = absurd f
 
-acts : (ss : List Statement) (c : Choice) (tables : List Table) → acted (Transact ss) c (rows tables) ≡ (rows (after_transaction ss tables).0, (after_transaction ss tables).1)
+acts : (ss : List Statement) (c : Choice) (tables : List Table)
+    → acted (Transact ss) c (rows tables) ≡ (rows (after_transaction ss tables).0, (after_transaction ss tables).1)
 unfolding acted
 acts ss c tables = refl
 
-moved : (widths : List ℕ) (start : Cell) (xs : List LogEntry) (i : ℕ) (e : LogEntry) (ss : List Statement) (old new : RowsOverTime) → length xs ≡ i → e.act ≡ Transact ss → FitsTransaction widths ss
-    → ((p : ℕ) → Holds (left_by (take p xs) start) p (over_time widths old)) → Advances widths i ss old new → (p : ℕ) → Holds (left_by (take p (xs ++ e ∷ [])) start) p (over_time widths new)
+moved : (widths : List ℕ) (start : Cell) (xs : List LogEntry) (i : ℕ) (e : LogEntry) (ss : List Statement)
+    (old new : RowsOverTime) → length xs ≡ i → e.act ≡ Transact ss → FitsTransaction widths ss
+    → ((p : ℕ) → Holds (left_by (take p xs) start) p (over_time widths old)) → Advances widths i ss old new → (p : ℕ)
+    → Holds (left_by (take p (xs ++ e ∷ [])) start) p (over_time widths new)
 moved widths start xs i e ss old new l is f tells adv p = by (nat_le (i + 1) p) refl where
   by : (b : Bool) → nat_le (i + 1) p ≡ b → Holds (left_by (take p (xs ++ e ∷ [])) start) p (over_time widths new)
   by true h =
@@ -61,7 +64,9 @@ moved widths start xs i e ss old new l is f tells adv p = by (nat_le (i + 1) p) 
       let some : take i xs ≡ xs = take_all i xs (omega arith) in
       record {
         tables = (after_transaction ss t.tables).0;
-        is = ap (λ es. left_by es start) all ∙ left-one xs e start ∙ ap (λ es. (acted e.act e.choice (left_by es start)).0) (sym some) ∙ ap (λ cell. (acted e.act e.choice cell).0) t.is
+        is = ap (λ es. left_by es start) all ∙ left-one xs e start
+            ∙ ap (λ es. (acted e.act e.choice (left_by es start)).0) (sym some)
+            ∙ ap (λ cell. (acted e.act e.choice cell).0) t.is
             ∙ ap (λ a. (acted a e.choice (rows t.tables)).0) is ∙ ap (λ (r : Cell × Datum). r.0) (acts ss e.choice t.tables);
         fit = transacted widths ss t.tables t.fit f;
         standing = adv.after t.tables t.fit t.standing p h;
@@ -76,20 +81,25 @@ moved widths start xs i e ss old new l is f tells adv p = by (nat_le (i + 1) p) 
         standing = λ u k. adv.before p u k h ∙ t.standing u k;
       }
 
-pub tells_more : (widths : List ℕ) (start : TableSet) (entries : List LogEntry) (i : ℕ) (e : LogEntry) (old new : RowsOverTime) → i < length entries → e ≡ get_or entries i e → FitsTables widths e.act
-    → TellsTables (take i entries) start (over_time widths old) → AdvancesBy widths i e.act old new → TellsTables (take (i + 1) entries) start (over_time widths new)
+pub tells_more : (widths : List ℕ) (start : TableSet) (entries : List LogEntry) (i : ℕ) (e : LogEntry)
+    (old new : RowsOverTime) → i < length entries → e ≡ get_or entries i e → FitsTables widths e.act
+    → TellsTables (take i entries) start (over_time widths old) → AdvancesBy widths i e.act old new
+    → TellsTables (take (i + 1) entries) start (over_time widths new)
 tells_more widths start entries i e old new h is f tells adv =
     let t = transaction widths e.act f in
     record {
       widths = tells.widths;
       holds = λ p. subst (λ es. Holds (left_by (take p es) (rows start.tables)) p (over_time widths new)) (sym (prefix_more entries i e h is))
-          (moved widths (rows start.tables) (take i entries) i e t.0 old new (length-take-le i entries (omega arith)) t.1 (subst (FitsTables widths) t.1 f) tells.holds (subst (λ a. AdvancesBy widths i a old new) t.1 adv) p);
+          (moved widths (rows start.tables) (take i entries) i e t.0 old new
+          (length-take-le i entries (omega arith)) t.1 (subst (FitsTables widths) t.1 f) tells.holds
+          (subst (λ a. AdvancesBy widths i a old new) t.1 adv) p);
     }
 
 pub from_more : (widths : List ℕ) (i : ℕ) (a : Act) (old new : RowsOverTime) → FitsTables widths a → AdvancesBy widths i a old new → AreFrom (i + 1) new
 from_more widths i a old new f adv = let t = transaction widths a f in let d : Advances widths i t.0 old new = subst (λ a. AdvancesBy widths i a old new) t.1 adv in d.until
 
-pub changes_more : (widths : List ℕ) (i : ℕ) (a : Act) (old new : RowsOverTime) → FitsTables widths a → AdvancesBy widths i a old new → AllChange old → AllChange new
+pub changes_more : (widths : List ℕ) (i : ℕ) (a : Act) (old new : RowsOverTime) → FitsTables widths a
+    → AdvancesBy widths i a old new → AllChange old → AllChange new
 changes_more widths i a old new f adv = let t = transaction widths a f in let d : Advances widths i t.0 old new = subst (λ a. AdvancesBy widths i a old new) t.1 adv in d.changes
 
 pub count_more : (widths : List ℕ) (i : ℕ) (a : Act) (old new : RowsOverTime) → FitsTables widths a → AdvancesBy widths i a old new → length new ≡ length old
@@ -100,15 +110,18 @@ nth_get [] i x d h is = absurd (omega arith)
 nth_get (y ∷ xs) zero x d h is = ap Some (sym is)
 nth_get (y ∷ xs) (suc i) x d h is = nth_get xs i x d (omega arith) is
 
-pub entry_fits : (widths : List ℕ) (entries : List LogEntry) (i : ℕ) (e : LogEntry) → FitEntries widths entries → i < length entries → e ≡ get_or entries i e → FitsTables widths e.act
+pub entry_fits : (widths : List ℕ) (entries : List LogEntry) (i : ℕ) (e : LogEntry) → FitEntries widths entries
+    → i < length entries → e ≡ get_or entries i e → FitsTables widths e.act
 entry_fits widths entries i e f h is = f i e (nth_get entries i e e h is)
 
-pub stands_at : (widths : List ℕ) (start : TableSet) (entries : List LogEntry) (p : ℕ) (hs : RowsOverTime) → TellsTables entries start (over_time widths hs) → Stands widths p hs
+pub stands_at : (widths : List ℕ) (start : TableSet) (entries : List LogEntry) (p : ℕ) (hs : RowsOverTime)
+    → TellsTables entries start (over_time widths hs) → Stands widths p hs
 stands_at widths start entries p hs tells = let t = tells.holds p in record { tables = t.tables; fit = t.fit; rows = t.standing }
 
 -- ---- the start
 
-pub tells_none : (widths : List ℕ) (start : TableSet) (hs : RowsOverTime) → widths ≡ start.widths → BeginsTables start hs → TellsTables [] start (over_time widths hs)
+pub tells_none : (widths : List ℕ) (start : TableSet) (hs : RowsOverTime) → widths ≡ start.widths
+    → BeginsTables start hs → TellsTables [] start (over_time widths hs)
 tells_none widths start hs same b = record {
   widths = same;
   holds = λ p. record { tables = start.tables; is = none p; fit = subst (λ ws. AreTables ws start.tables) (sym same) b.fit; standing = b.rows p };
@@ -117,7 +130,8 @@ tells_none widths start hs same b = record {
   none zero = refl
   none (suc p) = refl
 
-begin_one : (tables : List Table) (hs : RowsOverTime) (table : Table) (es : VersionsByKey Row) → BeginAll tables hs → BeginsTable table es → BeginAll (tables ++ table ∷ []) (hs ++ es ∷ [])
+begin_one : (tables : List Table) (hs : RowsOverTime) (table : Table) (es : VersionsByKey Row) → BeginAll tables hs
+    → BeginsTable table es → BeginAll (tables ++ table ∷ []) (hs ++ es ∷ [])
 begin_one [] [] table es a b = (b, tt)
 begin_one [] (x ∷ hs) table es a b = absurd a
 begin_one (t ∷ ts) [] table es a b = absurd a
@@ -128,7 +142,8 @@ at_place [] t = refl
 at_place (x ∷ xs) zero = refl
 at_place (x ∷ xs) (suc t) = at_place xs t
 
-pub begin_more : (tables : List Table) (t : ℕ) (table : Table) (old new : RowsOverTime) (es : VersionsByKey Row) → t < length tables → table ≡ table_at t tables → new ≡ old ++ es ∷ []
+pub begin_more : (tables : List Table) (t : ℕ) (table : Table) (old new : RowsOverTime) (es : VersionsByKey Row)
+    → t < length tables → table ≡ table_at t tables → new ≡ old ++ es ∷ []
     → BeginAll (take t tables) old → BeginsTable table es → BeginAll (take (t + 1) tables) new
 begin_more tables t table old new es h is more a b =
     let next : take (t + 1) tables ≡ take t tables ++ table ∷ [] = take_more tables t [] h ∙ ap (λ x. take t tables ++ x ∷ []) (at_place tables t ∙ sym is) in
@@ -161,13 +176,15 @@ count_begin [] (x ∷ hs) a = absurd a
 count_begin (y ∷ ts) [] a = absurd a
 count_begin (y ∷ ts) (x ∷ hs) a = ap suc (count_begin ts hs a.1)
 
-pub begin_all : (start : TableSet) (n : ℕ) (hs : RowsOverTime) → AreTables start.widths start.tables → length start.widths ≤ n → BeginAll (take n start.tables) hs → BeginsTables start hs
+pub begin_all : (start : TableSet) (n : ℕ) (hs : RowsOverTime) → AreTables start.widths start.tables
+    → length start.widths ≤ n → BeginAll (take n start.tables) hs → BeginsTables start hs
 begin_all start n hs fit l a =
     let many = as_many start.widths start.tables fit in
     let all : BeginAll start.tables hs = subst (λ ts. BeginAll ts hs) (take_all n start.tables (omega arith)) a in
     record { rows = λ p. rows_begin start.tables hs p all; until = until_begin start.tables hs all; count = count_begin start.tables hs all ∙ sym many; changes = changes_begin start.tables hs all; fit = fit }
 
-pub table_here : (widths : List ℕ) (tables : List Table) (t : ℕ) (table : Table) → AreTables widths tables → table ≡ table_at t tables → (width : ℕ) × IsTable width table
+pub table_here : (widths : List ℕ) (tables : List Table) (t : ℕ) (table : Table) → AreTables widths tables
+    → table ≡ table_at t tables → (width : ℕ) × IsTable width table
 table_here widths tables t table fit is = let r = rows_there widths tables t fit in (r.0, subst (IsTable r.0) (sym is) (table_of_rows r.0 (table_at t tables) r.1))
 
 pub within : (widths : List ℕ) (tables : List Table) (t : ℕ) → AreTables widths tables → t < length widths → t < length tables
@@ -176,12 +193,15 @@ within widths tables t fit h = omega (arith, as_many widths tables fit)
 -- ---- one table
 
 -- the first of some rows is noted
-pub row_more : (w : ℕ) (all : Table) (x copy : Row) (k0 : List ℕ) (rest : Table) (old new : VersionsByKey Row) → copy ≡ x → key x ≡ text k0 → AreRows w (x ∷ rest)
+pub row_more : (w : ℕ) (all : Table) (x copy : Row) (k0 : List ℕ) (rest : Table) (old new : VersionsByKey Row)
+    → copy ≡ x → key x ≡ text k0 → AreRows w (x ∷ rest)
     → ((p : ℕ) (k : List ℕ) → or_else (row_at k (x ∷ rest)) (held_at p old k) ≡ row_at k all)
     → Notes 0 k0 (Some copy) old new → (p : ℕ) (k : List ℕ) → or_else (row_at k rest) (held_at p new k) ≡ row_at k all
 unfolding or_else
 row_more w all x copy k0 rest old new same is are at notes p k =
-    ap (or_else (row_at k rest)) (notes_at 0 k0 (Some copy) old new notes p k ∙ ap (λ b. cond b (cond (bytes_eq k k0) (Some copy) (held_at p old k)) (held_at p old k)) (le-leb 0 p (omega arith)))
+    ap (or_else (row_at k rest)) (notes_at 0 k0 (Some copy) old new notes p k
+    ∙ ap (λ b. cond b (cond (bytes_eq k k0) (Some copy) (held_at p old k)) (held_at p old k))
+    (le-leb 0 p (omega arith)))
     ∙ by (bytes_eq k k0) refl ∙ at p k
   where
     tested : is_key k x ≡ bytes_eq k k0
@@ -205,7 +225,8 @@ RowsChange es = (k : List ℕ) → AreChanges None (history_at k es)
 pub is_key_of : (k k0 : List ℕ) (x : Row) → key x ≡ text k0 → is_key k x ≡ bytes_eq k k0
 is_key_of k k0 x is = ap (λ d. is_eq (compare (text k) d)) is ∙ is_eq-slice_cmp k k0
 
-pub fresh_more : (w : ℕ) (x copy : Row) (k0 : List ℕ) (rest : Table) (old new : VersionsByKey Row) → key x ≡ text k0 → AreRows w (x ∷ rest) → IsFresh (x ∷ rest) old
+pub fresh_more : (w : ℕ) (x copy : Row) (k0 : List ℕ) (rest : Table) (old new : VersionsByKey Row) → key x ≡ text k0
+    → AreRows w (x ∷ rest) → IsFresh (x ∷ rest) old
     → Notes 0 k0 (Some copy) old new → IsFresh rest new
 fresh_more w x copy k0 rest old new is are fresh notes k h = at (bytes_eq k k0) refl where
   at : (b : Bool) → bytes_eq k k0 ≡ b → history_at k new ≡ []
@@ -217,7 +238,8 @@ fresh_more w x copy k0 rest old new is are fresh notes k h = at (bytes_eq k k0) 
       let other : is_key k x ≡ false = is_key_of k k0 x is ∙ e in
       notes k ∙ ap (λ b. cond b (history_at k old ++ (0, Some copy) ∷ []) (history_at k old)) e ∙ fresh k (rw other h)
 
-pub row_changes : (x copy : Row) (k0 : List ℕ) (rest : Table) (old new : VersionsByKey Row) → key x ≡ text k0 → IsFresh (x ∷ rest) old → Notes 0 k0 (Some copy) old new
+pub row_changes : (x copy : Row) (k0 : List ℕ) (rest : Table) (old new : VersionsByKey Row) → key x ≡ text k0
+    → IsFresh (x ∷ rest) old → Notes 0 k0 (Some copy) old new
     → RowsChange old → RowsChange new
 row_changes x copy k0 rest old new is fresh notes c k = subst (AreChanges None) (sym (notes k)) (at (bytes_eq k k0) refl) where
   at : (b : Bool) → bytes_eq k k0 ≡ b → AreChanges None (cond b (history_at k old ++ (0, Some copy) ∷ []) (history_at k old))
@@ -238,7 +260,9 @@ fresh_none all es none k h = ap (history_at k) none
 pub no_changes : (es : VersionsByKey Row) → es ≡ [] → RowsChange es
 no_changes es none k = subst (λ x. AreChanges None (history_at k x)) (sym none) tt
 
-pub rows_all : (all rest : Table) (es : VersionsByKey Row) → rest ≡ [] → ((p : ℕ) (k : List ℕ) → or_else (row_at k rest) (held_at p es k) ≡ row_at k all) → AreAllUntil 0 es → RowsChange es
+pub rows_all : (all rest : Table) (es : VersionsByKey Row) → rest ≡ []
+    → ((p : ℕ) (k : List ℕ) → or_else (row_at k rest) (held_at p es k) ≡ row_at k all) → AreAllUntil 0 es
+    → RowsChange es
     → BeginsTable all es
 unfolding or_else
 rows_all all rest es none at until changes = record {
@@ -248,7 +272,8 @@ rows_all all rest es none at until changes = record {
 }
 
 -- what begins a table does where its histories are the same under each key
-pub begins_alike : (table : Table) (es others : VersionsByKey Row) → ((k : List ℕ) → history_at k others ≡ history_at k es) → BeginsTable table es → BeginsTable table others
+pub begins_alike : (table : Table) (es others : VersionsByKey Row)
+    → ((k : List ℕ) → history_at k others ≡ history_at k es) → BeginsTable table es → BeginsTable table others
 begins_alike table es others same b = record {
   rows = λ p k. ap (as_of p None) (same k) ∙ b.rows p k;
   until = λ k. subst (AreUntil 0) (sym (same k)) (b.until k);
@@ -267,9 +292,12 @@ until_none es none k = subst (λ x. AreUntil 0 (history_at k x)) (sym none) (λ 
 
 -- ---- an answer
 
-pub answers_then : (a : Act) (ss : List Statement) (p : ℕ) (v : OverTime) (d : Datum) → a ≡ Transact ss → IsAnswerAt v.widths p v.rows ss d → IsAnswerThen a p v d
+pub answers_then : (a : Act) (ss : List Statement) (p : ℕ) (v : OverTime) (d : Datum) → a ≡ Transact ss
+    → IsAnswerAt v.widths p v.rows ss d → IsAnswerThen a p v d
 answers_then a ss p v d is answers cell choice holds =
-    answers holds.tables holds.fit holds.standing ∙ sym (ap (λ x. (acted x choice cell).1) is ∙ ap (λ c. (acted (Transact ss) choice c).1) holds.is ∙ ap (λ (r : Cell × Datum). r.1) (acts ss choice holds.tables))
+    answers holds.tables holds.fit holds.standing
+    ∙ sym (ap (λ x. (acted x choice cell).1) is ∙ ap (λ c. (acted (Transact ss) choice c).1) holds.is
+    ∙ ap (λ (r : Cell × Datum). r.1) (acts ss choice holds.tables))
 
 pub IfOk-map : {T E : Type 0} {P Q : T → Type 0} (r : Result T E) → ((x : T) → P x → Q x) → IfOk r P → IfOk r Q
 IfOk-map (Ok x) f p = f x p

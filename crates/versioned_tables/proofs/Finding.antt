@@ -57,7 +57,8 @@ pub found_none : (hs : RowsOverTime) (found : List (Option (ℕ × Row))) → fo
 found_none hs found none p f e = absurd (none_is_not (subst (λ fs. nth fs p ≡ Some (Some f)) none e))
 
 pub found_more : (widths : List ℕ) (i : ℕ) (a : Act) (old new : RowsOverTime) (found more : List (Option (ℕ × Row))) (o : Option (ℕ × Row))
-    → FitsTables widths a → AdvancesBy widths i a old new → length found ≡ i → more ≡ found ++ o ∷ [] → IfSome o (IsFoundAt i old) → AreFound old found → AreFound new more
+    → FitsTables widths a → AdvancesBy widths i a old new → length found ≡ i → more ≡ found ++ o ∷ []
+    → IfSome o (IsFoundAt i old) → AreFound old found → AreFound new more
 found_more widths i a old new found more o fits by count is here all p f e = at (nat_le i p) refl where
   there : nth (found ++ o ∷ []) p ≡ Some (Some f)
   there = subst (λ fs. nth fs p ≡ Some (Some f)) is e

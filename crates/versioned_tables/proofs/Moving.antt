@@ -24,6 +24,8 @@ use Rattle.script_tree.specs.declared.transaction.Statement.{Statement}
 use Rattle.script_tree.specs.declared.transaction.Statement.TheVariants.{Insert, Select, Update, Delete, Expect}
 use Rattle.script_fit.specs.FitsTransaction.{FitsStatement, FitStatements, FitsTransaction}
 use Rattle.script_fit.proofs.TableRows.{IsBelow, AreRows}
+use Rattle.script_fit.specs.TransactionOf.{IsTransactionOf}
+use Rattle.script_fit.proofs.ActOf.{transaction_fits}
 use Rattle.script_fit.proofs.Transacted.{transacted}
 use Rattle.object_tables.specs.Keys.{is_key, row_at}
 use Rattle.object_tables.specs.TableSets.{TableSet}
@@ -43,7 +45,8 @@ use Rattle.versioned_tables.proofs.PartRows.{rows_there}
 pub by_key : (keys : Keys) → IsByKey (is_among keys)
 by_key [] t a b e = refl
 by_key (x ∷ keys) t a b e =
-    ap (λ c. (nat_eq x.0 t && is_eq c) || is_among keys t a) (alike_right compare_total (key a) (key b) (text x.1) e) ∙ ap (λ c. (nat_eq x.0 t && is_key x.1 b) || c) (by_key keys t a b e)
+    ap (λ c. (nat_eq x.0 t && is_eq c) || is_among keys t a) (alike_right compare_total (key a) (key b) (text x.1) e)
+    ∙ ap (λ c. (nat_eq x.0 t && is_key x.1 b) || c) (by_key keys t a b e)
 
 -- a row of this key is among them where the key is
 pub among_in : (keys : Keys) (t : ℕ) (k : List ℕ) (row : Row) → compare (text k) (key row) ≡ Equal → is_among keys t row ≡ is_in keys t k
@@ -67,12 +70,14 @@ row_kept p k h (x ∷ xs) = at (is_key k x) refl (p x) refl (row_kept p k h xs) 
   at false f false g ih = rw g (rw f ih)
 
 -- the row of a key in the part, and of another one outside
-pub in_part : (keys : Keys) (t : ℕ) (k : List ℕ) (tables : List Table) → is_in keys t k ≡ true → row_at k (table_at t (kept (is_among keys) tables)) ≡ row_at k (table_at t tables)
+pub in_part : (keys : Keys) (t : ℕ) (k : List ℕ) (tables : List Table) → is_in keys t k ≡ true
+    → row_at k (table_at t (kept (is_among keys) tables)) ≡ row_at k (table_at t tables)
 in_part keys t k tables e =
     ap (row_at k) (kept_at (is_among keys) t tables)
     ∙ row_kept (is_among keys t) k (λ row h. among_in keys t k row (equal_of (compare (text k) (key row)) h) ∙ e) (table_at t tables)
 
-pub out_of_part : (keys : Keys) (t : ℕ) (k : List ℕ) (tables : List Table) → is_in keys t k ≡ false → row_at k (table_at t (others (is_among keys) tables)) ≡ row_at k (table_at t tables)
+pub out_of_part : (keys : Keys) (t : ℕ) (k : List ℕ) (tables : List Table) → is_in keys t k ≡ false
+    → row_at k (table_at t (others (is_among keys) tables)) ≡ row_at k (table_at t tables)
 out_of_part keys t k tables e =
     ap (row_at k) (kept_at (outside (is_among keys)) t tables)
     ∙ row_kept (outside (is_among keys) t) k (λ row h. ap not (among_in keys t k row (equal_of (compare (text k) (key row)) h) ∙ e)) (table_at t tables)
@@ -99,7 +104,9 @@ key_text w [] i row t e = absurd (none_is_not e)
 key_text w (x ∷ xs) zero row t e = (t.0.key.0, ap key (sym (some_is e)) ∙ t.0.key.1)
 key_text w (x ∷ xs) (suc i) row t e = key_text w xs i row t.2 e
 
-none_meets : (m p : Row → Bool) (xs : Table) → ((i : ℕ) (row : Row) → nth xs i ≡ Some row → m row ≡ true → p row ≡ true) → filter m (filter (λ r. not (p r)) xs) ≡ []
+none_meets : (m p : Row → Bool) (xs : Table)
+    → ((i : ℕ) (row : Row) → nth xs i ≡ Some row → m row ≡ true → p row ≡ true)
+    → filter m (filter (λ r. not (p r)) xs) ≡ []
 none_meets m p [] h = refl
 none_meets m p (x ∷ xs) h = at (p x) refl (m x) refl (none_meets m p xs (λ i row e f. h (suc i) row e f)) where
   at : (b : Bool) → p x ≡ b → (c : Bool) → m x ≡ c → filter m (filter (λ r. not (p r)) xs) ≡ [] → filter m (filter (λ r. not (p r)) (x ∷ xs)) ≡ []
@@ -114,7 +121,8 @@ stood p k row es e = by (lookup (is_at (slice_cmp nat_cmp k)) es) e where
   by None f = absurd (none_is_not f)
   by (Some vs) f = refl
 
-found : (p : ℕ) (hs : RowsOverTime) (keys : Keys) (widths : List ℕ) (tables : List Table) (t : ℕ) (tests : List Test) → AreTables widths tables → IsStanding p hs tables
+found : (p : ℕ) (hs : RowsOverTime) (keys : Keys) (widths : List ℕ) (tables : List Table) (t : ℕ) (tests : List Test)
+    → AreTables widths tables → IsStanding p hs tables
     → Finds keys t tests (slice_index_or hs t []) → meeting_rows tests (table_at t (others (is_among keys) tables)) ≡ []
 found p hs keys widths tables t tests fit standing finds =
     ap (meeting_rows tests) (kept_at (outside (is_among keys)) t tables)
@@ -122,9 +130,11 @@ found p hs keys widths tables t tests fit standing finds =
     let are = rows_there widths tables t fit in
     let k = key_text are.0 (table_at t tables) i row are.1 e in
     let here = standing t k.0 ∙ own_row are.0 (table_at t tables) i row k.0 are.1 e k.1 in
-    among_in keys t k.0 row (ap (compare (text k.0)) k.1 ∙ tied_itself compare_total (text k.0)) ∙ finds row k.0 k.1 m (stood p k.0 row (slice_index_or hs t []) here))
+    among_in keys t k.0 row (ap (compare (text k.0)) k.1 ∙ tied_itself compare_total (text k.0))
+    ∙ finds row k.0 k.1 m (stood p k.0 row (slice_index_or hs t []) here))
 
-spares : (p : ℕ) (hs : RowsOverTime) (keys : Keys) (widths : List ℕ) (tables : List Table) (s : Statement) → AreTables widths tables → IsStanding p hs tables → FitsStatement widths s
+spares : (p : ℕ) (hs : RowsOverTime) (keys : Keys) (widths : List ℕ) (tables : List Table) (s : Statement)
+    → AreTables widths tables → IsStanding p hs tables → FitsStatement widths s
     → Reaches hs keys s → Spares (is_among keys) (others (is_among keys) tables) s
 spares p hs keys widths tables (Insert t row) fit standing f r =
     let k = f.2.key in
@@ -134,30 +144,41 @@ spares p hs keys widths tables (Update t changes tests) fit standing f r = found
 spares p hs keys widths tables (Delete t tests) fit standing f r = found p hs keys widths tables t tests fit standing r
 spares p hs keys widths tables (Expect n t tests) fit standing f r = found p hs keys widths tables t tests fit standing r
 
-all_spare : (p : ℕ) (hs : RowsOverTime) (keys : Keys) (widths : List ℕ) (tables : List Table) (ss : List Statement) → AreTables widths tables → IsStanding p hs tables → FitStatements widths ss
+all_spare : (p : ℕ) (hs : RowsOverTime) (keys : Keys) (widths : List ℕ) (tables : List Table) (ss : List Statement)
+    → AreTables widths tables → IsStanding p hs tables → FitStatements widths ss
     → AllReached hs keys ss → AllSpare (is_among keys) (others (is_among keys) tables) ss
 all_spare p hs keys widths tables [] fit standing f r = tt
-all_spare p hs keys widths tables (s ∷ ss) fit standing f r = (spares p hs keys widths tables s fit standing f.0 r.0, all_spare p hs keys widths tables ss fit standing f.1 r.1)
+all_spare p hs keys widths tables (s ∷ ss) fit standing f r =
+    (spares p hs keys widths tables s fit standing f.0 r.0, all_spare p hs keys widths tables ss fit standing f.1 r.1)
 
-pub alike : (p : ℕ) (hs : RowsOverTime) (keys : Keys) (widths : List ℕ) (tables : List Table) (ss : List Statement) → AreTables widths tables → IsStanding p hs tables → FitsTransaction widths ss
+pub alike : (p : ℕ) (hs : RowsOverTime) (keys : Keys) (widths : List ℕ) (tables : List Table) (ss : List Statement)
+    → AreTables widths tables → IsStanding p hs tables → FitsTransaction widths ss
     → AllReached hs keys ss → IsAlike (is_among keys) ss tables
-alike p hs keys widths tables ss fit standing f r = part_answers (is_among keys) widths tables ss (by_key keys) fit f (all_spare p hs keys widths tables ss fit standing f.1 r)
+alike p hs keys widths tables ss fit standing f r =
+    part_answers (is_among keys) widths tables ss (by_key keys) fit f
+    (all_spare p hs keys widths tables ss fit standing f.1 r)
 
 -- ---- its answer
 
-pub answers : (p : ℕ) (hs : RowsOverTime) (keys : Keys) (widths : List ℕ) (ss : List Statement) (part : TableSet) (new : List Table) (d : Datum) → FitsTransaction widths ss → AllReached hs keys ss
+pub answers : (p : ℕ) (hs : RowsOverTime) (keys : Keys) (widths : List ℕ) (ss : List Statement) (part : TableSet)
+    (new : List Table) (d : Datum) → FitsTransaction widths ss → AllReached hs keys ss
     → IsPartAt p hs keys widths part → after_transaction ss part.tables ≡ (new, d) → IsAnswerAt widths p hs ss d
 answers p hs keys widths ss part new d f r part_at e tables fit standing =
-    sym (ap (λ (q : List Table × Datum). q.1) e) ∙ ap (λ ts. (after_transaction ss ts).1) (part_at.rows tables fit standing) ∙ (alike p hs keys widths tables ss fit standing f r).answer
+    sym (ap (λ (q : List Table × Datum). q.1) e)
+    ∙ ap (λ ts. (after_transaction ss ts).1) (part_at.rows tables fit standing)
+    ∙ (alike p hs keys widths tables ss fit standing f r).answer
 
 -- ---- what it leaves
 
 -- each row of what it makes of the whole is that of what it makes of the part, or stands as before
-left_row : (p : ℕ) (hs : RowsOverTime) (keys : Keys) (widths : List ℕ) (tables : List Table) (ss : List Statement) → IsAlike (is_among keys) ss tables → (t : ℕ) (k : List ℕ)
+left_row : (p : ℕ) (hs : RowsOverTime) (keys : Keys) (widths : List ℕ) (tables : List Table) (ss : List Statement)
+    → IsAlike (is_among keys) ss tables → (t : ℕ) (k : List ℕ)
     → row_at k (table_at t (after_transaction ss tables).0)
     ≡ cond (is_in keys t k) (row_at k (table_at t (after_transaction ss (kept (is_among keys) tables)).0)) (row_at k (table_at t tables))
 left_row p hs keys widths tables ss a t k = by (is_in keys t k) refl where
-  by : (b : Bool) → is_in keys t k ≡ b → row_at k (table_at t (after_transaction ss tables).0) ≡ cond b (row_at k (table_at t (after_transaction ss (kept (is_among keys) tables)).0)) (row_at k (table_at t tables))
+  by : (b : Bool) → is_in keys t k ≡ b → row_at k (table_at t (after_transaction ss tables).0)
+      ≡ cond b (row_at k (table_at t (after_transaction ss (kept (is_among keys) tables)).0))
+      (row_at k (table_at t tables))
   by true e = sym (in_part keys t k (after_transaction ss tables).0 e) ∙ ap (λ ts. row_at k (table_at t ts)) (sym a.part)
   by false e = sym (out_of_part keys t k (after_transaction ss tables).0 e) ∙ ap (λ ts. row_at k (table_at t ts)) a.rest ∙ out_of_part keys t k tables e
 
@@ -174,8 +195,11 @@ later p q hs t k from l = stands_on p q None (history_at k (slice_index_or hs t 
 row_past : (p : ℕ) (hs : RowsOverTime) (t : ℕ) (k : List ℕ) → length hs ≤ t → row_then p hs t k ≡ None
 row_past p hs t k h = ap (λ es. held_at p es k) (beyond hs t h)
 
-pub committed : (widths : List ℕ) (p : ℕ) (ss : List Statement) (keys : Keys) (part : TableSet) (left : List Table) (d : Datum) (old new : RowsOverTime) → length old ≡ length widths → FitsTransaction widths ss
-    → AreFrom p old → AllReached old keys ss → IsPartAt p old keys widths part → after_transaction ss part.tables ≡ (left, d) → NotesRows (p + 1) keys left old new → Advances widths p ss old new
+pub committed : (widths : List ℕ) (p : ℕ) (ss : List Statement) (keys : Keys) (part : TableSet) (left : List Table)
+    (d : Datum) (old new : RowsOverTime) → length old ≡ length widths → FitsTransaction widths ss
+    → AreFrom p old → AllReached old keys ss → IsPartAt p old keys widths part
+    → after_transaction ss part.tables ≡ (left, d) → NotesRows (p + 1) keys left old new
+    → Advances widths p ss old new
 committed widths p ss keys part left d old new count f from r part_at e n = record {
   before = λ q t k h. unless q t k h (nat_lt t (length old)) refl;
   after = λ tables fit standing q h t k. within tables fit standing q h t k (nat_lt t (length old)) refl;
@@ -189,7 +213,8 @@ committed widths p ss keys part left d old new count f from r part_at e n = reco
       let past : length old ≤ t = ltb-false t (length old) l in
       row_past q new t k (omega (arith, n.count)) ∙ sym (row_past q old t k past)
 
-  within : (tables : List Table) → AreTables widths tables → IsStanding p old tables → (q : ℕ) → nat_le (p + 1) q ≡ true → (t : ℕ) (k : List ℕ) → (b : Bool) → nat_lt t (length old) ≡ b
+  within : (tables : List Table) → AreTables widths tables → IsStanding p old tables → (q : ℕ)
+      → nat_le (p + 1) q ≡ true → (t : ℕ) (k : List ℕ) → (b : Bool) → nat_lt t (length old) ≡ b
       → row_then q new t k ≡ row_at k (table_at t (after_transaction ss tables).0)
   within tables fit standing q h t k true l =
       let a = alike p old keys widths tables ss fit standing f r in
@@ -203,8 +228,10 @@ committed widths p ss keys part left d old new count f from r part_at e n = reco
       let past : length old ≤ t = ltb-false t (length old) l in
       row_past q new t k (omega (arith, n.count)) ∙ ap (row_at k) (sym (none_past widths (after_transaction ss tables).0 t (transacted widths ss tables fit f) (omega (arith, count, past))))
 
-pub aborted : (widths : List ℕ) (p : ℕ) (ss : List Statement) (keys : Keys) (part : TableSet) (left : List Table) (d : Datum) (hs : RowsOverTime) → FitsTransaction widths ss
-    → AreFrom p hs → AllReached hs keys ss → IsPartAt p hs keys widths part → after_transaction ss part.tables ≡ (left, d) → left ≡ part.tables → Advances widths p ss hs hs
+pub aborted : (widths : List ℕ) (p : ℕ) (ss : List Statement) (keys : Keys) (part : TableSet) (left : List Table)
+    (d : Datum) (hs : RowsOverTime) → FitsTransaction widths ss
+    → AreFrom p hs → AllReached hs keys ss → IsPartAt p hs keys widths part
+    → after_transaction ss part.tables ≡ (left, d) → left ≡ part.tables → Advances widths p ss hs hs
 aborted widths p ss keys part left d hs f from r part_at e same = record {
   before = λ q t k h. refl;
   after = λ tables fit standing q h t k.
@@ -226,10 +253,15 @@ aborted widths p ss keys part left d hs f from r part_at e same = record {
 -- ---- for the calls
 
 pub runs : (widths : List ℕ) (n : ℕ) (ss own : List Statement) → FitsTransaction widths ss → n ≡ length widths → own ≡ ss → AreRunnable n own
-runs widths n ss own f e same = rw (e, same) (all_run widths ss f.1)
+runs widths n ss own f e same = rw (e, same) (all_run widths ss (transaction_fits widths ss f))
+
+-- what fits is asked of a part too
+pub is_of_part : (widths own : List ℕ) (ss : List Statement) → FitsTransaction widths ss → own ≡ widths → IsTransactionOf own ss
+is_of_part widths own ss f e = rw e (transaction_fits widths ss f)
 
 pub reached : (hs own : RowsOverTime) (keys : Keys) (ss mine : List Statement) → own ≡ hs → mine ≡ ss → AllReached own keys mine → AllReached hs keys ss
 reached hs own keys ss mine e f r = rw (sym e, sym f) r
 
-pub part_is : (p : ℕ) (hs own : RowsOverTime) (keys mine : Keys) (widths : List ℕ) (part : TableSet) → own ≡ hs → mine ≡ keys → IsPartAt p own mine widths part → IsPartAt p hs keys widths part
+pub part_is : (p : ℕ) (hs own : RowsOverTime) (keys mine : Keys) (widths : List ℕ) (part : TableSet) → own ≡ hs
+    → mine ≡ keys → IsPartAt p own mine widths part → IsPartAt p hs keys widths part
 part_is p hs own keys mine widths part e f r = rw (sym e, sym f) r

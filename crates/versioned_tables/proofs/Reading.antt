@@ -30,11 +30,13 @@ statements_keep (Update t changes tests ∷ ss) e ts = cc
 statements_keep (Delete t tests ∷ ss) e ts = cc
 statements_keep (Expect n t tests ∷ ss) e ts = by (int_eq n (row_count tests (table_at t ts))) (statements_keep ss e ts) where
   by : (b : Bool) → Keeps ts (after_statements ss ts)
-      → Keeps ts (option_and_then {T = List Table × Datum} (λ r. option_map (λ rest. (rest.0, r.1 ∷ rest.1)) (after_statements ss r.0)) (cond b (Some (ts, null)) None))
+      → Keeps ts (option_and_then {T = List Table × Datum}
+      (λ r. option_map (λ rest. (rest.0, r.1 ∷ rest.1)) (after_statements ss r.0)) (cond b (Some (ts, null)) None))
   by true k = in_front ts null (after_statements ss ts) k
   by false k = tt
 
-kept : (ts : List Table) (o : Option (List Table × List Datum)) → Keeps ts o → (option_map_or {U = List Table × Datum} (λ r. (r.0, list (data_of r.1))) o (ts, null)).0 ≡ ts
+kept : (ts : List Table) (o : Option (List Table × List Datum)) → Keeps ts o
+    → (option_map_or {U = List Table × Datum} (λ r. (r.0, list (data_of r.1))) o (ts, null)).0 ≡ ts
 kept ts None k = refl
 kept ts (Some r) k = k
 

@@ -47,7 +47,8 @@ tests_are (x ∷ xs) (y ∷ ys) e = let p = and_parts ((test_eq.ghosts).eq x y) 
 -- ---- equal ranges
 
 -- a statement with a range reaches what the range has, and nothing else
-range_reaches : (s : Statement) (t : ℕ) (tests : List Test) (hs : RowsOverTime) (keys : Keys) → range_in s ≡ Some (t, tests) → Reaches hs keys s ≡ Finds keys t tests (slice_index_or hs t [])
+range_reaches : (s : Statement) (t : ℕ) (tests : List Test) (hs : RowsOverTime) (keys : Keys)
+    → range_in s ≡ Some (t, tests) → Reaches hs keys s ≡ Finds keys t tests (slice_index_or hs t [])
 range_reaches (Insert u row) t tests hs keys e = absurd (none_is_not e)
 range_reaches (Select u columns x) t tests hs keys e = ap (λ (r : ℕ × List Test). Finds keys r.0 r.1 (slice_index_or hs r.0 [])) (some_is e)
 range_reaches (Update u changes x) t tests hs keys e = ap (λ (r : ℕ × List Test). Finds keys r.0 r.1 (slice_index_or hs r.0 [])) (some_is e)
@@ -59,18 +60,21 @@ ranges_alike a b t tests e f hs keys r = subst (λ x. x) (range_reaches a t test
 
 -- ---- one statement more
 
-reached_at : (hs : RowsOverTime) (keys : Keys) (ss : List Statement) (n i : ℕ) (s : Statement) → i < n → i < length ss → s ≡ get_or ss i s → AllReached hs keys (take n ss) → Reaches hs keys s
+reached_at : (hs : RowsOverTime) (keys : Keys) (ss : List Statement) (n i : ℕ) (s : Statement) → i < n → i < length ss
+    → s ≡ get_or ss i s → AllReached hs keys (take n ss) → Reaches hs keys s
 reached_at hs keys [] n i s h l e a = absurd (omega arith)
 reached_at hs keys (x ∷ ss) zero i s h l e a = absurd (omega arith)
 reached_at hs keys (x ∷ ss) (suc n) zero s h l e a = subst (Reaches hs keys) (sym e) a.0
 reached_at hs keys (x ∷ ss) (suc n) (suc i) s h l e a = reached_at hs keys ss n i s (omega arith) (omega arith) e a.1
 
-one_reached : (hs : RowsOverTime) (keys : Keys) (ss : List Statement) (i : ℕ) (s : Statement) → i < length ss → s ≡ get_or ss i s → AllReached hs keys (take i ss) → Reaches hs keys s → AllReached hs keys (take (suc i) ss)
+one_reached : (hs : RowsOverTime) (keys : Keys) (ss : List Statement) (i : ℕ) (s : Statement) → i < length ss
+    → s ≡ get_or ss i s → AllReached hs keys (take i ss) → Reaches hs keys s → AllReached hs keys (take (suc i) ss)
 one_reached hs keys [] i s l e a r = absurd (omega arith)
 one_reached hs keys (x ∷ ss) zero s l e a r = (subst (Reaches hs keys) e r, tt)
 one_reached hs keys (x ∷ ss) (suc i) s l e a r = (a.0, one_reached hs keys ss i s (omega arith) e a.1 r)
 
-pub alike_reached : (hs : RowsOverTime) (keys : Keys) (ss : List Statement) (i : ℕ) (before s : Statement) → (0 < i) → i < length ss → before ≡ get_or ss (i - 1) before → s ≡ get_or ss i s → LookAlike before s
+pub alike_reached : (hs : RowsOverTime) (keys : Keys) (ss : List Statement) (i : ℕ) (before s : Statement) → (0 < i)
+    → i < length ss → before ≡ get_or ss (i - 1) before → s ≡ get_or ss i s → LookAlike before s
     → AllReached hs keys (take i ss) → AllReached hs keys (take (i + 1) ss)
 alike_reached hs keys ss i before s p l e f look a =
     let next : suc i ≡ i + 1 = omega arith in

@@ -11,10 +11,10 @@ use Rattle.script_tree.specs.declared.operation.Act.{Act}
 use Rattle.script_tree.specs.declared.operation.Act.TheVariants.{Read, Write, Get, Put, Remove, Transact, Now, Roll}
 use Rattle.script_tree.specs.declared.operation.Choice.{Choice}
 use Rattle.script_fit.specs.FitsOperation.{FitsTables}
-use Rattle.report.specs.declared.LogEntry.{LogEntry}
+use Rattle.period.specs.declared.report.LogEntry.{LogEntry}
 use Rattle.object_tables.specs.Keys.{row_at}
 use Rattle.object_tables.specs.TableSets.{TableSet}
-use Rattle.report.specs.LeftBy.{left_by}
+use Rattle.period.specs.LeftBy.{left_by}
 use Rattle.versioned_cells.specs.Versions.{VersionsByKey, history_at, held_at, AreAllUntil, AreChanges}
 use Rattle.versioned_tables.specs.Standing.{RowsOverTime, IsStanding, AreFrom, AllChange, Advances}
 
@@ -23,6 +23,7 @@ pub record OverTime : Type 0 where
   pub widths : List ℕ
   pub rows : RowsOverTime
 
+-- tables of these widths, with these rows over time
 abbrev pub over_time : List ℕ → RowsOverTime → OverTime
 over_time widths hs = record { widths = widths; rows = hs }
 
@@ -61,6 +62,7 @@ pub record BeginsTables (start : TableSet) (hs : RowsOverTime) : Type 0 where
   pub changes : AllChange hs
   pub fit : AreTables start.widths start.tables
 
+-- Nothing but what stands in the table at the start.
 pub record BeginsTable (table : Table) (es : VersionsByKey Row) : Type 0 where
   pub rows : (p : ℕ) (k : List ℕ) → held_at p es k ≡ row_at k table
   pub until : AreAllUntil 0 es

@@ -4,6 +4,7 @@ use Rattle.versioned_tables.specs.OverTime.{OverTime, over_time}
 use Rattle.versioned_tables.specs.Standing.{AllChange, AreFound}
 use Rattle.versioned_tables.specs.declared.tables.VersionedTables.TheInside.{Inside}
 
+-- the tables over time that those of the code stand for
 abbrev pub tables_in : Inside → OverTime
 tables_in a = over_time a.widths.items a.tables.items
 

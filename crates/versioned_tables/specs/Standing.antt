@@ -16,7 +16,7 @@ use Rattle.script_tree.specs.declared.transaction.Test.{Test}
 use Rattle.script_tree.specs.declared.transaction.Statement.{Statement}
 use Rattle.script_tree.specs.declared.transaction.Statement.TheVariants.{Insert, Select, Update, Delete, Expect}
 use Rattle.object_tables.specs.Keys.{is_key, row_at}
-use Rattle.object_tables.specs.Outcomes.{IsInserted}
+use Rattle.object_tables.specs.TransactionEnds.{IsInserted}
 use Rattle.object_tables.specs.TableSets.{TableSet}
 use Rattle.versioned_cells.specs.Versions.{VersionsByKey, history_at, held_at, AreAllUntil, AreChanges, Changes}
 use Rattle.versioned_tables.specs.Parts.{kept}
@@ -35,6 +35,7 @@ row_then p hs t k = held_at p (slice_index_or hs t []) k
 abbrev pub IsStanding : ℕ → RowsOverTime → List Table → Type 0
 IsStanding p hs tables = (t : ℕ) (k : List ℕ) → row_then p hs t k ≡ row_at k (table_at t tables)
 
+-- Some tables of these widths stand at a position.
 pub record Stands (widths : List ℕ) (p : ℕ) (hs : RowsOverTime) : Type 0 where
   pub tables : List Table
   pub fit : AreTables widths tables
@@ -64,9 +65,11 @@ abbrev pub is_in : Keys → ℕ → List ℕ → Bool
 is_in [] t k = false
 is_in (x ∷ keys) t k = (nat_eq x.0 t && bytes_eq x.1 k) || is_in keys t k
 
+-- What is one of the old keys is one of the new ones.
 abbrev pub Grows : Keys → Keys → Type 0
 Grows old new = (t : ℕ) (k : List ℕ) → is_in old t k ≡ true → is_in new t k ≡ true
 
+-- whether a row of this key ever stood
 abbrev pub has_history : List ℕ → VersionsByKey Row → Bool
 has_history k es = is_some (lookup (is_at (slice_cmp nat_cmp k)) es)
 
@@ -78,6 +81,7 @@ Finds keys t tests es = (row : Row) (k : List ℕ) → key row ≡ text k → me
 abbrev pub IsTestedKey : Test → List ℕ → Type 0
 IsTestedKey test only = (row : Row) (k : List ℕ) → key row ≡ text k → compares test.comparison (column test.column row) test.value ≡ true → k ≡ only
 
+-- Each row that passes all tests has this key.
 abbrev pub IsOnlyKey : List Test → List ℕ → Type 0
 IsOnlyKey tests only = (row : Row) (k : List ℕ) → key row ≡ text k → meets tests row ≡ true → k ≡ only
 
@@ -101,6 +105,7 @@ range_in (Expect n t tests) = Some (t, tests)
 abbrev pub LookAlike : Statement → Statement → Type 0
 LookAlike a b = (hs : RowsOverTime) (keys : Keys) → Reaches hs keys a → Reaches hs keys b
 
+-- Among them is each key that one of these statements looks at.
 abbrev pub AllReached : RowsOverTime → Keys → List Statement → Type 0
 AllReached hs keys [] = Unit {0}
 AllReached hs keys (s ∷ ss) = Reaches hs keys s × AllReached hs keys ss
@@ -150,7 +155,8 @@ pub record ChangesIn (i : ℕ) (key : List ℕ) (since : ℕ) (row : Option Row)
 -- Up to the position stands what stood, and from the next on what the transaction makes of what stood there.
 pub record Advances (widths : List ℕ) (p : ℕ) (ss : List Statement) (old new : RowsOverTime) : Type 0 where
   pub before : (q t : ℕ) (k : List ℕ) → nat_le (p + 1) q ≡ false → row_then q new t k ≡ row_then q old t k
-  pub after : (tables : List Table) → AreTables widths tables → IsStanding p old tables → (q : ℕ) → nat_le (p + 1) q ≡ true → IsStanding q new (after_transaction ss tables).0
+  pub after : (tables : List Table) → AreTables widths tables → IsStanding p old tables → (q : ℕ)
+      → nat_le (p + 1) q ≡ true → IsStanding q new (after_transaction ss tables).0
   pub until : AreFrom (p + 1) new
   pub count : length new ≡ length old
   pub changes : AllChange old → AllChange new

@@ -7,7 +7,7 @@ use crate::found::{Found, first_found};
 use crate::keys::{Key, keys_of};
 use crate::notes::note_rows;
 use crate::part::part_at;
-use object_tables::tables::Outcome;
+use object_tables::tables::TransactionEnd;
 use script_tree::transaction::Statements;
 use script_tree::value::{Value, Values};
 use std::alloc::{AllocError, Global};
@@ -81,7 +81,7 @@ fn advance_on(
     let mut part = part_at(alloc, widths, tables.as_slice(), position, found, keys)?;
     let since = next_position(position)?;
     match part.transact(alloc, statements)? {
-        Outcome::Committed(_) => note_rows(alloc, tables, since, keys, &part),
-        Outcome::Aborted(_) => Ok(()),
+        TransactionEnd::Committed(_) => note_rows(alloc, tables, since, keys, &part),
+        TransactionEnd::Aborted(_) => Ok(()),
     }
 }

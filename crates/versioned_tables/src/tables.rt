@@ -10,7 +10,7 @@ use crate::reads::only_read;
 use object_tables::keys::key_of;
 use object_tables::rows::Rows;
 use object_tables::tables::Tables;
-use report::LogEntry;
+use period::report::LogEntry;
 use script_tree::operation::Act;
 use script_tree::value::{Value, Values};
 use std::alloc::{AllocError, Global};

@@ -3,9 +3,9 @@ use Rattle.std.proofs.Common.{◌≡◌, List, Result, Ok, Err, IfOk, sym, subst
 use Rattle.std.specs.declared.alloc.AllocError.{AllocError}
 use Rattle.script_tree.specs.Objects.{Objects}
 use Rattle.script_tree.specs.Programs.{Program}
-use Rattle.script_tree.specs.declared.trace.TraceEvent.{TraceEvent}
+use Rattle.period.specs.declared.trace.TraceEvent.{TraceEvent}
 use Rattle.script_check.specs.Validity.{IsValid}
-use Rattle.report.specs.declared.Report.{Report}
+use Rattle.period.specs.declared.report.Report.{Report}
 use Rattle.history.specs.ReportOf.{report_of}
 use Rattle.history.specs.Rooms.{IsLegal, IsClosed}
 use Rattle.history.specs.TraceOf.{trace_of}
@@ -14,7 +14,8 @@ use Rattle.audit_meaning.specs.Verdicts.{verdict}
 use Rattle.audit_completeness.specs.Completeness.{RecordedIsAccepted, IsAccepted}
 use Rattle.whole_history.specs.Accepted.{IsAcceptedTrace, IsAcceptedReport}
 
-accepted : RecordedIsAccepted → (program : Program) (start : Objects) (history : List Happening) → IsValid program.declarations → IsLegal program start history → IsClosed start history
+accepted : RecordedIsAccepted → (program : Program) (start : Objects) (history : List Happening) → IsValid program
+    → IsLegal program start history → IsClosed start history
     → IsAccepted (verdict program start (trace_of history) (report_of history))
 accepted law program start history valid legal closed = subst IsAccepted (sym (law program start history valid legal closed).3) tt
 

@@ -14,9 +14,9 @@ use Rattle.script_tree.specs.declared.operation.Object.{Object}
 use Rattle.script_tree.specs.declared.operation.Op.{Op}
 use Rattle.script_tree.specs.declared.path.Path.{Path}
 use Rattle.script_tree.specs.declared.request.Response.{Response}
-use Rattle.report.specs.declared.Count.{Count}
-use Rattle.report.specs.declared.Log.{Log}
-use Rattle.report.specs.declared.LogEntry.{LogEntry}
+use Rattle.period.specs.declared.report.Count.{Count}
+use Rattle.period.specs.declared.report.Log.{Log}
+use Rattle.period.specs.declared.report.LogEntry.{LogEntry}
 use Rattle.history.specs.Names.{Named, came, did, went}
 use Rattle.history.specs.ReportOf.{did_in, object_in, entry_in, path_in, member_in, report_in}
 use Rattle.trace_and_report.specs.Draft.{arrival_in, counted, count_at, entry_of, one_more_of}
@@ -73,8 +73,10 @@ departs names old new rid response path is arrived operations logs groups =
     (λ r. ap (λ ns. counted ns.items r) operations ∙ sym (add-zero (counted old.operations.items r))) (ap groups_in logs) groups
 
 -- what is copied of an operation is its entry
-pub same_entry : (rid number : ℕ) (choice : Choice) (object : Object) (act : Act) (op : Op) (logs : List (Object × List LogEntry)) → object ≡ op.object → act ≡ op.act
-    → and_member is_same object (record { rid = rid; number = number; act = act; choice = choice }) logs ≡ and_member is_same op.object (entry_of rid number op choice) logs
+pub same_entry : (rid number : ℕ) (choice : Choice) (object : Object) (act : Act) (op : Op)
+    (logs : List (Object × List LogEntry)) → object ≡ op.object → act ≡ op.act
+    → and_member is_same object (record { rid = rid; number = number; act = act; choice = choice }) logs
+    ≡ and_member is_same op.object (entry_of rid number op choice) logs
 same_entry rid number choice object act op logs same_object same_act =
     λ i. and_member is_same (same_object i) (record { rid = rid; number = number; act = same_act i; choice = choice }) logs
 
@@ -85,7 +87,8 @@ have_members names draft of =
     subst HaveMembers (sym of.groups) (grouped_have same_path taken_in path_in member_in paths_laws path_taken member_taken names)
 
 pub report_is : (names : List Named) (draft : ReportDraft) (counts : List Count) (logs : List Log) (groups : List (List ℕ)) → IsReportDraft names draft
-    → counts ≡ map (count_at draft.operations.items) draft.arrived.items → logs ≡ map log_of (groups_in draft.logs) → groups ≡ map members_of (groups_in draft.groups)
+    → counts ≡ map (count_at draft.operations.items) draft.arrived.items → logs ≡ map log_of (groups_in draft.logs)
+    → groups ≡ map members_of (groups_in draft.groups)
     → record { counts = counts; logs = logs; groups = groups } ≡ report_in names
 report_is names draft counts logs groups is counts_are logs_are groups_are =
     let objects : List Object = firsts is_same (filter_map object_in names) in

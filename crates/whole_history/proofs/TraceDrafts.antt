@@ -4,7 +4,7 @@ use Rattle.std.specs.List.{cons_option}
 use Rattle.script_tree.specs.declared.limits.TheConstants.{MOST_REQUESTS}
 use Rattle.script_tree.specs.declared.operation.Choice.{Choice}
 use Rattle.script_tree.specs.declared.operation.Op.{Op}
-use Rattle.script_tree.specs.declared.trace.TraceEvent.{TraceEvent}
+use Rattle.period.specs.declared.trace.TraceEvent.{TraceEvent}
 use Rattle.wire.specs.Files.{IsExact, Spells, file_spelling, record_spelling, records_spelling}
 use Rattle.wire.specs.declared.limits.TheConstants.{MOST_FILE_BYTES}
 use Rattle.trace_format.specs.Events.{trace_format}
@@ -35,7 +35,8 @@ event_more names named e old new is was more may = record {
 }
 
 -- An operation is no event.
-pub act_taken : (h : Happening) (seat rid number : ℕ) (op : Op) (choice : Choice) → h ≡ Act seat rid number op choice → (names : List Named) (draft : TraceDraft)
+pub act_taken : (h : Happening) (seat rid number : ℕ) (op : Op) (choice : Choice) → h ≡ Act seat rid number op choice
+    → (names : List Named) (draft : TraceDraft)
     → IsTraceDraft names draft → IsTraceDraft (names ++ name h ∷ []) draft
 act_taken h seat rid number op choice is names draft was =
     let named : Named = name (Act seat rid number op choice) in

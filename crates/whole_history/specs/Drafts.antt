@@ -6,8 +6,8 @@ use Rattle.script_tree.specs.declared.operation.Object.{Object}
 use Rattle.script_tree.specs.declared.path.Path.{Path}
 use Rattle.wire.specs.Files.{file_spelling}
 use Rattle.trace_format.specs.Events.{trace_format}
-use Rattle.report.specs.declared.Log.{Log}
-use Rattle.report.specs.declared.LogEntry.{LogEntry}
+use Rattle.period.specs.declared.report.Log.{Log}
+use Rattle.period.specs.declared.report.LogEntry.{LogEntry}
 use Rattle.history.specs.Names.{Named}
 use Rattle.history.specs.ReportOf.{did_in, object_in, entry_in, path_in, member_in}
 use Rattle.history.specs.TraceOf.{trace_in}

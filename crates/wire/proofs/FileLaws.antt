@@ -11,7 +11,9 @@ use Rattle.wire.proofs.Spelled.{rest_behind}
 
 -- Payloads that may stand behind the same records are told apart.
 abbrev pub HasOnePayload : {A : Type 0} → Format A → Type 0
-HasOnePayload {A} format = (before : List A) (x y : A) → format.allows before x → format.allows before y → length (format.payload x) < 2 ^ 32 → length (format.payload y) < 2 ^ 32 → format.payload x ≡ format.payload y → x ≡ y
+HasOnePayload {A} format = (before : List A) (x y : A) → format.allows before x → format.allows before y
+    → length (format.payload x) < 2 ^ 32 → length (format.payload y) < 2 ^ 32 → format.payload x ≡ format.payload y
+    → x ≡ y
 
 pub record_one : {A : Type 0} (format : Format A) → HasOnePayload format → (before : List A) → HasOneSpelling (record_field format before)
 record_one format one before x y r s p q e =
@@ -20,7 +22,8 @@ record_one format one before x y r s p q e =
 
 -- nothing that may stand behind these records begins so
 abbrev NoneBegins : {A : Type 0} → Format A → List A → List ℕ → Type 0
-NoneBegins {A} format before rest = (x : A) (more : List ℕ) → format.allows before x → length (format.payload x) < 2 ^ 32 → rest ≡ record_spelling format x ++ more → ⊥
+NoneBegins {A} format before rest = (x : A) (more : List ℕ) → format.allows before x
+    → length (format.payload x) < 2 ^ 32 → rest ≡ record_spelling format x ++ more → ⊥
 
 none_at_end : {A : Type 0} (format : Format A) (before : List A) → NoneBegins format before []
 none_at_end format before x more p q e =
@@ -28,7 +31,10 @@ none_at_end format before x more p q e =
     absurd (omega (arith, len))
 
 -- Two runs of records from one place, behind which none begins, are one.
-runs_one : {A : Type 0} (format : Format A) → HasOnePayload format → (before xs ys : List A) (r s : List ℕ) → MayFollow format before xs → MayFollow format before ys → NoneBegins format (before ++ xs) r → NoneBegins format (before ++ ys) s → records_spelling format xs ++ r ≡ records_spelling format ys ++ s → (xs ≡ ys) × (r ≡ s)
+runs_one : {A : Type 0} (format : Format A) → HasOnePayload format → (before xs ys : List A) (r s : List ℕ)
+    → MayFollow format before xs → MayFollow format before ys → NoneBegins format (before ++ xs) r
+    → NoneBegins format (before ++ ys) s → records_spelling format xs ++ r ≡ records_spelling format ys ++ s
+    → (xs ≡ ys) × (r ≡ s)
 runs_one {A} format one before [] [] r s p q n m e = (refl, e)
 runs_one {A} format one before [] (y ∷ ys) r s p q n m e =
     let None' : List A → Type 0 = λ b. NoneBegins format b r in
@@ -59,12 +65,14 @@ pub record IsRun {A : Type 0} (format : Format A) (bytes : List ℕ) (xs : List 
 without_front : (m a b : List ℕ) → m ++ a ≡ m ++ b → a ≡ b
 without_front m a b e = sym (drop_at m a (length m) refl) ∙ ap (drop (length m)) e ∙ drop_at m b (length m) refl
 
-run_one : {A : Type 0} (format : Format A) → HasOnePayload format → (bytes : List ℕ) (xs ys : List A) (r s : List ℕ) → IsRun format bytes xs r → IsRun format bytes ys s → (xs ≡ ys) × (r ≡ s)
+run_one : {A : Type 0} (format : Format A) → HasOnePayload format → (bytes : List ℕ) (xs ys : List A) (r s : List ℕ)
+    → IsRun format bytes xs r → IsRun format bytes ys s → (xs ≡ ys) × (r ≡ s)
 run_one format one bytes xs ys r s p q =
     let m = format.magic in
     let left : bytes ≡ m ++ (records_spelling format xs ++ r) = p.parts ∙ append_assoc m (records_spelling format xs) r in
     let right : bytes ≡ m ++ (records_spelling format ys ++ s) = q.parts ∙ append_assoc m (records_spelling format ys) s in
-    runs_one format one [] xs ys r s p.allowed q.allowed p.none q.none (without_front m (records_spelling format xs ++ r) (records_spelling format ys ++ s) (sym left ∙ right))
+    runs_one format one [] xs ys r s p.allowed q.allowed p.none q.none
+    (without_front m (records_spelling format xs ++ r) (records_spelling format ys ++ s) (sym left ∙ right))
 
 run_of_file : {A : Type 0} (format : Format A) (bytes : List ℕ) (xs : List A) → Spells format bytes xs → IsRun format bytes xs []
 run_of_file format bytes xs p = record {
@@ -89,7 +97,8 @@ run_of_bad format bytes at p = record {
 has_magic : {A : Type 0} (format : Format A) (bytes : List ℕ) (xs : List A) (r : List ℕ) → IsRun format bytes xs r → HasMagic format bytes
 has_magic format bytes xs r p = (records_spelling format xs ++ r, p.parts ∙ append_assoc format.magic (records_spelling format xs) r)
 
-fault_one : {A : Type 0} (format : Format A) → HasOnePayload format → (bytes : List ℕ) (at at' : ℕ) → IsFault format bytes at → IsFault format bytes at' → at ≡ at'
+fault_one : {A : Type 0} (format : Format A) → HasOnePayload format → (bytes : List ℕ) (at at' : ℕ)
+    → IsFault format bytes at → IsFault format bytes at' → at ≡ at'
 fault_one format one bytes at at' (inl p) (inl q) = p.1 ∙ sym q.1
 fault_one format one bytes at at' (inl p) (inr q) = absurd (p.0 (has_magic format bytes q.before (drop at' bytes) (run_of_bad format bytes at' q)))
 fault_one format one bytes at at' (inr p) (inl q) = absurd (q.0 (has_magic format bytes p.before (drop at bytes) (run_of_bad format bytes at p)))
@@ -97,7 +106,8 @@ fault_one format one bytes at at' (inr p) (inr q) =
     let same = (run_one format one bytes p.before q.before (drop at bytes) (drop at' bytes) (run_of_bad format bytes at p) (run_of_bad format bytes at' q)).0 in
     p.spelled.next_is ∙ ap (λ xs. 0 + length (file_spelling format xs)) same ∙ sym q.spelled.next_is
 
-fault_not_read : {A : Type 0} (format : Format A) → HasOnePayload format → (bytes : List ℕ) (at : ℕ) (xs : List A) → IsFault format bytes at → Spells format bytes xs → ⊥
+fault_not_read : {A : Type 0} (format : Format A) → HasOnePayload format → (bytes : List ℕ) (at : ℕ) (xs : List A)
+    → IsFault format bytes at → Spells format bytes xs → ⊥
 fault_not_read format one bytes at xs (inl p) q = p.0 (records_spelling format xs, q.spelled)
 fault_not_read format one bytes at xs (inr p) q =
     let none : drop at bytes ≡ [] = (run_one format one bytes p.before xs (drop at bytes) [] (run_of_bad format bytes at p) (run_of_file format bytes xs q)).1 in
@@ -105,13 +115,17 @@ fault_not_read format one bytes at xs (inr p) q =
     let inside : at < length bytes = p.inside in
     omega arith
 
-reading_one : {A : Type 0} (format : Format A) → HasOnePayload format → (bytes : List ℕ) (xs ys : List A) → Spells format bytes xs → Spells format bytes ys → xs ≡ ys
+reading_one : {A : Type 0} (format : Format A) → HasOnePayload format → (bytes : List ℕ) (xs ys : List A)
+    → Spells format bytes xs → Spells format bytes ys → xs ≡ ys
 reading_one format one bytes xs ys p q = (run_one format one bytes xs ys [] [] (run_of_file format bytes xs p) (run_of_file format bytes ys q)).0
 
-back : {A : Type 0} (format : Format A) → HasOnePayload format → (xs : List A) (r : Result (List A) (OrMemory Unreadable)) → MayFollow format [] xs → Decodes format (file_spelling format xs) r → GivesBack xs r
+back : {A : Type 0} (format : Format A) → HasOnePayload format
+    → (xs : List A) (r : Result (List A) (OrMemory Unreadable)) → MayFollow format [] xs
+    → Decodes format (file_spelling format xs) r → GivesBack xs r
 back format one xs (Ok found) allowed d = reading_one format one (file_spelling format xs) found xs d (record { spelled = refl; allowed = allowed })
 back format one xs (Err Memory) allowed d = tt
-back format one xs (Err (Other fault)) allowed d = fault_not_read format one (file_spelling format xs) (fault.at) xs d (record { spelled = refl; allowed = allowed })
+back format one xs (Err (Other fault)) allowed d =
+    fault_not_read format one (file_spelling format xs) (fault.at) xs d (record { spelled = refl; allowed = allowed })
 
 pub file_is_exact : {A : Type 0} (format : Format A) → HasOnePayload format → IsExact format
 file_is_exact format one = record {

@@ -59,7 +59,8 @@ taken bytes at n within =
       next_is = omega arith;
     }
 
-pub number_found : (w : Width) → IsWide w → (bytes : List ℕ) (at n next : ℕ) → IsBytes bytes → number_at w bytes at ≡ Some (n, next) → IsFieldAt (number_field w) bytes at n next
+pub number_found : (w : Width) → IsWide w → (bytes : List ℕ) (at n next : ℕ) → IsBytes bytes
+    → number_at w bytes at ≡ Some (n, next) → IsFieldAt (number_field w) bytes at n next
 number_found w wide bytes at n next fits e =
     let k = byte_len w in
     let found : ℕ × ℕ = (from_be_bytes w (take k (drop at bytes)), at + k) in
@@ -93,7 +94,8 @@ number_reader w wide = record { found = number_found w wide; only = number_only 
 
 -- ---- two's complement
 
-pub integer_found : (bytes : List ℕ) (at : ℕ) (z : ℤ) (next : ℕ) → IsBytes bytes → integer_at bytes at ≡ Some (z, next) → IsFieldAt integer_field bytes at z next
+pub integer_found : (bytes : List ℕ) (at : ℕ) (z : ℤ) (next : ℕ) → IsBytes bytes
+    → integer_at bytes at ≡ Some (z, next) → IsFieldAt integer_field bytes at z next
 integer_found bytes at z next fits e =
     let b = bind_some (number_at w64 bytes at) (λ number. Some (cast_signed w64 number.0, number.1)) (z, next) e in
     let made : ℤ × ℕ = (cast_signed w64 b.0.0, b.0.1) in

@@ -9,7 +9,6 @@ use Rattle.basis.specs.Lists.{nth}
 use Rattle.wire.specs.Files.{Format, record_field}
 use Rattle.wire.specs.Recorded.{payload_at, payloads_at, StandAt}
 use Rattle.wire.specs.Spellings.{IsFieldAt, bytes_field}
-use Rattle.wire.proofs.FileSteps.{IsReadUpTo}
 use Rattle.wire.proofs.Spelled.{rest_behind}
 
 -- what is spelled at a place is the payload there
@@ -24,7 +23,8 @@ payload_is bytes at p next (small, s) =
     rw (number, behind) (take_at p (drop next bytes) (length p) refl)
 
 -- one place more
-pub places_more : (bytes places : List ℕ) (at next : ℕ) (p : List ℕ) → StandAt bytes places → IsFieldAt bytes_field bytes at p next → StandAt bytes (places ++ at ∷ [])
+pub places_more : (bytes places : List ℕ) (at next : ℕ) (p : List ℕ) → StandAt bytes places
+    → IsFieldAt bytes_field bytes at p next → StandAt bytes (places ++ at ∷ [])
 places_more bytes places at next p stand here i lt =
     let Here : ℕ → Type 0 = λ place. (n : ℕ) × IsFieldAt bytes_field bytes place (payload_at bytes place) n in
     elim (cases_lt i (length places)) [
@@ -36,7 +36,8 @@ places_more bytes places at next p stand here i lt =
     ]
 
 -- and one payload more
-pub payloads_more : {A : Type 0} (format : Format A) (bytes places : List ℕ) (items : List A) (at next : ℕ) (x : A) → payloads_at bytes places ≡ map format.payload items
+pub payloads_more : {A : Type 0} (format : Format A) (bytes places : List ℕ) (items : List A) (at next : ℕ) (x : A)
+    → payloads_at bytes places ≡ map format.payload items
     → IsFieldAt (record_field format items) bytes at x next → payloads_at bytes (places ++ at ∷ []) ≡ map format.payload (items ++ x ∷ [])
 payloads_more format bytes places items at next x so_far here =
     map-append (payload_at bytes) places (at ∷ [])
@@ -47,14 +48,6 @@ payloads_more format bytes places items at next x so_far here =
 pub stands_more : {A : Type 0} (format : Format A) (bytes places : List ℕ) (items : List A) (at next : ℕ) (x : A) → StandAt bytes places
     → IsFieldAt (record_field format items) bytes at x next → StandAt bytes (places ++ at ∷ [])
 stands_more format bytes places items at next x stand here = places_more bytes places at next (format.payload x) stand (here.0.1, here.1)
-
--- Records stand one after another up to this place, at these places, and the reader has read their items.
-pub record AreKept {S A : Type 0} (format : Format A) (has_read : S → List A → Type 0) (reader : S) (bytes places : List ℕ) (at : ℕ) : Type 0 where
-  pub items : List A
-  pub kept : has_read reader items
-  pub read : IsReadUpTo format bytes items at
-  pub payloads : payloads_at bytes places ≡ map format.payload items
-  pub stand : StandAt bytes places
 
 -- the payload of a place
 pub payload_there : (bytes places : List ℕ) (i : ℕ) → i < length places → nth (payloads_at bytes places) i ≡ Some (payload_at bytes (get_or places i 0))

@@ -10,7 +10,9 @@ pair_field f g = record {
   spelling = λ p. f.spelling p.0 ++ (g p.0).spelling p.1;
 }
 
-pub both_there : {A B : Type 0} (f : Field A) (g : A → Field B) (bytes : List ℕ) (at : ℕ) (x : A) (mid : ℕ) (y : B) (next : ℕ) → IsFieldAt f bytes at x mid → IsFieldAt (g x) bytes mid y next → IsFieldAt (pair_field f g) bytes at (x, y) next
+pub both_there : {A B : Type 0} (f : Field A) (g : A → Field B) (bytes : List ℕ) (at : ℕ) (x : A) (mid : ℕ) (y : B)
+    (next : ℕ) → IsFieldAt f bytes at x mid → IsFieldAt (g x) bytes mid y next
+    → IsFieldAt (pair_field f g) bytes at (x, y) next
 both_there f g bytes at x mid y next p q =
     ((p.0, q.0), joined bytes (f.spelling x) ((g x).spelling y) at mid next p.1 q.1)
 
@@ -18,7 +20,9 @@ pub no_first : {A B : Type 0} (f : Field A) (g : A → Field B) (bytes : List �
 no_first f g bytes at none x next p =
     none x.0 (at + length (f.spelling x.0)) (p.0.0, first_part bytes (f.spelling x.0) ((g x.0).spelling x.1) at next p.1)
 
-pub no_second : {A B : Type 0} (f : Field A) (g : A → Field B) → HasOneSpelling f → (bytes : List ℕ) (at : ℕ) (x : A) (mid : ℕ) → IsFieldAt f bytes at x mid → NoneIsAt (g x) bytes mid → NoneIsAt (pair_field f g) bytes at
+pub no_second : {A B : Type 0} (f : Field A) (g : A → Field B) → HasOneSpelling f
+    → (bytes : List ℕ) (at : ℕ) (x : A) (mid : ℕ) → IsFieldAt f bytes at x mid → NoneIsAt (g x) bytes mid
+    → NoneIsAt (pair_field f g) bytes at
 no_second {A} f g one bytes at x mid here none y next p =
     let first = first_part bytes (f.spelling y.0) ((g y.0).spelling y.1) at next p.1 in
     let second = second_part bytes (f.spelling y.0) ((g y.0).spelling y.1) at next p.1 in

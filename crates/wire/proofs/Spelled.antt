@@ -63,11 +63,16 @@ has_one {A} field read reader x y r s p q e =
     let Here : List ℕ → Type 0 = λ b. IsSpelled b 0 (field.spelling y) (length (field.spelling y)) in
     let first : read bytes 0 ≡ Some (x, length (field.spelling x)) = reader.only bytes 0 x (length (field.spelling x)) (p, at_front (field.spelling x) r) in
     let second : read bytes 0 ≡ Some (y, length (field.spelling y)) = reader.only bytes 0 y (length (field.spelling y)) (q, subst Here (sym e) (at_front (field.spelling y) s)) in
-    let same : (x ≡ y) × (length (field.spelling x) ≡ length (field.spelling y)) = pair_is (read bytes 0) x y (length (field.spelling x)) (length (field.spelling y)) first second in
-    (same.0, sym (drop_at (field.spelling x) r (length (field.spelling x)) refl) ∙ ap (drop (length (field.spelling x))) e ∙ drop_at (field.spelling y) s (length (field.spelling x)) (sym same.1))
+    let same : (x ≡ y) × (length (field.spelling x) ≡ length (field.spelling y)) = pair_is (read bytes 0) x y (length (field.spelling x)) (length (field.spelling y)) first second in (
+      same.0,
+      sym (drop_at (field.spelling x) r (length (field.spelling x)) refl)
+          ∙ ap (drop (length (field.spelling x))) e
+          ∙ drop_at (field.spelling y) s (length (field.spelling x)) (sym same.1),
+    )
 
 -- What stands at a place is one thing.
-pub same_field : {A : Type 0} (field : Field A) → HasOneSpelling field → (bytes : List ℕ) (at : ℕ) (x y : A) (m n : ℕ) → IsFieldAt field bytes at x m → IsFieldAt field bytes at y n → (x ≡ y) × (m ≡ n)
+pub same_field : {A : Type 0} (field : Field A) → HasOneSpelling field → (bytes : List ℕ) (at : ℕ) (x y : A) (m n : ℕ)
+    → IsFieldAt field bytes at x m → IsFieldAt field bytes at y n → (x ≡ y) × (m ≡ n)
 same_field {A} field one bytes at x y m n p q =
     let same : x ≡ y = (one x y (drop m bytes) (drop n bytes) p.0 q.0 (sym p.1.spells ∙ q.1.spells)).0 in
     let len : length (field.spelling x) ≡ length (field.spelling y) = ap (λ (z : A). length (field.spelling z)) same in

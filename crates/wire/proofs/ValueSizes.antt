@@ -24,8 +24,11 @@ member_size (x ∷ xs) (suc i) d lt e = let rest = member_size xs i d (omega ari
 pub list_spelled : (vs : List Datum) → value_spelling (list (data_of vs)) ≡ 5 ∷ list_spelling vs
 list_spelled vs = ap (λ (ds : List Datum). 5 ∷ (to_be_bytes w32 (length ds) ++ values_spelling (data_of vs))) (members-data_of vs)
 
-pub list_written : {T E : Type 0} (r : Result T E) (vs us : List Datum) (old mid new : List ℕ) → us ≡ vs → mid ≡ old ++ 5 ∷ [] → OnOk r (new ≡ mid ++ list_spelling us) → OnOk r (new ≡ old ++ value_spelling (list (data_of vs)))
+pub list_written : {T E : Type 0} (r : Result T E) (vs us : List Datum) (old mid new : List ℕ) → us ≡ vs
+    → mid ≡ old ++ 5 ∷ [] → OnOk r (new ≡ mid ++ list_spelling us)
+    → OnOk r (new ≡ old ++ value_spelling (list (data_of vs)))
 list_written (Ok x) vs us old mid new same front h =
     let rest : List Datum → List ℕ = list_spelling in
-    h ∙ ap (λ (m : List ℕ). m ++ rest us) front ∙ append_assoc old (5 ∷ []) (rest us) ∙ ap (λ (ws : List Datum). old ++ 5 ∷ rest ws) same ∙ ap (λ (s : List ℕ). old ++ s) (sym (list_spelled vs))
+    h ∙ ap (λ (m : List ℕ). m ++ rest us) front ∙ append_assoc old (5 ∷ []) (rest us)
+    ∙ ap (λ (ws : List Datum). old ++ 5 ∷ rest ws) same ∙ ap (λ (s : List ℕ). old ++ s) (sym (list_spelled vs))
 list_written (Err x) vs us old mid new same front h = tt

@@ -33,7 +33,8 @@ first_byte (text bytes) r = refl
 first_byte (list ds) r = refl
 
 mutual
-  pub value_apart : (x y : Datum) (r s : List ℕ) → size x < 2 ^ 32 → size y < 2 ^ 32 → HasWideNumbers x → HasWideNumbers y → value_spelling x ++ r ≡ value_spelling y ++ s → (x ≡ y) × (r ≡ s)
+  pub value_apart : (x y : Datum) (r s : List ℕ) → size x < 2 ^ 32 → size y < 2 ^ 32 → HasWideNumbers x
+      → HasWideNumbers y → value_spelling x ++ r ≡ value_spelling y ++ s → (x ≡ y) × (r ≡ s)
   value_apart null null r s small small' wide wide' e = (refl, tail_is 0 0 r s e)
   value_apart (bool false) (bool false) r s small small' wide wide' e = (refl, tail_is 1 1 r s e)
   value_apart (bool true) (bool true) r s small small' wide wide' e = (refl, tail_is 2 2 r s e)
@@ -54,7 +55,9 @@ mutual
       let same : get_or (value_spelling x ++ r) 0 0 ≡ get_or (value_spelling y ++ s) 0 0 = ap (λ (l : List ℕ). get_or l 0 0) e in
       absurd (omega (arith, same, first_byte x r, first_byte y s))
 
-  values_one : (ds es : Data) (r s : List ℕ) → members_size ds < 2 ^ 32 → members_size es < 2 ^ 32 → HaveWideNumbers ds → HaveWideNumbers es → length (members ds) ≡ length (members es) → values_spelling ds ++ r ≡ values_spelling es ++ s → (ds ≡ es) × (r ≡ s)
+  values_one : (ds es : Data) (r s : List ℕ) → members_size ds < 2 ^ 32 → members_size es < 2 ^ 32
+      → HaveWideNumbers ds → HaveWideNumbers es → length (members ds) ≡ length (members es)
+      → values_spelling ds ++ r ≡ values_spelling es ++ s → (ds ≡ es) × (r ≡ s)
   values_one none none r s small small' wide wide' len e = (refl, e)
   values_one none (more y es) r s small small' wide wide' len e = absurd (omega arith)
   values_one (more x ds) none r s small small' wide wide' len e = absurd (omega arith)

@@ -32,7 +32,8 @@ tag_small (text bytes) = omega arith
 tag_small (list ds) = omega arith
 
 -- behind a byte stands what is left of a value that begins with it
-at_tag : (bytes : List ℕ) (at tag next : ℕ) (d : Datum) (end' : ℕ) → IsFieldAt byte_field bytes at tag next → IsSpelled bytes at (value_spelling d) end' → (tag ≡ tag_of d) × IsSpelled bytes next (tail_of d) end'
+at_tag : (bytes : List ℕ) (at tag next : ℕ) (d : Datum) (end' : ℕ) → IsFieldAt byte_field bytes at tag next
+    → IsSpelled bytes at (value_spelling d) end' → (tag ≡ tag_of d) × IsSpelled bytes next (tail_of d) end'
 at_tag bytes at tag next d end' here p =
     let small : tag_of d < 256 = omega (arith, tag_small d) in
     let Whole : List ℕ → Type 0 = λ s. IsSpelled bytes at s end' in
@@ -42,14 +43,17 @@ at_tag bytes at tag next d end' here p =
     let Behind : ℕ → Type 0 = λ n. IsSpelled bytes n (tail_of d) end' in
     (same.0, subst Behind (sym same.1) (second_part bytes (tag_of d ∷ []) (tail_of d) at end' q))
 
-from_tag : (bytes : List ℕ) (at tag next : ℕ) (d : Datum) (end' : ℕ) → IsFieldAt byte_field bytes at tag next → tag ≡ tag_of d → IsSpelled bytes next (tail_of d) end' → IsSpelled bytes at (value_spelling d) end'
+from_tag : (bytes : List ℕ) (at tag next : ℕ) (d : Datum) (end' : ℕ) → IsFieldAt byte_field bytes at tag next
+    → tag ≡ tag_of d → IsSpelled bytes next (tail_of d) end' → IsSpelled bytes at (value_spelling d) end'
 from_tag bytes at tag next d end' here same p =
     let Tag : ℕ → Type 0 = λ t. IsSpelled bytes at (t ∷ []) next in
     let Whole : List ℕ → Type 0 = λ s. IsSpelled bytes at s end' in
     subst Whole (sym (by_tag d)) (joined bytes (tag_of d ∷ []) (tail_of d) at next end' (subst Tag same here.1) p)
 
 -- what is read behind the tag is read at the tag
-pub tail_gives : (bytes : List ℕ) (at tag t next depth room left : ℕ) (r : Result Part (OrMemory Unreadable)) → IsFieldAt byte_field bytes at tag next → tag ≡ t → left + 1 ≡ room → GivesTail t depth (left + 1) bytes next r → GivesValue depth room bytes at r
+pub tail_gives : (bytes : List ℕ) (at tag t next depth room left : ℕ) (r : Result Part (OrMemory Unreadable))
+    → IsFieldAt byte_field bytes at tag next → tag ≡ t → left + 1 ≡ room → GivesTail t depth (left + 1) bytes next r
+    → GivesValue depth room bytes at r
 tail_gives bytes at tag t next depth room left (Ok part) here same sum g =
     let Room : ℕ → Type 0 = λ n. IsWithinRoom depth n part in
     (from_tag bytes at tag next part.value part.next here (same ∙ g.0) g.1.0, subst Room sum g.1.1)
@@ -61,7 +65,10 @@ tail_gives bytes at tag t next depth room left (Err (Other fault)) here same sum
     g d end' (sym same ∙ there.0) (subst Room (sym sum) bound) there.1
 
 -- a value that is a tag alone
-pub leaf_given : (bytes : List ℕ) (at tag next depth room left : ℕ) (d leaf : Datum) → IsFieldAt byte_field bytes at tag next → d ≡ leaf → tag ≡ tag_of leaf → left + 1 ≡ room → tail_of leaf ≡ [] → size leaf ≡ 1 → nesting leaf ≡ 0 → HasWideNumbers leaf → GivesValue depth room bytes at (Ok (record { value = d; next = next; room = left }))
+pub leaf_given : (bytes : List ℕ) (at tag next depth room left : ℕ) (d leaf : Datum)
+    → IsFieldAt byte_field bytes at tag next → d ≡ leaf → tag ≡ tag_of leaf → left + 1 ≡ room → tail_of leaf ≡ []
+    → size leaf ≡ 1 → nesting leaf ≡ 0 → HasWideNumbers leaf
+    → GivesValue depth room bytes at (Ok (record { value = d; next = next; room = left }))
 leaf_given bytes at tag next depth room left d leaf there is same sum tail one flat wide =
     let nothing : IsSpelled bytes next [] next = record { spells = refl; next_is = omega arith } in
     let Tail : List ℕ → Type 0 = λ s. IsSpelled bytes next s next in
@@ -75,13 +82,17 @@ no_room depth room d none bound =
     omega (arith, size_some d)
 
 -- where nothing is, the fault is right
-pub value_fault : (depth room : ℕ) (bytes : List ℕ) (at : ℕ) (place : Unreadable) (r : Result Part (OrMemory Unreadable)) → IsErrAnd r (λ e. e ≡ Other place) → LacksValue depth room bytes at → GivesValue depth room bytes at r
+pub value_fault : (depth room : ℕ) (bytes : List ℕ) (at : ℕ) (place : Unreadable)
+    (r : Result Part (OrMemory Unreadable)) → IsErrAnd r (λ e. e ≡ Other place) → LacksValue depth room bytes at
+    → GivesValue depth room bytes at r
 value_fault depth room bytes at place (Ok part) e none = absurd e
 value_fault depth room bytes at place (Err fault) e none =
     let P : OrMemory Unreadable → Type 0 = λ f. GivesValue depth room bytes at (Err f) in
     subst P (sym e) none
 
-pub tail_fault : (tag depth room : ℕ) (bytes : List ℕ) (at : ℕ) (place : Unreadable) (r : Result Part (OrMemory Unreadable)) → IsErrAnd r (λ e. e ≡ Other place) → LacksTail tag depth room bytes at → GivesTail tag depth room bytes at r
+pub tail_fault : (tag depth room : ℕ) (bytes : List ℕ) (at : ℕ) (place : Unreadable)
+    (r : Result Part (OrMemory Unreadable)) → IsErrAnd r (λ e. e ≡ Other place) → LacksTail tag depth room bytes at
+    → GivesTail tag depth room bytes at r
 tail_fault tag depth room bytes at place (Ok part) e none = absurd e
 tail_fault tag depth room bytes at place (Err fault) e none =
     let P : OrMemory Unreadable → Type 0 = λ f. GivesTail tag depth room bytes at (Err f) in
@@ -126,7 +137,9 @@ as_list (text bytes) e = absurd (omega arith)
 
 -- ---- numbers
 
-pub number_given : (bytes : List ℕ) (at : ℕ) (n : ℤ) (next depth room : ℕ) (d : Datum) → IsFieldAt integer_field bytes at n next → d ≡ number (cast_signed w64 (cast_unsigned w64 n)) → HasTail 3 depth (room + 1) bytes at (record { value = d; next = next; room = room })
+pub number_given : (bytes : List ℕ) (at : ℕ) (n : ℤ) (next depth room : ℕ) (d : Datum)
+    → IsFieldAt integer_field bytes at n next → d ≡ number (cast_signed w64 (cast_unsigned w64 n))
+    → HasTail 3 depth (room + 1) bytes at (record { value = d; next = next; room = room })
 number_given bytes at n next depth room d here is =
     let same : number n ≡ d = sym (is ∙ ap number (to_z-of_z w64 n here.0)) in
     let Given : Datum → Type 0 = λ x. HasTail 3 depth (room + 1) bytes at (record { value = x; next = next; room = room }) in
@@ -141,12 +154,16 @@ no_number bytes at depth room none d next tag bound p =
 
 -- ---- texts
 
-pub text_given : (bytes : List ℕ) (at : ℕ) (t : List ℕ) (next depth room left : ℕ) (d : Datum) → IsFieldAt bytes_field bytes at t next → left + length t ≡ room → d ≡ text t → HasTail 4 depth (room + 1) bytes at (record { value = d; next = next; room = left })
+pub text_given : (bytes : List ℕ) (at : ℕ) (t : List ℕ) (next depth room left : ℕ) (d : Datum)
+    → IsFieldAt bytes_field bytes at t next → left + length t ≡ room → d ≡ text t
+    → HasTail 4 depth (room + 1) bytes at (record { value = d; next = next; room = left })
 text_given bytes at t next depth room left d here sum is =
     let Given : Datum → Type 0 = λ x. HasTail 4 depth (room + 1) bytes at (record { value = x; next = next; room = left }) in
     subst Given (sym is) (refl, (here.1, record { wide = tt; nested = omega arith; sized = omega arith }))
 
-text_there : (bytes : List ℕ) (at : ℕ) (depth room : ℕ) (d : Datum) (next : ℕ) → room ≤ MOST_VALUE_SIZE → 4 ≡ tag_of d → IsBounded depth (room + 1) d → IsSpelled bytes at (tail_of d) next → (t : List ℕ) × (IsFieldAt bytes_field bytes at t next × (length t ≤ room))
+text_there : (bytes : List ℕ) (at : ℕ) (depth room : ℕ) (d : Datum) (next : ℕ) → room ≤ MOST_VALUE_SIZE → 4 ≡ tag_of d
+    → IsBounded depth (room + 1) d → IsSpelled bytes at (tail_of d) next
+    → (t : List ℕ) × (IsFieldAt bytes_field bytes at t next × (length t ≤ room))
 text_there bytes at depth room d next small tag bound p =
     let t = as_text d tag in
     let P : Datum → Type 0 = λ x. IsBounded depth (room + 1) x × IsSpelled bytes at (tail_of x) next in
@@ -160,7 +177,8 @@ no_text bytes at depth room small none d next tag bound p =
     let there = text_there bytes at depth room d next small tag bound p in
     none there.0 next there.1.0
 
-pub no_short_text : (bytes : List ℕ) (at : ℕ) (t : List ℕ) (next depth room : ℕ) → room ≤ MOST_VALUE_SIZE → IsFieldAt bytes_field bytes at t next → room < length t → LacksTail 4 depth (room + 1) bytes at
+pub no_short_text : (bytes : List ℕ) (at : ℕ) (t : List ℕ) (next depth room : ℕ) → room ≤ MOST_VALUE_SIZE
+    → IsFieldAt bytes_field bytes at t next → room < length t → LacksTail 4 depth (room + 1) bytes at
 no_short_text bytes at t next depth room small here long d end' tag bound p =
     let there = text_there bytes at depth room d end' small tag bound p in
     let same : t ≡ there.0 = (same_field bytes_field bytes_one bytes at t there.0 next end' here there.1.0).0 in

@@ -1,6 +1,6 @@
 -- A file: a magic, then records up to the end.
 use Rattle.std.specs.Prelude.{◌≡◌, ℕ, ◌+◌, ◌<◌, ◌≤◌, List, [], ◌∷◌, ◌++◌, length, Option, Some, None, Result, IfOk, ◌⊎◌}
-use Rattle.wire.specs.Spellings.{Field, IsSpelled, IsFieldAt, bytes_spelling, framed, HasOneSpelling, Reading, TakesField}
+use Rattle.wire.specs.Spellings.{Field, IsSpelled, IsFieldAt, bytes_spelling, framed, HasOneSpelling, Reading}
 use Rattle.basis.specs.UnlessMemory.{UnlessMemory}
 use Rattle.basis.specs.declared.or_memory.OrMemory.{OrMemory}
 use Rattle.wire.specs.declared.fault.PastLimit.{PastLimit}
@@ -16,6 +16,7 @@ pub record Format (A : Type 0) : Type 1 where
 abbrev pub record_spelling : {A : Type 0} → Format A → A → List ℕ
 record_spelling format x = bytes_spelling (format.payload x)
 
+-- records, one after another
 abbrev pub records_spelling : {A : Type 0} → Format A → List A → List ℕ
 records_spelling format [] = []
 records_spelling format (x ∷ xs) = record_spelling format x ++ records_spelling format xs
@@ -24,13 +25,14 @@ records_spelling format (x ∷ xs) = record_spelling format x ++ records_spellin
 abbrev pub file_spelling : {A : Type 0} → Format A → List A → List ℕ
 file_spelling format xs = format.magic ++ records_spelling format xs
 
--- what the payload of a record behind these may be, and the record
+-- what the payload of a record behind these may be
 abbrev pub payload_field : {A : Type 0} → Format A → List A → Field A
 payload_field format before = record {
   allows = λ x. format.allows before x;
   spelling = λ x. format.payload x;
 }
 
+-- what a record behind these may be
 abbrev pub record_field : {A : Type 0} → Format A → List A → Field A
 record_field format before = framed (payload_field format before)
 
@@ -45,6 +47,7 @@ pub record Spells {A : Type 0} (format : Format A) (bytes : List ℕ) (items : L
   pub spelled : bytes ≡ file_spelling format items
   pub allowed : MayFollow format [] items
 
+-- The file begins with the magic.
 abbrev pub HasMagic : {A : Type 0} → Format A → List ℕ → Type 0
 HasMagic format bytes = (rest : List ℕ) × (bytes ≡ format.magic ++ rest)
 
@@ -72,6 +75,7 @@ Decodes format bytes result =
 abbrev pub IsPayload : {A : Type 0} → Format A → List A → List ℕ → A → Type 0
 IsPayload format before payload x = format.allows before x × (payload ≡ format.payload x)
 
+-- The payload spells no item that may stand behind these.
 abbrev pub SpellsNone : {A : Type 0} → Format A → List A → List ℕ → Type 0
 SpellsNone {A} format before payload = (x : A) → ¬ IsPayload format before payload x
 
@@ -84,24 +88,16 @@ TakesPayload format before payload result =
     (λ fault. SpellsNone format before payload)
     result
 
--- A reader takes the payload behind whatever it has read; and then it has read the item too.
+-- A reader takes the payload behind whatever it has read.
 abbrev pub TakesNext :
     {S A : Type 0} → Format A → (S → List A → Type 0) → S → List ℕ → Reading A → Type 0
 TakesNext {A = A} format has_read reader payload result =
     (before : List A) → has_read reader before → TakesPayload format before payload result
 
-abbrev pub GoesOn :
-    {S A X : Type 0} → (X → A) → (S → List A → Type 0) → S → S → Reading X → Type 0
-GoesOn {A = A} view has_read old new result =
-    (before : List A) →
-    has_read old before → IfOk result (λ x. has_read new (before ++ view x ∷ []))
-
--- The same of the record at a place.
-abbrev pub TakesRecord :
-    {S A : Type 0} → Format A → (S → List A → Type 0) → S → List ℕ → ℕ → Reading (A × ℕ) → Type 0
-TakesRecord {A = A} format has_read reader bytes at result =
-    (before : List A) →
-    has_read reader before → TakesField (λ x. x) (record_field format before) bytes at result
+-- Then it has read the item too.
+abbrev pub GoesOn : {S A : Type 0} → (S → List A → Type 0) → S → S → Reading A → Type 0
+GoesOn {A = A} has_read old new result =
+    (before : List A) → has_read old before → IfOk result (λ x. has_read new (before ++ x ∷ []))
 
 -- ---- lengths
 

@@ -1,3 +1,4 @@
+pub mod FileReaders
 pub mod Files
 pub mod Readers
 pub mod Recorded

@@ -9,6 +9,7 @@ use Rattle.wire.specs.Spellings.{Reading, IsFieldAt, bytes_field}
 abbrev pub payload_at : List ℕ → ℕ → List ℕ
 payload_at bytes at = take (from_be_bytes w32 (take 4 (drop at bytes))) (drop (at + 4) bytes)
 
+-- the payloads of the records that begin at these places
 abbrev pub payloads_at : List ℕ → List ℕ → List (List ℕ)
 payloads_at bytes places = map (payload_at bytes) places
 

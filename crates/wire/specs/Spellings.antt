@@ -14,6 +14,7 @@ pub record Field (A : Type 0) : Type 1 where
   pub allows : A → Type 0
   pub spelling : A → List ℕ
 
+-- one byte
 abbrev pub byte_field : Field ℕ
 byte_field = record { allows = λ n. n < 256; spelling = λ n. n ∷ [] }
 
@@ -25,6 +26,7 @@ number_field w = record { allows = λ n. n < 256 ^ byte_len w; spelling = λ n. 
 abbrev pub integer_spelling : ℤ → List ℕ
 integer_spelling n = to_be_bytes w64 (cast_unsigned w64 n)
 
+-- a signed number of 64 bits
 abbrev pub integer_field : Field ℤ
 integer_field = record { allows = λ n. FitsSigned w64 n; spelling = λ n. integer_spelling n }
 
@@ -32,6 +34,7 @@ integer_field = record { allows = λ n. FitsSigned w64 n; spelling = λ n. integ
 abbrev pub bytes_spelling : List ℕ → List ℕ
 bytes_spelling bytes = to_be_bytes w32 (length bytes) ++ bytes
 
+-- bytes behind their length
 abbrev pub bytes_field : Field (List ℕ)
 bytes_field = record {
   allows = λ bytes. length bytes < 2 ^ 32;
@@ -50,10 +53,12 @@ abbrev pub choice_spelling : Choice → List ℕ
 choice_spelling Nothing = 0 ∷ []
 choice_spelling (Number n) = 1 ∷ integer_spelling n
 
+-- The number of a choice that has one is of 64 bits.
 abbrev pub IsWideChoice : Choice → Type 0
 IsWideChoice Nothing = Unit {0}
 IsWideChoice (Number n) = FitsSigned w64 n
 
+-- a choice, whose number is of 64 bits
 abbrev pub choice_field : Field Choice
 choice_field = record { allows = λ c. IsWideChoice c; spelling = λ c. choice_spelling c }
 
@@ -67,6 +72,7 @@ abbrev mutual
   value_spelling (text bytes) = 4 ∷ bytes_spelling bytes
   value_spelling (list ds) = 5 ∷ (to_be_bytes w32 (length (members ds)) ++ values_spelling ds)
 
+  -- values, one after another
   pub values_spelling : Data → List ℕ
   values_spelling none = []
   values_spelling (more d ds) = value_spelling d ++ values_spelling ds
@@ -84,10 +90,12 @@ abbrev mutual
   HasWideNumbers (text bytes) = Unit {0}
   HasWideNumbers (list ds) = HaveWideNumbers ds
 
+  -- Each number in these values is one of 64 bits.
   pub HaveWideNumbers : Data → Type 0
   HaveWideNumbers none = Unit {0}
   HaveWideNumbers (more d ds) = HasWideNumbers d × HaveWideNumbers ds
 
+-- a value within the limits, whose numbers are of 64 bits
 abbrev pub value_field : Field Datum
 value_field = record {
   allows = λ d. IsWithinLimits d × HasWideNumbers d;

@@ -6,7 +6,7 @@ use Rattle.wire.specs.Spellings.{IsSpelled, value_spelling, values_spelling, int
 use Rattle.basis.specs.UnlessMemory.{UnlessMemory}
 use Rattle.wire.specs.declared.value_reading.Part.{Part}
 
--- the first byte of a value's spelling, and what stands behind it
+-- the first byte of a value's spelling
 abbrev pub tag_of : Datum → ℕ
 tag_of null = 0
 tag_of (bool false) = 1
@@ -15,6 +15,7 @@ tag_of (number n) = 3
 tag_of (text bytes) = 4
 tag_of (list ds) = 5
 
+-- what stands behind it
 abbrev pub tail_of : Datum → List ℕ
 tail_of null = []
 tail_of (bool b) = []
@@ -34,21 +35,23 @@ pub record IsWithinRoom (depth room : ℕ) (part : Part) : Type 0 where
   pub nested : nesting part.value ≤ depth
   pub sized : part.room + size part.value ≡ room
 
--- No value of these bounds stands at the place; and none with this tag behind it.
+-- No value of these bounds stands at the place.
 abbrev pub LacksValue : ℕ → ℕ → List ℕ → ℕ → Type 0
 LacksValue depth room bytes at =
     (d : Datum) (next : ℕ) → IsBounded depth room d → IsSpelled bytes at (value_spelling d) next → ⊥
 
+-- Behind this tag no value of these bounds goes on at the place.
 abbrev pub LacksTail : ℕ → ℕ → ℕ → List ℕ → ℕ → Type 0
 LacksTail tag depth room bytes at =
     (d : Datum) (next : ℕ) →
     tag ≡ tag_of d → IsBounded depth room d → IsSpelled bytes at (tail_of d) next → ⊥
 
--- This value stands at the place, within these bounds; and, behind the tag, what is behind it.
+-- This value stands at the place, within these bounds.
 abbrev pub HasValue : ℕ → ℕ → List ℕ → ℕ → Part → Type 0
 HasValue depth room bytes at part =
     IsSpelled bytes at (value_spelling part.value) part.next × IsWithinRoom depth room part
 
+-- Behind this tag the value goes on at the place, within these bounds.
 abbrev pub HasTail : ℕ → ℕ → ℕ → List ℕ → ℕ → Part → Type 0
 HasTail tag depth room bytes at part =
     (tag ≡ tag_of part.value)

@@ -1,5 +1,6 @@
-ghost use Rattle.std.specs.Prelude.{◌++◌, ◌≡◌, ◌≤◌, ◌<◌, ◌^◌, length, IfOk, OnOk};
-ghost use Rattle.wire.specs.Files.{TakesRecord, GoesOn, Decodes, Encodes, HasLen};
+ghost use Rattle.std.specs.Prelude.{◌++◌, ◌≡◌, ◌≤◌, ◌<◌, ◌^◌, length, IfOk, IfSome, OnOk};
+ghost use Rattle.wire.specs.Files.{Decodes, Encodes, HasLen};
+ghost use Rattle.wire.specs.FileReaders.{Begins, ReadsNext, IsNearer};
 ghost use Rattle.wire.specs.Files.{record_spelling, file_spelling};
 
 use crate::fault::{PastLimit, Unreadable};
@@ -10,21 +11,51 @@ use crate::writing::write_u32;
 use basis::{Items, OrMemory};
 use std::alloc::{AllocError, Global};
 
-/// The item of the record at a place, and the place behind the record.
-pub(crate) fn read_record<R: RecordReader>(
-    alloc: Global,
-    reader: &mut R,
-    bytes: &[u8],
+/// A file whose records are read one after another, up to a place.
+#[derive(Drop)]
+pub(crate) struct FileReader<'a, R> {
+    reader: R,
+    bytes: &'a [u8],
     at: usize,
-) -> Result<(R::Item, usize), OrMemory<Unreadable>>
-    ensures takes { TakesRecord R.format R.HasRead reader.old bytes.now at result }
-    ensures goes_on { GoesOn (λ x. x.0) R.HasRead reader.old reader.new result }
-{
-    let (payload, next) = frame(bytes, at)?;
-    match reader.read(alloc, payload) {
-        Ok(item) => Ok((item, next)),
-        Err(OrMemory::Memory) => Err(OrMemory::Memory),
-        Err(OrMemory::Other(_)) => Err(OrMemory::Other(Unreadable { at })),
+}
+
+impl<'a, R: RecordReader> FileReader<'a, R> {
+    /// Before the first record.
+    pub(crate) fn new(bytes: &'a [u8]) -> Result<FileReader<'a, R>, Unreadable>
+        ensures { Begins R.format R.HasRead bytes.now result }
+    {
+        let magic = R::magic();
+        if !bytes.starts_with(magic) {
+            return Err(Unreadable { at: 0 });
+        }
+        Ok(FileReader {
+            reader: R::new(),
+            bytes,
+            at: magic.len(),
+        })
+    }
+
+    /// The place and the item of the next record, or `None` behind the last one.
+    pub(crate) fn next(
+        &mut self,
+        alloc: Global,
+    ) -> Result<Option<(usize, R::Item)>, OrMemory<Unreadable>>
+        ensures reads { ReadsNext R.format R.HasRead self.old self.new result }
+        ensures nearer { IfOk result (λ o. IfSome o (λ _. IsNearer self.old self.new)) }
+    {
+        let at = self.at;
+        if at == self.bytes.len() {
+            return Ok(None);
+        }
+        let (payload, next) = frame(self.bytes, at)?;
+        match self.reader.read(alloc, payload) {
+            Ok(item) => {
+                self.at = next;
+                Ok(Some((at, item)))
+            }
+            Err(OrMemory::Memory) => Err(OrMemory::Memory),
+            Err(OrMemory::Other(_)) => Err(OrMemory::Other(Unreadable { at })),
+        }
     }
 }
 
@@ -35,17 +66,10 @@ pub fn read_file<R: RecordReader>(
 ) -> Result<Items<R::Item>, OrMemory<Unreadable>>
     ensures { Decodes R.format bytes.now result }
 {
-    let magic = R::magic();
-    if !bytes.starts_with(magic) {
-        return Err(OrMemory::Other(Unreadable { at: 0 }));
-    }
-    let mut reader = R::new();
+    let mut file = FileReader::<R>::new(bytes)?;
     let mut items = Vec::new(alloc);
-    let mut at = magic.len();
-    while at < bytes.len() {
-        let (item, next) = read_record(alloc, &mut reader, bytes, at)?;
+    while let Some((_, item)) = file.next(alloc)? {
         items.push(item)?;
-        at = next;
     }
     Ok(Items::from_vec(items))
 }

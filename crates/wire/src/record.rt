@@ -26,7 +26,7 @@ pub trait RecordReader: RecordFormat + Drop {
     /// The item whose payload this is. It doesn't matter which place a fault names.
     fn read(&mut self, alloc: Global, payload: &[u8]) -> Result<Self::Item, OrMemory<Unreadable>>
         ensures takes { TakesNext Self.format HasRead self.old payload.now result }
-        ensures goes_on { GoesOn (λ x. x) HasRead self.old self.new result };
+        ensures goes_on { GoesOn HasRead self.old self.new result };
 }
 
 /// A writer of the records of a file.

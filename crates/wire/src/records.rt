@@ -4,7 +4,7 @@ ghost use Rattle.wire.specs.Recorded.{Splits};
 
 use crate::fault::Unreadable;
 use crate::field::frame;
-use crate::file::read_record;
+use crate::file::FileReader;
 use crate::record::RecordReader;
 use basis::OrMemory;
 use std::alloc::{AllocError, Global};
@@ -38,18 +38,12 @@ impl Records {
     ) -> Result<Records, OrMemory<Unreadable>>
         ensures { Splits R.format bytes.items result }
     {
-        let magic = R::magic();
-        if !bytes.starts_with(magic) {
-            return Err(OrMemory::Other(Unreadable { at: 0 }));
-        }
-        let mut reader = R::new();
+        let mut file = FileReader::<R>::new(&bytes)?;
         let mut places = Vec::new(alloc);
-        let mut at = magic.len();
-        while at < bytes.len() {
-            let (_, next) = read_record(alloc, &mut reader, &bytes, at)?;
+        while let Some((at, _)) = file.next(alloc)? {
             places.push(as_place(at)?)?;
-            at = next;
         }
+        drop(file);
         Ok(Records { bytes, places })
     }
 

@@ -8,7 +8,8 @@ use Rattle.script_tree.specs.declared.limits.TheConstants.{MOST_REQUEST_TEXT_BYT
 use Rattle.workload.specs.Generated.{next, upper_half, request_drawn, drawn_from}
 
 -- the jobs so far, the next one, and those of the draws that are left
-pub next_draw : (left more x : ℕ) (past pushed : List Request) (q : Request) → left ≡ more + 1 → q ≡ request_drawn (upper_half (next x)) → pushed ≡ past ++ q ∷ []
+pub next_draw : (left more x : ℕ) (past pushed : List Request) (q : Request) → left ≡ more + 1
+    → q ≡ request_drawn (upper_half (next x)) → pushed ≡ past ++ q ∷ []
     → past ++ drawn_from left x ≡ pushed ++ drawn_from more (next x)
 next_draw left more x past pushed q one is all =
     let suc_more : left ≡ suc more = omega arith in

@@ -1,4 +1,3 @@
 pub mod Draws
-pub mod JobParts
 pub mod OneByOne
 pub mod OneWay

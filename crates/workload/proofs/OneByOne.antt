@@ -36,12 +36,15 @@ none_left n ts left enough e = (no_items, items_end item_of_text n ts left enoug
 abbrev pub GoOn : List Token → List Request → ℕ → List Token → Type 0
 GoOn all past turns ts = (more : List Request) (left : List Token) → BeginWithFewer turns ts more left → BeginWithJobs all (past ++ more) left
 
-pub next_turn : (all ts us : List Token) (n : ℕ) (past pushed : List Request) (q : Request) → 0 < n → after_end_array ts ≡ None → BeginWithJob ts q us → pushed ≡ past ++ q ∷ []
+pub next_turn : (all ts us : List Token) (n : ℕ) (past pushed : List Request) (q : Request) → 0 < n
+    → after_end_array ts ≡ None → BeginWithJob ts q us → pushed ≡ past ++ q ∷ []
     → GoOn all past n ts → GoOn all pushed (n - 1) us
 next_turn all ts us n past pushed q some going first is so_far more left rest =
-    subst (λ qs. BeginWithJobs all qs left) (sym (append_assoc past (q ∷ []) more) ∙ ap (λ qs. qs ++ more) (sym is)) (so_far (q ∷ more) left (one_before n ts us left q more some going first rest))
+    subst (λ qs. BeginWithJobs all qs left) (sym (append_assoc past (q ∷ []) more) ∙ ap (λ qs. qs ++ more) (sym is))
+    (so_far (q ∷ more) left (one_before n ts us left q more some going first rest))
 
-pub last_turn : (all ts left : List Token) (n : ℕ) (past qs : List Request) → length ts ≤ n → after_end_array ts ≡ Some left → qs ≡ past → GoOn all past n ts → BeginWithJobs all qs left
+pub last_turn : (all ts left : List Token) (n : ℕ) (past qs : List Request) → length ts ≤ n
+    → after_end_array ts ≡ Some left → qs ≡ past → GoOn all past n ts → BeginWithJobs all qs left
 last_turn all ts left n past qs enough e is so_far =
     let same : past ++ [] ≡ qs = search (rules, is) in
     subst (λ rs. BeginWithJobs all rs left) same (so_far [] left (none_left n ts left enough e))
@@ -56,7 +59,9 @@ whole_text text ts qs opens (js, all, (ds, are, jobs)) =
 -- ---- trees
 
 -- what gives a tree each gives the trees of all
-pub all_trees : (vs : List (Value Global)) (ts : List owned.Value) → map (λ v. of_json (borrowed.value_view v)) vs ≡ map (λ t. Some (view t)) ts → of_items (borrowed.items_view vs) ≡ Some (items_view ts)
+pub all_trees : (vs : List (Value Global)) (ts : List owned.Value)
+    → map (λ v. of_json (borrowed.value_view v)) vs ≡ map (λ t. Some (view t)) ts
+    → of_items (borrowed.items_view vs) ≡ Some (items_view ts)
 all_trees [] [] e = refl
 all_trees [] (t ∷ ts) e = absurd cc
 all_trees (v ∷ vs) [] e = absurd cc
@@ -66,6 +71,7 @@ all_trees (v ∷ vs) (t ∷ ts) e =
     rw (first, all_trees vs ts rest) refl
 
 -- the next member, put in after those before it
-pub next_member : (m : Bor (List ℕ) × Value Global) (ms : List (Bor (List ℕ) × Value Global)) (d : tree.Data) (old : tree.Members) → of_json (borrowed.value_view m.1) ≡ Some d
+pub next_member : (m : Bor (List ℕ) × Value Global) (ms : List (Bor (List ℕ) × Value Global)) (d : tree.Data)
+    (old : tree.Members) → of_json (borrowed.value_view m.1) ≡ Some d
     → of_members (borrowed.members_view (m ∷ ms)) old ≡ of_members (borrowed.members_view ms) (tree.put m.0.now d old)
 next_member m ms d old is = rw is refl

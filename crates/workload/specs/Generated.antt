@@ -17,15 +17,18 @@ upper_half x = x / 2 ^ 32
 
 -- ---- the job of a drawn number
 
+-- its path, one of four
 abbrev pub path_drawn : ℕ → List ℕ
 path_drawn d =
     if d % 4 == 0 then codes "/hit"
     else (if d % 4 == 1 then codes "/put"
     else (if d % 4 == 2 then codes "/get" else codes "/row"))
 
+-- its parameters: none, or `k` with one of eight values
 abbrev pub parameters_drawn : ℕ → List Parameter
 parameters_drawn d = if d % 4 == 0 then [] else record { name = codes "k"; value = decimal (d / 4 % 8) } ∷ []
 
+-- the request of a drawn number
 abbrev pub request_drawn : ℕ → Request
 request_drawn d = request_with (codes "GET") (path_drawn d) (parameters_drawn d) []
 
@@ -36,5 +39,6 @@ abbrev pub drawn_from : ℕ → ℕ → List Request
 drawn_from zero x = []
 drawn_from (suc left) x = request_drawn (upper_half (next x)) ∷ drawn_from left (next x)
 
+-- the requests of a self test of so many jobs
 abbrev pub generated : ℕ → List Request
 generated n = drawn_from n n

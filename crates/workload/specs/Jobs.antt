@@ -18,14 +18,17 @@ parameter_of d = do
   value ← text_of pair.1
   Some (record { name = name; value = value })
 
+-- an array of parameters
 abbrev pub parameters_of : json.Data → Option (List Parameter)
 parameters_of = array_of parameter_of
 
 -- ---- the members of a job
 
+-- the names that a job's members may have
 abbrev pub member_names : List (List ℕ)
 member_names = codes "path" ∷ codes "method" ∷ codes "params" ∷ codes "body" ∷ []
 
+-- the request of these parts, where each is there
 abbrev pub job_with : Option (List ℕ) → Option (List ℕ) → Option (List Parameter) → Option (List ℕ) → Option Request
 job_with method path parameters body = do
   m ← method
@@ -44,13 +47,16 @@ job_in ms =
     (read_or [] text_of (get_member (codes "body") ms))
     else None
 
+-- a job, which is an object
 abbrev pub job_of : json.Data → Option Request
 job_of d = as_object d >>= job_in
 
+-- an array of jobs
 abbrev pub jobs_of : json.Data → Option (List Request)
 jobs_of = array_of job_of
 
 -- ---- limits
 
+-- whether there are no more jobs than may be, and each is within the limits
 abbrev pub are_within_limits : List Request → Bool
 are_within_limits jobs = nat_le (length jobs) MOST_REQUESTS && list_all is_request_within_limits jobs

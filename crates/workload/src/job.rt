@@ -84,7 +84,7 @@ fn job_in(alloc: Global, mut members: Map<String, Json>) -> Result<Option<Job>, 
 }
 
 /// All parts together, where each is there.
-pub(crate) fn job_with(
+fn job_with(
     method: Option<Text>,
     path: Option<Text>,
     parameters: Option<Parameters>,
@@ -121,7 +121,7 @@ fn text_or(alloc: Global, json: Option<Json>, otherwise: &str) -> Result<Option<
 }
 
 /// The shape of a parameter: its name and its value.
-pub(crate) struct ParameterShape;
+struct ParameterShape;
 
 impl Shape for ParameterShape {
     ghost use Rattle.workload.specs.Jobs.{parameter_of};

@@ -8,7 +8,6 @@ mod job;
 pub mod law;
 pub mod limits;
 mod one_by_one;
-mod parts;
 pub mod requests;
 mod tree;
 pub mod turns;

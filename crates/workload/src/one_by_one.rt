@@ -6,10 +6,12 @@ ghost use Rattle.workload.specs.Jobs.{are_within_limits};
 ghost use Rattle.workload.specs.Files.{AreRequests};
 ghost use Rattle.workload.specs.OneByOne.{BeginWithJob, BeginWithJobs};
 
-use crate::parts::job_of;
+use crate::job::JobShape;
 use crate::requests::Requests;
+use crate::tree::tree_of;
 use basis::Items;
 use json::{Error, Reader, Scratch, Token, Value as Borrowed};
+use json_texts::shape::Shape;
 use script_tree::limits::MOST_REQUESTS;
 use script_tree::request::Request;
 use std::alloc::{AllocError, Global};
@@ -80,7 +82,10 @@ fn next_job(alloc: Global, reader: &mut Reader<'_>) -> Result<Option<Request>, A
         Err(Error::OutOfMemory) => return Err(AllocError),
         Err(Error::Invalid | Error::TooLong | Error::DuplicateKey) => return Ok(None),
     };
-    match job_of(alloc, &value)? {
+    let Some(tree) = tree_of(alloc, &value)? else {
+        return Ok(None);
+    };
+    match JobShape::read(alloc, tree)? {
         Some(job) => Ok(job.into_request()),
         None => Ok(None),
     }

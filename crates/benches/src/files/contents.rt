@@ -2,8 +2,8 @@
 ghost use Rattle.std.specs.Prelude.{◌≡◌, IfSome};
 ghost use Rattle.benches.specs.Spelled.{spelling, MayBeEncoded};
 
-use report::Report;
-use script_tree::trace::Trace;
+use period::report::Report;
+use period::trace::Trace;
 use std::alloc::Global;
 
 /// What a file holds.

@@ -1,6 +1,6 @@
 //! What the checks of a report and the order of its events come to.
 ghost use Rattle.std.specs.Prelude.{IfOk};
-ghost use Rattle.script_tree.specs.Traces.{IsBalanced};
+ghost use Rattle.period.specs.Traces.{IsBalanced};
 
 use audit_meaning::node::Nodes;
 use audit_meaning::reason::Reason;
@@ -8,7 +8,7 @@ use audit_order::{Ordered, order_events};
 use basis::OrMemory;
 use log_checker::{check_groups, check_logs};
 use object_set::ObjectSet;
-use report::Report;
+use period::report::Report;
 use std::alloc::{AllocError, Global};
 use std::io::{self, ErrorKind};
 use trace_format::balance::first_unbalanced;

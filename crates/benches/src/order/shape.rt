@@ -2,7 +2,8 @@
 use crate::order::events::Events;
 use crate::words::text_of;
 use basis::Items;
-use report::{Count, Counts, Group, Groups, Log, LogEntries, LogEntry, Logs, Report};
+use period::group::{Group, Groups};
+use period::report::{Count, Counts, Log, LogEntries, LogEntry, Logs, Report};
 use script_tree::operation::{Act, Choice, Object};
 use std::alloc::{AllocError, Global};
 use std::io::{self, ErrorKind};

@@ -7,7 +7,8 @@
 use crate::order::events::Events;
 use crate::words::{number, text_of};
 use basis::Items;
-use report::{Count, Counts, Group, Groups, Log, LogEntry, Logs, Report};
+use period::group::{Group, Groups};
+use period::report::{Count, Counts, Log, LogEntry, Logs, Report};
 use script_tree::operation::{Act, Choice, Object};
 use script_tree::value::Value;
 use std::alloc::{AllocError, Global};

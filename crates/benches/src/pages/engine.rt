@@ -2,9 +2,9 @@
 use crate::pages::inputs::request_of;
 use machine::{Machine, MachineStep};
 use page_walker::{Walker, WalkerStep};
+use script_check::lookup::Index;
 use script_check::program::Program;
 use script_code::translate::{Code, translate};
-use script_index::Index;
 use script_tree::limits::MOST_OPERATIONS;
 use script_tree::request::Request;
 use script_tree::value::Value;

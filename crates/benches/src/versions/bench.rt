@@ -1,7 +1,7 @@
 //! The bench: answers a large log.
 use crate::versions::shape::{Shape, logs_of, start_of};
 use object_set::ObjectSet;
-use report::Log;
+use period::report::Log;
 use std::alloc::AllocError;
 use std::io::{self, ErrorKind};
 use std::time::Instant;

@@ -6,11 +6,10 @@ use script_tree::operation::{Choice, Op};
 use script_tree::value::Value;
 use std::alloc::Global;
 use std::io::{self, ErrorKind};
-use versioned_store::fitting::fits;
 
-/// What an operation answers, where it is one that its object is asked for.
+/// What an operation answers, where it is one of the program.
 fn answer_of(objects: &mut ObjectSet, op: &Op) -> Option<Value> {
-    if fits(objects, &op.object, &op.act) {
+    if objects.is_of_program(&op.object, &op.act) {
         objects.apply(op, Choice::Nothing).ok()
     } else {
         None

@@ -3,7 +3,7 @@ use crate::versions::words::{empty_objects, entry_of, row_of, select, update};
 use crate::words::text_of;
 use basis::Items;
 use object_set::ObjectSet;
-use report::Log;
+use period::report::Log;
 use script_tree::operation::{Act, Object};
 use script_tree::transaction::{Statement, Statements};
 use script_tree::value::Value;

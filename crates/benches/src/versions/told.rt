@@ -2,7 +2,7 @@
 use crate::versions::fold::start_of;
 use crate::versions::words::{Row, log_of};
 use object_set::ObjectSet;
-use report::Log;
+use period::report::Log;
 use script_tree::value::{Node, Value};
 use std::alloc::{AllocError, Global};
 use std::io::{self, ErrorKind};

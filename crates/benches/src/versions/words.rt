@@ -6,7 +6,7 @@
 use crate::words::text_of;
 use basis::Items;
 use object_set::ObjectSet;
-use report::{Log, LogEntry};
+use period::report::{Log, LogEntry};
 use script_tree::comparison::Comparison;
 use script_tree::operation::{Act, Choice, Object};
 use script_tree::syntax::declaration::Declaration;

@@ -15,7 +15,9 @@ expression::check_arguments-returns-in-len1-up t c =
     let known = c.args.scope.now in
     let es = c.args.arguments.now in
     let l = c.args.found.now.least in
-    then_next l c.check_store.new.found.least c.check_expressions.new.found.least (store_faults ds c.store-item.result) (in_expressions ds known (take (length es - 1) (drop 1 es))) c.check_store.ensures c.check_expressions.ensures
+    then_next l c.check_store.new.found.least c.check_expressions.new.found.least
+    (store_faults ds c.store-item.result) (in_expressions ds known
+    (take (length es - 1) (drop 1 es))) c.check_store.ensures c.check_expressions.ensures
     ∙ ap (lower l) (store_and_others ds known es c.store-item.result c.in-len1-up.len_at_least c.store-item.is)
     ∙ ap (λ b. lower l (arguments_faults ds known b (expressions_of es))) (sym c.if-takes_store.true ∙ c.takes_store.ensures)
 
@@ -23,13 +25,13 @@ pub expression::check_call-returns : goal.expression::check_call-returns
 expression::check_call-returns t c =
     call_found c.args.index.now c.args.scope.now c.args.at c.args.name.now c.args.arguments.now c.args.found.now.least c.check_count.new.found.least c.check_arguments.new.found.least
     c.named-builtin.result c.len.result c.as_bytes-2.result.now c.as_slice.result.now
-    c.len.ensures (c.named-builtin.ensures ∙ ap builtin_of c.as_bytes.ensures) c.as_bytes-2.ensures c.as_slice.ensures c.check_count.ensures c.check_arguments.ensures
+    c.len.ensures (c.named-builtin.ensures ∙ ap (λ v. builtin_of v c.as_bytes.result.now) c.version.ensures ∙ ap (builtin_of c.args.index.now.version) c.as_bytes.ensures) c.as_bytes-2.ensures c.as_slice.ensures c.check_count.ensures c.check_arguments.ensures
 
 pub query::check_query_node-returns-in-Insert : goal.query::check_query_node-returns-in-Insert
 query::check_query_node-returns-in-Insert t c =
     rw c.in-Insert.is (row_found c.args.index.now c.args.scope.now c.args.at c.in-Insert.name c.in-Insert.values c.args.found.now.least c.check_table.new.found.least c.check_row.new.found.least c.check_expressions.new.found.least
     (option_copied c.table-table.result) c.len.result c.as_slice.result.now
-    (c.table-table.ensures ∙ ap (columns_in c.args.index.now) c.as_bytes.ensures) c.len.ensures c.as_slice.ensures c.check_table.ensures c.check_row.ensures c.check_expressions.ensures)
+    (c.table-table.ensures ∙ ap (columns_in c.args.index.now.declarations) c.as_bytes.ensures) c.len.ensures c.as_slice.ensures c.check_table.ensures c.check_row.ensures c.check_expressions.ensures)
 
 pub expression::check_expressions-check_expression-requires : goal.expression::check_expressions-check_expression-requires
 expression::check_expressions-check_expression-requires t c =

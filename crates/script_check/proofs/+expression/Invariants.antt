@@ -38,7 +38,8 @@ decreases-query::check_sets l = 4 * assignments_weight (assignments_of (map assi
 
 abbrev pub invariant-expression::check_expressions-loop-expression : goal.invariant-expression::check_expressions-loop-expression
 invariant-expression::check_expressions-loop-expression l = record {
-  faults : lower l.found.least (in_expressions l.index l.scope (drop l.expression-index l.expressions)) ≡ lower l.fn.found.least (in_expressions l.index l.scope l.expressions);
+  faults : lower l.found.least (in_expressions l.index l.scope (drop l.expression-index l.expressions))
+      ≡ lower l.fn.found.least (in_expressions l.index l.scope l.expressions);
 }
 
 abbrev pub invariant-query::check_queries-loop-query : goal.invariant-query::check_queries-loop-query
@@ -48,7 +49,8 @@ invariant-query::check_queries-loop-query l = record {
 
 abbrev pub invariant-query::check_tests-loop-test : goal.invariant-query::check_tests-loop-test
 invariant-query::check_tests-loop-test l = record {
-  faults : lower l.found.least (in_tests l.index l.scope l.table (drop l.test-index l.tests)) ≡ lower l.fn.found.least (in_tests l.index l.scope l.table l.tests);
+  faults : lower l.found.least (in_tests l.index l.scope l.table (drop l.test-index l.tests))
+      ≡ lower l.fn.found.least (in_tests l.index l.scope l.table l.tests);
 }
 
 abbrev pub invariant-query::check_sets-loop-set : goal.invariant-query::check_sets-loop-set

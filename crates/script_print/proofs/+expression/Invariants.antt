@@ -70,7 +70,9 @@ abbrev pub invariant-query::print_queries-loop-query : goal.invariant-query::pri
 invariant-query::print_queries-loop-query l = IsLeft (queries (drop l.query-index l.list)) (queries l.list) l.fn.printer l.printer
 
 abbrev pub invariant-query::print_more_conditions-loop-condition : goal.invariant-query::print_more_conditions-loop-condition
-invariant-query::print_more_conditions-loop-condition l = IsLeft (more_conditions (drop l.condition-index l.others)) (more_conditions l.others) l.fn.printer l.printer
+invariant-query::print_more_conditions-loop-condition l =
+    IsLeft (more_conditions (drop l.condition-index l.others)) (more_conditions l.others) l.fn.printer l.printer
 
 abbrev pub invariant-query::print_more_assignments-loop-assignment : goal.invariant-query::print_more_assignments-loop-assignment
-invariant-query::print_more_assignments-loop-assignment l = IsLeft (more_assignments (drop l.assignment-index l.others)) (more_assignments l.others) l.fn.printer l.printer
+invariant-query::print_more_assignments-loop-assignment l =
+    IsLeft (more_assignments (drop l.assignment-index l.others)) (more_assignments l.others) l.fn.printer l.printer

@@ -11,7 +11,7 @@ use Rattle.script_tokens.specs.declared.word.Word.TheVariants as w
 use Rattle.script_grammar.specs.Grouping.{most_repeats}
 use Rattle.script_grammar.specs.declared.joint.Joint.TheVariants.{Indexing}
 use Rattle.script_grammar.specs.Machine.{Symbol, Val, of_name, of_names, of_expression, of_expressions, of_comparison, of_tests, of_sets, of_query, of_queries, puts, adds_name, adds_expression, adds_test, adds_set, adds_query, joined_by, prefixed, bracketed, called, listed, transacted, inserted, selected, updated, deleted, expected, act, word, a_name, operand, prefixes, atom, tail, arguments, more_arguments, more_names, a_query, more_queries, filter, more_tests, more_sets, test, assignment, filtered, begin_query}
-use Rattle.script_syntax.specs.Gives.{reading, fault_in, word_token, expression_value, expressions_value, tests_value, query_value}
+use Rattle.script_syntax.specs.Parses.{reading, fault_in, word_token, expression_value, expressions_value, tests_value, query_value}
 use Rattle.script_syntax.proofs.Descend.{act_runs, fails, follows, begin_follows, behind_shorter, operand_more, operand_one, joint_runs, joint_stuck, index_runs, no_prefix_runs, prefix_runs, map_push, arguments_runs, more_arguments_run, call_runs, more_queries_run, queries_end, filter_runs, more_tests_run, more_sets_run}
 use Rattle.script_syntax.proofs.+expression.Goals as goal
 
@@ -63,7 +63,8 @@ expression::more_arguments-loop-alloc-preserved t c = record {
       ∙ more_arguments_run c.args.close c.loop-alloc.tokens (sym c.stands.ensures ∙ c.loop-alloc-test.true) k (of_expressions c.loop-alloc.items ∷ vs)
       ∙ c.in_ok-take.ensures.gives (operand 6 ∷ act adds_expression ∷ more_arguments c.args.close ∷ k) (of_expressions c.loop-alloc.items ∷ vs)
       ∙ c.in_ok-operand.ensures.gives (act adds_expression ∷ more_arguments c.args.close ∷ k) (of_expressions c.loop-alloc.items ∷ vs)
-      ∙ act_runs adds_expression c.operand.new.tokens (more_arguments c.args.close ∷ k) (of_expression c.in_ok-operand.field-0 ∷ of_expressions c.loop-alloc.items ∷ vs)
+      ∙ act_runs adds_expression c.operand.new.tokens (more_arguments c.args.close ∷ k)
+      (of_expression c.in_ok-operand.field-0 ∷ of_expressions c.loop-alloc.items ∷ vs)
       ∙ rw c.in_ok-push.ensures.ok refl;
   shorter = omega (arith, c.loop-alloc.invariant.shorter, c.in_ok-take.ensures.shorter, c.in_ok-operand.ensures.shorter);
 }
@@ -96,20 +97,32 @@ expression::indexed-loop-alloc-preserved t c =
     record {
       told = λ k vs.
           c.loop-alloc.invariant.told k vs
-          ∙ index_runs c.loop-alloc.left c.loop-alloc.tokens (sym c.stands.ensures ∙ c.loop-alloc-test.true) (omega arith) k (of_expression c.loop-alloc.value ∷ vs)
+          ∙ index_runs c.loop-alloc.left c.loop-alloc.tokens (sym c.stands.ensures ∙ c.loop-alloc-test.true)
+          (omega arith) k (of_expression c.loop-alloc.value ∷ vs)
           ∙ ap (λ ts. reading ts (operand 6 ∷ word w.SquareClose ∷ act (joined_by Indexing) ∷ tail 0 (c.loop-alloc.left - 1) ∷ k) (of_expression c.loop-alloc.value ∷ vs)) (sym s)
-          ∙ c.in_ok-place.ensures.gives (word w.SquareClose ∷ act (joined_by Indexing) ∷ tail 0 (c.loop-alloc.left - 1) ∷ k) (of_expression c.loop-alloc.value ∷ vs)
-          ∙ c.in_ok-take.ensures.gives (act (joined_by Indexing) ∷ tail 0 (c.loop-alloc.left - 1) ∷ k) (of_expression c.in_ok-place.place ∷ of_expression c.loop-alloc.value ∷ vs)
-          ∙ act_runs (joined_by Indexing) c.take.new.tokens (tail 0 (c.loop-alloc.left - 1) ∷ k) (of_expression c.in_ok-place.place ∷ of_expression c.loop-alloc.value ∷ vs)
+          ∙ c.in_ok-place.ensures.gives (word w.SquareClose ∷ act (joined_by Indexing) ∷ tail 0
+          (c.loop-alloc.left - 1) ∷ k) (of_expression c.loop-alloc.value ∷ vs)
+          ∙ c.in_ok-take.ensures.gives (act (joined_by Indexing) ∷ tail 0 (c.loop-alloc.left - 1) ∷ k)
+          (of_expression c.in_ok-place.place ∷ of_expression c.loop-alloc.value ∷ vs)
+          ∙ act_runs (joined_by Indexing) c.take.new.tokens (tail 0 (c.loop-alloc.left - 1) ∷ k)
+          (of_expression c.in_ok-place.place ∷ of_expression c.loop-alloc.value ∷ vs)
           ∙ ap (λ e. reading c.take.new.tokens (tail 0 (c.loop-alloc.left - 1) ∷ k) (of_expression e ∷ vs)) (sym c.in_ok-value-2.ensures);
-      shorter = omega (arith, c.loop-alloc.invariant.shorter, behind_shorter c.loop-alloc.tokens, ap (λ (x : Scan). length x.tokens) s, c.in_ok-place.ensures.shorter, c.in_ok-take.ensures.shorter);
+      shorter = omega (
+        arith,
+        c.loop-alloc.invariant.shorter,
+        behind_shorter c.loop-alloc.tokens,
+        ap (λ (x : Scan). length x.tokens) s,
+        c.in_ok-place.ensures.shorter,
+        c.in_ok-take.ensures.shorter,
+      );
     }
 
 -- ---- levels
 
 pub expression::operand-returns-then-level-eq1-clause-gives : goal.expression::operand-returns-then-level-eq1-clause-gives
 expression::operand-returns-then-level-eq1-clause-gives t c =
-    follows expression_value (operand c.args.level ∷ []) [] c.args.tokens.now (prefixes (most_repeats 1) ∷ []) [] c.args.tokens.now c.prefixed.new.tokens c.prefixed.result
+    follows expression_value (operand c.args.level ∷ []) [] c.args.tokens.now
+    (prefixes (most_repeats 1) ∷ []) [] c.args.tokens.now c.prefixed.new.tokens c.prefixed.result
     (λ k vs. ap (λ l. reading c.args.tokens.now (operand l ∷ k) vs) c.if-level-eq1.true ∙ operand_one c.args.tokens.now k vs) c.prefixed.ensures.gives
 
 pub expression::operand-returns-in_err-value-clause-gives : goal.expression::operand-returns-in_err-value-clause-gives
@@ -144,7 +157,9 @@ expression::operand-returns-in_err-right-clause-gives t c =
       act (joined_by c.in-Some.joint) ∷ tail c.args.level (c.loop-joint.left - 1) ∷ k,
       of_expression c.loop-joint.value ∷ vs,
       c.loop-joint.invariant.told k vs
-          ∙ joint_runs c.args.level c.loop-joint.left c.loop-joint.tokens c.in-Some.joint (sym c.joint_at.ensures ∙ c.in-Some.is) c.loop-joint.invariant.big (omega arith) k (of_expression c.loop-joint.value ∷ vs)
+          ∙ joint_runs c.args.level c.loop-joint.left c.loop-joint.tokens c.in-Some.joint
+          (sym c.joint_at.ensures ∙ c.in-Some.is) c.loop-joint.invariant.big (omega arith) k
+          (of_expression c.loop-joint.value ∷ vs)
           ∙ ap (λ ts. reading ts (operand (c.args.level - 1) ∷ act (joined_by c.in-Some.joint) ∷ tail c.args.level (c.loop-joint.left - 1) ∷ k) (of_expression c.loop-joint.value ∷ vs)) (sym s),
     )) c.in_err-right.ensures.gives)
 
@@ -155,17 +170,29 @@ expression::operand-loop-joint-preserved t c =
       big = c.loop-joint.invariant.big;
       told = λ k vs.
           c.loop-joint.invariant.told k vs
-          ∙ joint_runs c.args.level c.loop-joint.left c.loop-joint.tokens c.in-Some.joint (sym c.joint_at.ensures ∙ c.in-Some.is) c.loop-joint.invariant.big (omega arith) k (of_expression c.loop-joint.value ∷ vs)
+          ∙ joint_runs c.args.level c.loop-joint.left c.loop-joint.tokens c.in-Some.joint
+          (sym c.joint_at.ensures ∙ c.in-Some.is) c.loop-joint.invariant.big (omega arith) k
+          (of_expression c.loop-joint.value ∷ vs)
           ∙ ap (λ ts. reading ts (operand (c.args.level - 1) ∷ act (joined_by c.in-Some.joint) ∷ tail c.args.level (c.loop-joint.left - 1) ∷ k) (of_expression c.loop-joint.value ∷ vs)) (sym s)
-          ∙ c.in_ok-right.ensures.gives (act (joined_by c.in-Some.joint) ∷ tail c.args.level (c.loop-joint.left - 1) ∷ k) (of_expression c.loop-joint.value ∷ vs)
-          ∙ act_runs (joined_by c.in-Some.joint) c.operand-in-Some.new.tokens (tail c.args.level (c.loop-joint.left - 1) ∷ k) (of_expression c.in_ok-right.right ∷ of_expression c.loop-joint.value ∷ vs)
+          ∙ c.in_ok-right.ensures.gives (act (joined_by c.in-Some.joint) ∷ tail c.args.level
+          (c.loop-joint.left - 1) ∷ k) (of_expression c.loop-joint.value ∷ vs)
+          ∙ act_runs (joined_by c.in-Some.joint) c.operand-in-Some.new.tokens
+          (tail c.args.level (c.loop-joint.left - 1) ∷ k)
+          (of_expression c.in_ok-right.right ∷ of_expression c.loop-joint.value ∷ vs)
           ∙ ap (λ e. reading c.operand-in-Some.new.tokens (tail c.args.level (c.loop-joint.left - 1) ∷ k) (of_expression e ∷ vs)) (sym c.in_ok-value-2.ensures);
-      shorter = omega (arith, c.loop-joint.invariant.shorter, behind_shorter c.loop-joint.tokens, ap (λ (x : Scan). length x.tokens) s, c.in_ok-right.ensures.shorter);
+      shorter = omega (
+        arith,
+        c.loop-joint.invariant.shorter,
+        behind_shorter c.loop-joint.tokens,
+        ap (λ (x : Scan). length x.tokens) s,
+        c.in_ok-right.ensures.shorter,
+      );
     }
 
 pub expression::prefixed-returns-in_default-clause-gives : goal.expression::prefixed-returns-in_default-clause-gives
 expression::prefixed-returns-in_default-clause-gives t c =
-    follows expression_value (prefixes c.args.left ∷ []) [] c.args.tokens.now (atom ∷ tail 0 (most_repeats 0) ∷ []) [] c.args.tokens.now c.indexed.new.tokens c.indexed.result
+    follows expression_value (prefixes c.args.left ∷ []) [] c.args.tokens.now
+    (atom ∷ tail 0 (most_repeats 0) ∷ []) [] c.args.tokens.now c.indexed.new.tokens c.indexed.result
     (λ k vs. no_prefix_runs c.args.left c.args.tokens.now (sym c.prefix_at.ensures ∙ c.in_default.is) k vs) c.indexed.ensures.gives
 
 pub expression::prefixed-returns-in_err-value-clause-gives : goal.expression::prefixed-returns-in_err-value-clause-gives
@@ -194,7 +221,8 @@ expression::prefixed-returns-clause-gives t c = λ k vs.
 pub query::assignments-returns-in_err-assignment-clause-gives : goal.query::assignments-returns-in_err-assignment-clause-gives
 query::assignments-returns-in_err-assignment-clause-gives t c =
     let p = err_from_is_err_and c.from_residual.result c.from_residual.ensures.1 in
-    rw (p.1, p.2) (fails (act (puts (of_sets [])) ∷ assignment (more_sets ∷ [])) [] c.args.tokens.now (a_name ∷ word w.Becomes ∷ operand 6 ∷ []) [] c.args.tokens.now _
+    rw (p.1, p.2) (fails (act (puts (of_sets [])) ∷ assignment (more_sets ∷ [])) [] c.args.tokens.now
+    (a_name ∷ word w.Becomes ∷ operand 6 ∷ []) [] c.args.tokens.now _
     (λ k vs. (act adds_set ∷ more_sets ∷ k, of_sets [] ∷ vs, act_runs (puts (of_sets [])) c.args.tokens.now (assignment (more_sets ∷ k)) vs)) c.in_err-assignment.ensures.gives)
 
 pub query::assignments-loop-alloc-init : goal.query::assignments-loop-alloc-init
@@ -222,9 +250,16 @@ query::assignments-loop-alloc-preserved t c =
           ∙ more_sets_run c.loop-alloc.tokens (sym c.stands.ensures ∙ c.loop-alloc-test.true) k (of_sets (map assignment_of old) ∷ vs)
           ∙ ap (λ ts. reading ts (assignment (more_sets ∷ k)) (of_sets (map assignment_of old) ∷ vs)) (sym s)
           ∙ c.in_ok-assignment-2.ensures.gives (act adds_set ∷ more_sets ∷ k) (of_sets (map assignment_of old) ∷ vs)
-          ∙ act_runs adds_set c.assignment-in-loop-alloc.new.tokens (more_sets ∷ k) (of_expression x.value ∷ of_name x.column ∷ of_sets (map assignment_of old) ∷ vs)
+          ∙ act_runs adds_set c.assignment-in-loop-alloc.new.tokens (more_sets ∷ k)
+          (of_expression x.value ∷ of_name x.column ∷ of_sets (map assignment_of old) ∷ vs)
           ∙ ap (λ l. reading c.assignment-in-loop-alloc.new.tokens (more_sets ∷ k) (of_sets l ∷ vs)) pushed;
-      shorter = omega (arith, c.loop-alloc.invariant.shorter, behind_shorter c.loop-alloc.tokens, ap (λ (x : Scan). length x.tokens) s, c.in_ok-assignment-2.ensures.shorter);
+      shorter = omega (
+        arith,
+        c.loop-alloc.invariant.shorter,
+        behind_shorter c.loop-alloc.tokens,
+        ap (λ (x : Scan). length x.tokens) s,
+        c.in_ok-assignment-2.ensures.shorter,
+      );
     }
 
 pub query::more_tests-loop-alloc-preserved : goal.query::more_tests-loop-alloc-preserved
@@ -239,9 +274,17 @@ query::more_tests-loop-alloc-preserved t c =
           ∙ more_tests_run c.loop-alloc.tokens (sym c.stands.ensures ∙ c.loop-alloc-test.true) k (of_tests (map condition_of old) ∷ vs)
           ∙ ap (λ ts. reading ts (test (more_tests ∷ k)) (of_tests (map condition_of old) ∷ vs)) (sym s)
           ∙ c.in_ok-test.ensures.gives (act adds_test ∷ more_tests ∷ k) (of_tests (map condition_of old) ∷ vs)
-          ∙ act_runs adds_test c.test.new.tokens (more_tests ∷ k) (of_expression x.value ∷ of_comparison x.comparison ∷ of_name x.column ∷ of_tests (map condition_of old) ∷ vs)
+          ∙ act_runs adds_test c.test.new.tokens (more_tests ∷ k)
+          (of_expression x.value ∷ of_comparison x.comparison ∷ of_name x.column ∷ of_tests
+          (map condition_of old) ∷ vs)
           ∙ ap (λ l. reading c.test.new.tokens (more_tests ∷ k) (of_tests l ∷ vs)) pushed;
-      shorter = omega (arith, c.loop-alloc.invariant.shorter, behind_shorter c.loop-alloc.tokens, ap (λ (x : Scan). length x.tokens) s, c.in_ok-test.ensures.shorter);
+      shorter = omega (
+        arith,
+        c.loop-alloc.invariant.shorter,
+        behind_shorter c.loop-alloc.tokens,
+        ap (λ (x : Scan). length x.tokens) s,
+        c.in_ok-test.ensures.shorter,
+      );
     }
 
 pub query::delete-returns-clause-gives : goal.query::delete-returns-clause-gives
@@ -413,7 +456,8 @@ query::transact-returns-in_err-query-2-clause-gives t c =
     let l : List Symbol = act (transacted c.args.at) ∷ k in (
       act adds_query ∷ more_queries ∷ l,
       of_queries c.loop-alloc.queries ∷ vs,
-      c.loop-alloc.invariant.told l vs ∙ more_queries_run c.loop-alloc.tokens (sym c.stands.ensures ∙ c.loop-alloc-test.true) l (of_queries c.loop-alloc.queries ∷ vs),
+      c.loop-alloc.invariant.told l vs ∙ more_queries_run c.loop-alloc.tokens
+          (sym c.stands.ensures ∙ c.loop-alloc-test.true) l (of_queries c.loop-alloc.queries ∷ vs),
     )) c.in_err-query-2.ensures.gives)
 
 pub query::transact-loop-alloc-preserved : goal.query::transact-loop-alloc-preserved
@@ -441,7 +485,8 @@ query::tests-returns-clause-gives t c =
     let x : Condition = c.in_ok-test.field-0 in
     let pushed : c.push.new.self ≡ x ∷ [] = c.in_ok-push.ensures.ok ∙ ap (λ l. l ++ x ∷ []) c.new-tests.ensures in
     let s : c.skip.new.self ≡ rest_of c.args.tokens.now = c.skip.ensures in
-    follows tests_value (act (puts (of_tests [])) ∷ filter ∷ []) [] c.args.tokens.now (more_tests ∷ []) (tests_value c.push.new.self) c.test.new.tokens c.more_tests.new.tokens c.more_tests.result
+    follows tests_value (act (puts (of_tests [])) ∷ filter ∷ []) [] c.args.tokens.now (more_tests ∷ [])
+    (tests_value c.push.new.self) c.test.new.tokens c.more_tests.new.tokens c.more_tests.result
     (λ k vs.
     act_runs (puts (of_tests [])) c.args.tokens.now (filter ∷ k) vs
     ∙ filter_runs c.args.tokens.now (sym c.stands.ensures ∙ c.if-not-stands.false) k (of_tests [] ∷ vs)
@@ -456,8 +501,15 @@ query::query_of-returns-in-Insert-clause-gives t c =
 
 pub query::query_of-returns-in-Select-clause-gives : goal.query::query_of-returns-in-Select-clause-gives
 query::query_of-returns-in-Select-clause-gives t c =
-    rw c.in-Select.is (begin_follows query_value (word_token c.args.at w.Select) (begin_query c.args.at w.Select) c.args.tokens.now (a_name ∷ act adds_name ∷ more_names w.From ∷ a_name ∷ filtered (act (selected c.args.at) ∷ [])) (of_names [] ∷ []) c.select.new.tokens c.select.result (λ k vs. refl) c.select.ensures.gives)
+    rw c.in-Select.is (begin_follows query_value (word_token c.args.at w.Select)
+    (begin_query c.args.at w.Select) c.args.tokens.now
+    (a_name ∷ act adds_name ∷ more_names w.From ∷ a_name ∷ filtered (act (selected c.args.at) ∷ []))
+    (of_names [] ∷ []) c.select.new.tokens c.select.result (λ k vs. refl) c.select.ensures.gives)
 
 pub query::query_of-returns-in-Update-clause-gives : goal.query::query_of-returns-in-Update-clause-gives
 query::query_of-returns-in-Update-clause-gives t c =
-    rw c.in-Update.is (begin_follows query_value (word_token c.args.at w.Update) (begin_query c.args.at w.Update) c.args.tokens.now (a_name ∷ word w.Set ∷ act (puts (of_sets [])) ∷ assignment (more_sets ∷ filtered (act (updated c.args.at) ∷ []))) [] c.update.new.tokens c.update.result (λ k vs. refl) c.update.ensures.gives)
+    rw c.in-Update.is (begin_follows query_value (word_token c.args.at w.Update)
+    (begin_query c.args.at w.Update) c.args.tokens.now
+    (a_name ∷ word w.Set ∷ act (puts (of_sets [])) ∷ assignment
+    (more_sets ∷ filtered (act (updated c.args.at) ∷ []))) [] c.update.new.tokens c.update.result
+    (λ k vs. refl) c.update.ensures.gives)

@@ -3,7 +3,7 @@ use Rattle.script_tokens.specs.declared.word.Word.TheVariants as w
 use Rattle.script_grammar.specs.Grouping.{most_repeats}
 use Rattle.script_grammar.specs.Machine.{Symbol, Val, act, word, puts, operand, atom, tail, a_query, more_arguments, more_queries, more_tests, more_sets, assignment, adds_query, of_expression, of_expressions, of_queries, of_sets, of_tests}
 use Rattle.script_tree.specs.ExpressionView.{condition_of, assignment_of}
-use Rattle.script_syntax.specs.Gives.{reading}
+use Rattle.script_syntax.specs.Parses.{reading}
 use Rattle.script_syntax.proofs.+expression.Given as goal
 
 -- a function that takes a token before it calls another has no number of its own
@@ -84,7 +84,9 @@ decreases-query::assignment l = 64 * length l.tokens.now.tokens + 1
 abbrev pub invariant-expression::operand-loop-joint : goal.invariant-expression::operand-loop-joint
 invariant-expression::operand-loop-joint l = record {
   big : 2 ≤ l.level;
-  told : (k : List Symbol) (vs : List Val) → reading l.fn.tokens (operand l.level ∷ k) vs ≡ reading l.tokens (tail l.level l.left ∷ k) (of_expression l.value ∷ vs);
+  told : (k : List Symbol) (vs : List Val)
+      → reading l.fn.tokens (operand l.level ∷ k) vs
+      ≡ reading l.tokens (tail l.level l.left ∷ k) (of_expression l.value ∷ vs);
   shorter : length l.tokens.tokens < length l.fn.tokens.tokens;
 }
 
@@ -93,7 +95,9 @@ decreases-expression::operand-loop-joint l = length l.tokens.tokens
 
 abbrev pub invariant-expression::indexed-loop-alloc : goal.invariant-expression::indexed-loop-alloc
 invariant-expression::indexed-loop-alloc l = record {
-  told : (k : List Symbol) (vs : List Val) → reading l.fn.tokens (atom ∷ tail 0 (most_repeats 0) ∷ k) vs ≡ reading l.tokens (tail 0 l.left ∷ k) (of_expression l.value ∷ vs);
+  told : (k : List Symbol) (vs : List Val)
+      → reading l.fn.tokens (atom ∷ tail 0 (most_repeats 0) ∷ k) vs
+      ≡ reading l.tokens (tail 0 l.left ∷ k) (of_expression l.value ∷ vs);
   shorter : length l.tokens.tokens < length l.fn.tokens.tokens;
 }
 
@@ -102,7 +106,9 @@ decreases-expression::indexed-loop-alloc l = length l.tokens.tokens
 
 abbrev pub invariant-expression::more_arguments-loop-alloc : goal.invariant-expression::more_arguments-loop-alloc
 invariant-expression::more_arguments-loop-alloc l = record {
-  told : (k : List Symbol) (vs : List Val) → reading l.fn.tokens (more_arguments l.close ∷ k) (of_expressions l.fn.items ∷ vs) ≡ reading l.tokens (more_arguments l.close ∷ k) (of_expressions l.items ∷ vs);
+  told : (k : List Symbol) (vs : List Val)
+      → reading l.fn.tokens (more_arguments l.close ∷ k) (of_expressions l.fn.items ∷ vs)
+      ≡ reading l.tokens (more_arguments l.close ∷ k) (of_expressions l.items ∷ vs);
   shorter : length l.tokens.tokens ≤ length l.fn.tokens.tokens;
 }
 
@@ -111,7 +117,9 @@ decreases-expression::more_arguments-loop-alloc l = length l.tokens.tokens
 
 abbrev pub invariant-query::transact-loop-alloc : goal.invariant-query::transact-loop-alloc
 invariant-query::transact-loop-alloc l = record {
-  told : (k : List Symbol) (vs : List Val) → reading l.fn.tokens (word w.BraceOpen ∷ a_query ∷ act adds_query ∷ more_queries ∷ k) (of_queries [] ∷ vs) ≡ reading l.tokens (more_queries ∷ k) (of_queries l.queries ∷ vs);
+  told : (k : List Symbol) (vs : List Val)
+      → reading l.fn.tokens (word w.BraceOpen ∷ a_query ∷ act adds_query ∷ more_queries ∷ k) (of_queries [] ∷ vs)
+      ≡ reading l.tokens (more_queries ∷ k) (of_queries l.queries ∷ vs);
   shorter : length l.tokens.tokens < length l.fn.tokens.tokens;
 }
 
@@ -120,7 +128,9 @@ decreases-query::transact-loop-alloc l = length l.tokens.tokens
 
 abbrev pub invariant-query::assignments-loop-alloc : goal.invariant-query::assignments-loop-alloc
 invariant-query::assignments-loop-alloc l = record {
-  told : (k : List Symbol) (vs : List Val) → reading l.fn.tokens (act (puts (of_sets [])) ∷ assignment (more_sets ∷ k)) vs ≡ reading l.tokens (more_sets ∷ k) (of_sets (map assignment_of l.sets) ∷ vs);
+  told : (k : List Symbol) (vs : List Val)
+      → reading l.fn.tokens (act (puts (of_sets [])) ∷ assignment (more_sets ∷ k)) vs
+      ≡ reading l.tokens (more_sets ∷ k) (of_sets (map assignment_of l.sets) ∷ vs);
   shorter : length l.tokens.tokens < length l.fn.tokens.tokens;
 }
 
@@ -129,7 +139,9 @@ decreases-query::assignments-loop-alloc l = length l.tokens.tokens
 
 abbrev pub invariant-query::more_tests-loop-alloc : goal.invariant-query::more_tests-loop-alloc
 invariant-query::more_tests-loop-alloc l = record {
-  told : (k : List Symbol) (vs : List Val) → reading l.fn.tokens (more_tests ∷ k) (of_tests (map condition_of l.fn.tests) ∷ vs) ≡ reading l.tokens (more_tests ∷ k) (of_tests (map condition_of l.tests) ∷ vs);
+  told : (k : List Symbol) (vs : List Val)
+      → reading l.fn.tokens (more_tests ∷ k) (of_tests (map condition_of l.fn.tests) ∷ vs)
+      ≡ reading l.tokens (more_tests ∷ k) (of_tests (map condition_of l.tests) ∷ vs);
   shorter : length l.tokens.tokens ≤ length l.fn.tokens.tokens;
 }
 

@@ -2,7 +2,6 @@ ghost use Rattle.std.specs.Prelude.{◌≡◌};
 
 use crate::syntax::name::{Name, Names};
 use crate::syntax::statement::Block;
-use basis::Items;
 
 /// A declaration of a program.
 #[derive(Drop)]
@@ -29,6 +28,3 @@ pub enum Declaration {
         body: Block,
     },
 }
-
-/// The tree of a program's text: its declarations, in order.
-pub type Tree = Items<Declaration>;

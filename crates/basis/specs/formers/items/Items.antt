@@ -19,30 +19,38 @@ use Rattle.basis.specs.declared.items.Items.TheView.{view, invariant}
 use Rattle.basis.specs.contracts.items.Items as C
 use Rattle.basis.specs.contracts.items.Items.TheInside as I
 
+-- `Items` of what a former makes
 abbrev pub the_former : Former {0} → Former {0}
 the_former g = list g
 
+-- the largest measure among the items
 abbrev pub the_weighed : {g : Former {0}} → Weighed g → Weighed (the_former g)
 the_weighed w = w_list w
 
+-- one without items
 pub the_empty : List ⊥
 the_empty = []
 
+-- the items as a list
 abbrev pub the_items : (X : Type 0) → List X → List X
 the_items X d = d
 
+-- The items are all that it holds.
 pub the_items_listed : (X : Type 0) (d : List X) → listed _ (children (the_former this) X d) ≡ the_items X d
 the_items_listed X d = list-listed X d
 
+-- the one field of `Items`, as a former
 abbrev fields : Former {0}
 fields = via (vec.the_former this Global) Inside (λ X a. a.items) (λ X v. record { items = v }) (λ X a. refl) (λ X v. refl)
 
 module _ (R S : RattleType) (h : R.Denot → S.Denot) where
+  -- Where other items are laid out, own and lend as these do, so does a list of them.
   pub the_places : Alike R S h → Alike (C.the_row R) (C.the_row S) ((the_former this).map R.Denot S.Denot h)
   the_places a = view_places fields (list this) view (λ X Y k u. refl) (λ X u. refl) R.Denot S.Denot h (C.the_row R).coded (C.the_row S).coded
       (invariant R.Denot) (invariant S.Denot) (λ u p q. refl) (λ u p q. refl) (λ u e. tt) (λ u e. tt)
       (over (I.the_row R)) (over (I.the_row S))
       (struct_places (I.the_type R) (I.the_type S) (vec.mapped h, tt) _ (λ d. refl) refl (laid _ _ _ (vec.the_places heap.the_row ghosts R S h a), tt))
 
+  -- Where other items are stored as these are, so is a list of them.
   pub the_codes_placed : Recodes R S h → Recodes (C.the_row R) (C.the_row S) ((the_former this).map R.Denot S.Denot h)
   the_codes_placed e d = sym (code_map R.coded.code S.coded.code h (λ x. sym (e x)) d)

@@ -1,7 +1,7 @@
 use Rattle.std.proofs.Common.{◌≡◌, ℕ, List, IfOk, Ok, Err, Result, rules, subst, sym}
 use Rattle.std.specs.Result.{IsErr, MatchResult}
 use Rattle.wire.specs.declared.fault.Unreadable.{Unreadable}
-use Rattle.report.specs.declared.Report.{Report}
+use Rattle.period.specs.declared.report.Report.{Report}
 use Rattle.report_format.specs.Limits.{AreWithinLimits, HasValuesWithinLimits}
 use Rattle.report_format.specs.Reports.{DecodesReport}
 use Rattle.command_inputs.specs.Faults.{or_memory}

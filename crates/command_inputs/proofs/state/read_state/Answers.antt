@@ -9,7 +9,7 @@ use Rattle.command_inputs.proofs.state.read_state.Goals as goal
 pub returns-in_err-map_err-clause-read : goal.returns-in_err-map_err-clause-read
 returns-in_err-map_err-clause-read g c = λ files told.
     let e : (fault : StateFault) × (c.in_ok-objects.objects ≡ Err fault) × (c.in_err-map_err.field-0.0 ≡ State fault) = search rules in
-    let fault : HasStateFault c.args.program.now c.deref.result.now e.0 = rw e.1 at (rw c.in_ok-objects.ensures at c.read_state.ensures) in
+    let fault : HasStateFault c.args.program.now c.deref.result.now e.0 = rw e.1 at (rw c.in_ok-objects.ensures.told at c.read_state.ensures) in
     let input = fault_of_whole c.args.program.now c.args.most _ _ e.0 (c.in_ok-bytes.ensures.read files told)
     (subst (λ bs. HasStateFault c.args.program.now bs e.0) c.deref.ensures.value fault) in
     search rules

@@ -12,10 +12,13 @@ returns-in-Ok c =
     let value = first_value (found_of c.in-Ok.matches) in
     let words = map string_bytes c.args.words.now in
     let taken : words_in value ≡ taken_words words
-    = takes_words audit_app words_in refl _ c.args.words.now c.in-Ok.matches is (c.in-Ok.ensures.kinds (ap is_simple_and_free is ∙ refl)) c.in-Ok.ensures.matches in
+    = takes_words audit_app words_in refl _ c.args.words.now c.in-Ok.matches is
+    (c.in-Ok.ensures.kinds (ap is_simple_and_free is ∙ refl)) c.in-Ok.ensures.matches in
     takes_found (option_map audit_words_of) c.found_words.result (words_in value) (taken_words words) taken c.found_words.ensures
 
 pub returns : goal.returns
 returns c =
     let is = c.in_ok-audit_command.ensures in
-    refuses_words audit_app words_in _ c.args.words.now c.in-Err.error is (c.in-Err.ensures.kinds (ap is_simple_and_free is ∙ refl)) (λ out. c.in_default.not-OutOfMemory (c.kind.ensures ∙ out))
+    refuses_words audit_app words_in _ c.args.words.now c.in-Err.error is
+    (c.in-Err.ensures.kinds (ap is_simple_and_free is ∙ refl))
+    (λ out. c.in_default.not-OutOfMemory (c.kind.ensures ∙ out))

@@ -10,4 +10,5 @@ returns-in-Ok c =
 pub returns : goal.returns
 returns c =
     let is = c.in_ok-replay_command.ensures in
-    refuses_others _ c.args.words.now c.in-Err.error is (c.in-Err.ensures.kinds (is_simple_app _ is)) (λ out. c.in_default.not-OutOfMemory (c.kind.ensures ∙ out))
+    refuses_others _ c.args.words.now c.in-Err.error is (c.in-Err.ensures.kinds (is_simple_app _ is))
+    (λ out. c.in_default.not-OutOfMemory (c.kind.ensures ∙ out))

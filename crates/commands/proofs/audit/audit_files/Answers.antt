@@ -28,4 +28,5 @@ returns-clause-outcome g c = λ files told.
     let told3 = c.read_trace.ensures.used.files ∙ told'' in
     audits files (audit_words_of c.args.words) c.in_ok-program.program (objects_of c.in_ok-start.start)
     (c.in_ok-program.ensures.read files told) (c.in_ok-start.ensures.read files told') c.in_ok-trace.trace (c.in_ok-trace.ensures.read files told'')
-    c.in_ok-report.report c.in_ok-verdict.verdict c.in_ok-judged.field-0 (c.in_ok-report.ensures.read files told3) c.in_ok-verdict.ensures c.in_ok-judged.ensures
+    c.in_ok-report.report c.in_ok-verdict.verdict c.in_ok-judged.field-0
+    (c.in_ok-report.ensures.read files told3) c.in_ok-verdict.ensures c.in_ok-judged.ensures

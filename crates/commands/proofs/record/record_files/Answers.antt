@@ -52,6 +52,8 @@ returns-clause-outcome g c = λ files told.
     let p = c.in_ok-program-2.program.value in
     let start = objects_of c.in_ok-start.start in
     let before = begun files w _ p _ start (c.in_ok-program.ensures.read files told) c.in_ok-program-2.ensures c.deref.ensures (c.in_ok-start.ensures.read files told') in
-    recorded reading files w p start before c.in_ok-jobs.jobs (c.in_ok-jobs.ensures.read files told'') c.in_ok-turns.turns c.says.result (c.in_ok-turns.ensures.turns files told3)
+    recorded reading files w p start before c.in_ok-jobs.jobs
+    (c.in_ok-jobs.ensures.read files told'') c.in_ok-turns.turns c.says.result
+    (c.in_ok-turns.ensures.turns files told3)
     (by_slice reading w p start c.in_ok-jobs.jobs c.in_ok-turns.turns c.as_slice-turns.result.now c.says.result c.as_slice-turns.ensures
     (of_limit reading w p start c.in_ok-jobs.jobs c.as_slice-turns.result.now c.in-Err-Other.field-0 c.in-Err-Other.which c.says.result c.in-Err-Other.field-0-is c.in-Err-Other.ensures c.says.ensures))

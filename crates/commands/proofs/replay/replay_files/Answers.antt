@@ -2,7 +2,7 @@ use Rattle.std.proofs.Common.{◌∙◌, ap, inr}
 use Rattle.object_set.specs.ObjectSets.{objects_of}
 use Rattle.command_words.specs.NamesView.{names_of}
 use Rattle.commands.specs.Lines.{finding_of}
-use Rattle.commands.specs.Outcome.{IsFound, WithProgram, WithState, WithTrace}
+use Rattle.commands.specs.Outcome.{IsFound, ReplayWithProgram, ReplayWithState, ReplayWithTrace}
 use Rattle.commands.proofs.Steps.{goes_on, ends, replay_says}
 use Rattle.commands.proofs.replay.replay_files.Goals as goal
 
@@ -15,9 +15,9 @@ returns-in_err-trace-clause-answer g c = λ files told.
     let refused = c.in_err-trace.ensures.read files told'' in
     let names = names_of c.args.names in
     let held = objects_of c.in_ok-start.start in
-    goes_on replay_says _ _ _ (WithProgram files names) _ program
-    (goes_on replay_says _ _ _ (WithState files names c.in_ok-program.program) _ start
-    (ends replay_says (λ trace. trace) _ _ (WithTrace files names c.in_ok-program.program held) _ _ refused c.from_residual-in_err-trace.ensures.1))
+    goes_on replay_says _ _ _ (ReplayWithProgram files names) _ program
+    (goes_on replay_says _ _ _ (ReplayWithState files names c.in_ok-program.program) _ start
+    (ends replay_says (λ trace. trace) _ _ (ReplayWithTrace files names c.in_ok-program.program held) _ _ refused c.from_residual-in_err-trace.ensures.1))
 
 pub returns-in_err-schedule-clause-answer : goal.returns-in_err-schedule-clause-answer
 returns-in_err-schedule-clause-answer g c = λ files told.
@@ -30,9 +30,9 @@ returns-in_err-schedule-clause-answer g c = λ files told.
     let refused = c.in_err-schedule.ensures.read files told3 in
     let names = names_of c.args.names in
     let held = objects_of c.in_ok-start.start in
-    goes_on replay_says _ _ _ (WithProgram files names) _ program
-    (goes_on replay_says _ _ _ (WithState files names c.in_ok-program.program) _ start
-    (goes_on replay_says _ _ _ (WithTrace files names c.in_ok-program.program held) _ trace
+    goes_on replay_says _ _ _ (ReplayWithProgram files names) _ program
+    (goes_on replay_says _ _ _ (ReplayWithState files names c.in_ok-program.program) _ start
+    (goes_on replay_says _ _ _ (ReplayWithTrace files names c.in_ok-program.program held) _ trace
     (ends replay_says (λ schedule. schedule) _ _ (IsFound c.in_ok-program.program held c.in_ok-trace.trace)
     _ _ refused c.from_residual-in_err-schedule.ensures.1)))
 

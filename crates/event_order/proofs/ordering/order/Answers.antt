@@ -1,6 +1,6 @@
 use Rattle.std.proofs.Common.{subst}
 use Rattle.event_order.specs.Cycle.{FindsCycle}
-use Rattle.event_order.proofs.Outcomes.{cycle_short, all_long}
+use Rattle.event_order.proofs.Ends.{cycle_short, all_long}
 use Rattle.event_order.proofs.Stuckness.{no_cycle_none_left}
 use Rattle.event_order.proofs.ordering.order.Goals as goal
 

@@ -57,7 +57,9 @@ loop-next-preserved c =
 
 pub loop-next-smaller : goal.loop-next-smaller
 loop-next-smaller c =
-    paces_closer c.args.graph.now _ _ _ _ c.loop-next.invariant c.in-Some.x _ _ _ (c.in_ok-push.ensures.items ∙ ap (λ (n : ℕ). c.loop-next.walk.items ++ n ∷ []) c.in_ok-narrow.ensures) (loop-next-preserved c)
+    paces_closer c.args.graph.now _ _ _ _ c.loop-next.invariant c.in-Some.x _ _ _
+    (c.in_ok-push.ensures.items ∙ ap (λ (n : ℕ). c.loop-next.walk.items ++ n ∷ []) c.in_ok-narrow.ensures)
+    (loop-next-preserved c)
 
 pub returns : goal.returns
 returns c = ends_nowhere c.args.graph.now _ _ _ _ c.loop-next.invariant c.in_default.is

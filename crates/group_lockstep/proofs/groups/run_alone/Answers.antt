@@ -13,7 +13,8 @@ returns c = λ program of.
     let only : rids ≡ r ∷ [] = one_only rids c.requires in
     let run = c.in_ok-steps.ensures program of in
     let cost : cost_of program t (r ∷ []) ≡ steps_of program t (r ∷ []) =
-    c.one_member_costs_its_steps.ensures program (objects_of t.start) t.trace t.report c.args.number r (ap (fault_of program t c.args.number) (sym only) ∙ run.0) in (
+    c.one_member_costs_its_steps.ensures program (objects_of t.start) t.trace t.report c.args.number r
+    (ap (fault_of program t c.args.number) (sym only) ∙ run.0) in (
       run.0,
       record {
         evaluated' = run.1 ∙ ap (steps_of program t) only ∙ sym cost ∙ ap (cost_of program t) (sym only);

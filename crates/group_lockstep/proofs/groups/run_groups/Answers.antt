@@ -32,5 +32,7 @@ pub returns : goal.returns
 returns g c = λ program of.
     let t = c.args.evidence.now in
     let n = c.loop-number.number in
-    let all : n ≡ length (groups_told program t) = omega (arith, c.loop-number-test.false, c.loop-number.auto.number-end, ap length c.groups-group-items.ensures) in
-    (all_sound program t n all (c.loop-number.invariant.sound program of), spent_all program t n c.loop-number.spent all (c.loop-number.invariant.spends program of))
+    let all : n ≡ length (groups_told program t) = omega (arith, c.loop-number-test.false, c.loop-number.auto.number-end, ap length c.groups-group-items.ensures) in (
+      all_sound program t n all (c.loop-number.invariant.sound program of),
+      spent_all program t n c.loop-number.spent all (c.loop-number.invariant.spends program of),
+    )

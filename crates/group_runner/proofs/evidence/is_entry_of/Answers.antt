@@ -11,4 +11,5 @@ returns-then-eq c =
 pub returns-else-eq : goal.returns-else-eq
 returns-else-eq c =
     c.if-eq.false
-    ∙ ap (λ b. b && same_act c.args.entry.now.act c.args.op.now.act) (sym c.if-eq.false ∙ c.eq.ensures ∙ same_objects c.args.log.now.object c.args.op.now.object)
+    ∙ ap (λ b. b && same_act c.args.entry.now.act c.args.op.now.act)
+    (sym c.if-eq.false ∙ c.eq.ensures ∙ same_objects c.args.log.now.object c.args.op.now.object)

@@ -8,13 +8,15 @@ returns-in-Some-2 c = λ program of.
     let t = c.args.evidence.now in
     let run = c.in_ok-run.ensures program of in
     ap (fault_of program t c.args.number) c.in-Some.ensures.cases.0
-    ∙ group_told program t c.args.number c.in-Some.first_rid.now c.in-Some.others.now c.in_ok-run.run'.findings (run.found c.args.number) ∙ sym c.in_ok-reason.ensures ∙ c.in-Some-2.is
+    ∙ group_told program t c.args.number c.in-Some.first_rid.now c.in-Some.others.now c.in_ok-run.run'.findings
+    (run.found c.args.number) ∙ sym c.in_ok-reason.ensures ∙ c.in-Some-2.is
 
 pub returns-in-None : goal.returns-in-None
 returns-in-None c = λ program of.
     let t = c.args.evidence.now in
     let run = c.in_ok-run.ensures program of in (
       ap (fault_of program t c.args.number) c.in-Some.ensures.cases.0
-          ∙ group_told program t c.args.number c.in-Some.first_rid.now c.in-Some.others.now c.in_ok-run.run'.findings (run.found c.args.number) ∙ sym c.in_ok-reason.ensures ∙ c.in-None.is,
+          ∙ group_told program t c.args.number c.in-Some.first_rid.now c.in-Some.others.now c.in_ok-run.run'.findings
+          (run.found c.args.number) ∙ sym c.in_ok-reason.ensures ∙ c.in-None.is,
       run.steps' ∙ sym (ap (steps_of program t) c.in-Some.ensures.cases.0),
     )

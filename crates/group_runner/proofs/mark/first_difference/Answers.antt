@@ -14,5 +14,7 @@ loop-place-preserved c =
 
 pub returns : goal.returns
 returns c =
-    same_everywhere c.args.left.now c.args.right.now c.loop-place.place (omega (arith, c.loop-place-test.false, c.max-place-end.ensures)) (omega (arith, c.loop-place-test.false, c.max-place-end.ensures))
+    same_everywhere c.args.left.now c.args.right.now c.loop-place.place
+    (omega (arith, c.loop-place-test.false, c.max-place-end.ensures))
+    (omega (arith, c.loop-place-test.false, c.max-place-end.ensures))
     c.loop-place.invariant

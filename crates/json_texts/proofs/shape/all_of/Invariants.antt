@@ -7,4 +7,6 @@ use Rattle.json_texts.proofs.shape.all_of.Given as goal
 -- all are those so far, and those of the items that are left
 abbrev pub invariant-loop-item : goal.invariant-loop-item
 invariant-loop-item g l =
-    all_of g.S.Shape.given (items_view l.fn.items.items) ≡ option_map (λ more. l.given.items ++ more) (all_of g.S.Shape.given (items_view (into_iter_items l.item-iterator)))
+    all_of g.S.Shape.given (items_view l.fn.items.items)
+    ≡ option_map (λ more. l.given.items ++ more)
+    (all_of g.S.Shape.given (items_view (into_iter_items l.item-iterator)))

@@ -1,4 +1,4 @@
-use Rattle.report.specs.declared.Report.{Report}
+use Rattle.period.specs.declared.report.Report.{Report}
 use Rattle.audit_meaning.specs.LogFaults.{if_without_entry}
 use Rattle.log_checker.specs.OpMaps.{IsMapOf}
 use Rattle.log_checker.proofs.Firsts.{NoneBelow}

@@ -1,7 +1,7 @@
 use Rattle.std.proofs.Common.{◌≡◌, ◌∙◌, length, is_none, Some, get_or, ap, sym, arith}
 use Rattle.basis.specs.Lists.{nth}
 use Rattle.basis.proofs.Places.{nth-get_or}
-use Rattle.report.specs.declared.Count.{Count}
+use Rattle.period.specs.declared.report.Count.{Count}
 use Rattle.log_checker.proofs.CountFacts.{of_none_is, of_none_more, counted_all}
 use Rattle.log_checker.proofs.Firsts.{none_start}
 use Rattle.log_checker.proofs.Tests.{place_tells, none_result}

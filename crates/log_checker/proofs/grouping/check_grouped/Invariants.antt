@@ -1,4 +1,4 @@
-use Rattle.report.specs.declared.Report.{Report}
+use Rattle.period.specs.declared.report.Report.{Report}
 use Rattle.audit_meaning.specs.GroupFaults.{members, if_without_group}
 use Rattle.log_checker.specs.Grouping.{AreMembers}
 use Rattle.log_checker.proofs.Firsts.{NoneBelow}

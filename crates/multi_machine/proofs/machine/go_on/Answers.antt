@@ -12,7 +12,8 @@ returns-in-Ok-Wants g c program told s =
     let after' = c.run.new.evaluations in
     let new = c.run.new.self in
     let runs = subst (λ w. Runs before after' qs code c.args.run (Ok w) new) c.in-Ok-Wants.field-0-is c.in-Ok-Wants.ensures.runs in
-    all_want program qs code told c.args.run new before after' s (record { code = c.args.code; group = qs; run = new; ops = c.in-Ok-Wants.ops }) refl refl refl runs
+    all_want program qs code told c.args.run new before after' s
+    (record { code = c.args.code; group = qs; run = new; ops = c.in-Ok-Wants.ops }) refl refl refl runs
 
 pub returns-in-Ok-Over : goal.returns-in-Ok-Over
 returns-in-Ok-Over g c program told s =

@@ -8,7 +8,8 @@ use Rattle.multi_nodes.proofs.evaluate.faults.Goals as goal
 pub loop-member-init : goal.loop-member-init
 loop-member-init g c = record {
   begun = omega arith;
-  got = below_more (λ i. answer_at c.args.group.now c.args.primitive c.args.operands.now i ≡ Err c.args.fault) 0 (λ i lt. absurd (omega (arith, lt))) c.requires;
+  got = below_more (λ i. answer_at c.args.group.now c.args.primitive c.args.operands.now i ≡ Err c.args.fault) 0
+      (λ i lt. absurd (omega (arith, lt))) c.requires;
   cost = omega arith;
 }
 
@@ -19,6 +20,7 @@ loop-member-preserved g c =
     let counted = subst (λ e. UnlessMemory {A = Called} {E = ScriptFault} (λ _. c.of_member.new.evaluations ≡ c.loop-member.evaluations + 1) (λ _. c.of_member.new.evaluations ≡ c.loop-member.evaluations + 1) (Err e)) c.in-Err-Other.field-0-is c.in-Err-Other.ensures.counts in
     record {
       begun = omega arith;
-      got = below_more (λ i. answer_at c.args.group.now c.args.primitive c.args.operands.now i ≡ Err c.args.fault) c.loop-member.member c.loop-member.invariant.got (told ∙ ap Err same);
+      got = below_more (λ i. answer_at c.args.group.now c.args.primitive c.args.operands.now i
+          ≡ Err c.args.fault) c.loop-member.member c.loop-member.invariant.got (told ∙ ap Err same);
       cost = omega (arith, c.loop-member.invariant.cost, counted);
     }

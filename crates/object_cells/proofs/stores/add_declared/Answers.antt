@@ -8,4 +8,5 @@ returns-in_ok-insert c =
     let new = c.insert.new.self in
     let name = c.in_ok-clone.field-0 in
     let replaces = replaced name c.new.result old new c.in_ok-insert.ensures.updates.0 in
-    declared_too c.args.declaration.now c.in-Store.at c.in-Store.name name old.entries new.entries c.in-Store.is (search rules) (subst (λ held. Replaces name held old.entries new.entries) c.new.ensures replaces)
+    declared_too c.args.declaration.now c.in-Store.at c.in-Store.name name old.entries new.entries c.in-Store.is
+    (search rules) (subst (λ held. Replaces name held old.entries new.entries) c.new.ensures replaces)

@@ -2,7 +2,7 @@ use Rattle.std.proofs.Common.{◌≡◌, ◌∙◌, ap, sym, subst, ◌+◌, ◌
 use Rattle.std.proofs.lemmas.List.{take_more, drop_more, length-take-le, drop_all}
 use Rattle.basis.proofs.Options.{some_is}
 use Rattle.basis.proofs.Places.{nth-get_or}
-use Rattle.script_tree.specs.declared.schedule.Moment.TheVariants.{Arrive}
+use Rattle.period.specs.declared.schedule.Moment.TheVariants.{Arrive}
 use Rattle.script_meaning.specs.Replay.{opening, after}
 use Rattle.replayer.specs.Differences.{difference_from, difference_of}
 use Rattle.object_set.specs.ObjectSets.{objects_of}

@@ -9,4 +9,5 @@ use Rattle.replayer.proofs.replay.replay_by.Given as goal
 abbrev pub invariant-loop-place : goal.invariant-loop-place
 invariant-loop-place g l =
     (scene : Scene) × Shows (take l.place l.schedule) scene l.stage
-    × (difference_of l.fn.index (objects_of l.fn.start) l.trace l.schedule ≡ difference_from l.stage.index.now l.stage.trace (take l.place l.schedule) scene (drop l.place l.schedule))
+    × (difference_of l.fn.index (objects_of l.fn.start) l.trace l.schedule
+    ≡ difference_from l.stage.index.now l.stage.trace (take l.place l.schedule) scene (drop l.place l.schedule))

@@ -13,7 +13,8 @@ returns-in-Some c =
     let inside : place < length es = omega (arith, c.loop-place-test.true, c.len-place-end.ensures) in
     let e = there es place inside in
     let told = c.left_open.ensures e.0 (c.head.ensures e.0 e.1) in
-    sym (c.loop-place.invariant ∙ met (departed_in es c.args.standings.now) es place e.0 c.in-Some.reason inside (read_there es place e.0 e.1) (sym told ∙ c.in-Some.is))
+    sym (c.loop-place.invariant ∙ met (departed_in es c.args.standings.now) es place e.0 c.in-Some.reason inside
+    (read_there es place e.0 e.1) (sym told ∙ c.in-Some.is))
 
 pub loop-place-preserved : goal.loop-place-preserved
 loop-place-preserved c =
@@ -25,4 +26,5 @@ loop-place-preserved c =
     c.loop-place.invariant ∙ passed (departed_in es c.args.standings.now) es place e.0 inside (read_there es place e.0 e.1) (sym told ∙ c.in_default.is)
 
 pub returns : goal.returns
-returns c = sym (c.loop-place.invariant ∙ ap (first_not_departed (departed_in c.args.trace.now c.args.standings.now)) (drop_all c.loop-place.place c.args.trace.now (omega (arith, c.loop-place-test.false, c.len-place-end.ensures))))
+returns c = sym (c.loop-place.invariant ∙ ap (first_not_departed (departed_in c.args.trace.now c.args.standings.now))
+    (drop_all c.loop-place.place c.args.trace.now (omega (arith, c.loop-place-test.false, c.len-place-end.ensures))))

@@ -5,4 +5,5 @@ use Rattle.replayer.proofs.standing.first_not_departed.Given as goal
 
 -- no request so far is the first
 abbrev pub invariant-loop-place : goal.invariant-loop-place
-invariant-loop-place l = first_not_departed (departed_in l.trace l.standings) l.trace ≡ first_not_departed (departed_in l.trace l.standings) (drop l.place l.trace)
+invariant-loop-place l = first_not_departed (departed_in l.trace l.standings) l.trace
+    ≡ first_not_departed (departed_in l.trace l.standings) (drop l.place l.trace)

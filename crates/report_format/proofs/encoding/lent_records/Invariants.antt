@@ -20,5 +20,6 @@ invariant-loop-log l = record {
 abbrev pub invariant-loop-group : goal.invariant-loop-group
 invariant-loop-group l = record {
   allowed : AllAllowed group_field (drop l.group-index l.group-items);
-  lent : l.records.items ++ map it.Group (drop l.group-index l.group-items) ≡ map it.Count l.report.counts ++ (map it.Log l.report.logs ++ map it.Group l.report.groups);
+  lent : l.records.items ++ map it.Group (drop l.group-index l.group-items) ≡ map it.Count l.report.counts
+      ++ (map it.Log l.report.logs ++ map it.Group l.report.groups);
 }

@@ -5,7 +5,7 @@ use Rattle.script_check.specs.Indexes.{TellsPages}
 use Rattle.script_check.specs.Passes.{page_twice}
 use Rattle.script_check.specs.Validity.{fault_unless}
 use Rattle.script_check.specs.declared.fault.CheckFaultKind.TheVariants.{PageTwice}
-use Rattle.script_check.proofs.Declared.{page_more, page_same, no_page}
+use Rattle.script_check.proofs.InTurn.{page_more, page_same, no_page}
 use Rattle.script_check.proofs.Least.{lower_none}
 use Rattle.script_check.proofs.Lists.{taken, one_on, all_on}
 use Rattle.script_check.proofs.declaration.check_pages.Goals as goal
@@ -36,7 +36,9 @@ loop-declaration-preserved c =
       | in_default w ↦
           let found : m ≡ lower l (page_twice earlier d) = ap (λ f. f.least) w.found-is ∙ sym (lower_none l) ∙ ap (lower l) (sym (no_page earlier d w.in_default.not-Page)) in
           record {
-            pages = subst (λ s. TellsPages (take (i + 1) ds) s) (sym w.pages-is) (subst (λ t. TellsPages t c.loop-declaration.pages) (sym next) (page_same earlier d c.loop-declaration.pages w.in_default.not-Page told));
+            pages = subst (λ s. TellsPages (take (i + 1) ds) s) (sym w.pages-is)
+                (subst (λ t. TellsPages t c.loop-declaration.pages) (sym next)
+                (page_same earlier d c.loop-declaration.pages w.in_default.not-Page told));
             faults = one_on page_twice ds i d l m c.loop-declaration-test.true c.declaration-item.is found ∙ so_far;
           }
     ]

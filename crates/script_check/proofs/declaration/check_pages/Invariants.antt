@@ -8,5 +8,6 @@ use Rattle.script_check.proofs.declaration.check_pages.Given as goal
 abbrev pub invariant-loop-declaration : goal.invariant-loop-declaration
 invariant-loop-declaration l = record {
   pages : TellsPages (take l.declaration-index l.declarations) l.pages;
-  faults : lower l.found.least (in_turn page_twice (take l.declaration-index l.declarations) (drop l.declaration-index l.declarations)) ≡ lower l.fn.found.least (in_turn page_twice [] l.declarations);
+  faults : lower l.found.least (in_turn page_twice (take l.declaration-index l.declarations)
+      (drop l.declaration-index l.declarations)) ≡ lower l.fn.found.least (in_turn page_twice [] l.declarations);
 }

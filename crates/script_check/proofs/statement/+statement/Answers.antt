@@ -10,7 +10,8 @@ check_block-loop-statement-preserved t c =
     let known = c.loop-statement.scope in
     let s = c.statement-item.result in
     record {
-      grows = grows_then c.args.scope.now known c.check_statement.new.scope c.loop-statement.invariant.grows (rw c.in_ok-check_statement.ensures.known (after_grows known s));
+      grows = grows_then c.args.scope.now known c.check_statement.new.scope c.loop-statement.invariant.grows
+          (rw c.in_ok-check_statement.ensures.known (after_grows known s));
       faults = block_next c.args.index.now known c.check_statement.new.scope c.args.block.now c.loop-statement.statement-index s c.loop-statement.found.least c.check_statement.new.found.least c.loop-statement-test.true c.statement-item.is c.in_ok-check_statement.ensures.known c.in_ok-check_statement.ensures.ok ∙ c.loop-statement.invariant.faults;
     }
 
@@ -46,4 +47,6 @@ check_statement_node-returns-in_ok-check_block-in-For-clause-ok t c =
     let before = c.declare-in-For.new.found.least in
     rw c.in-For.is (then_next l before c.check_block-in-For.new.found.least head (block_faults ds inner c.in-For.body)
     (then_before l c.check_expression-in-For.new.found.least before (declared_where known name) (expression_faults ds known c.in-For.list) c.check_expression-in-For.ensures c.in_ok-declare-in-For.ensures.faults)
-    (c.in_ok-check_block-in-For.ensures.ok ∙ ap (λ k. lower before (block_faults ds k c.as_slice-in-For.result.now)) c.in_ok-declare-in-For.ensures.declared ∙ ap (λ ss. lower before (block_faults ds inner ss)) c.as_slice-in-For.ensures))
+    (c.in_ok-check_block-in-For.ensures.ok ∙ ap
+    (λ k. lower before (block_faults ds k c.as_slice-in-For.result.now)) c.in_ok-declare-in-For.ensures.declared
+    ∙ ap (λ ss. lower before (block_faults ds inner ss)) c.as_slice-in-For.ensures))

@@ -22,5 +22,6 @@ decreases-check_else l = 4 * else_weight (else_of l.otherwise.now) + 1
 abbrev pub invariant-check_block-loop-statement : goal.invariant-check_block-loop-statement
 invariant-check_block-loop-statement l = record {
   grows : Grows l.fn.scope l.scope;
-  faults : lower l.found.least (block_faults l.index l.scope (drop l.statement-index l.block)) ≡ lower l.fn.found.least (block_faults l.index l.fn.scope l.block);
+  faults : lower l.found.least (block_faults l.index l.scope (drop l.statement-index l.block))
+      ≡ lower l.fn.found.least (block_faults l.index l.fn.scope l.block);
 }

@@ -1,5 +1,5 @@
 use Rattle.std.proofs.Common.{refl}
-use Rattle.script_check.proofs.Declared.{puts_new, puts_none}
+use Rattle.script_check.proofs.InTurn.{puts_new, puts_none}
 use Rattle.script_code.proofs.emitter.add.Goals as goal
 
 pub returns-in_ok-insert : goal.returns-in_ok-insert

@@ -1,7 +1,7 @@
 use Rattle.std.proofs.Common.{◌≡◌, ◌∙◌, ◌+◌, ℕ, List, ◌∷◌, if◌then◌else◌, Some, drop, sym, ap, arith}
 use Rattle.std.proofs.lemmas.List.{drop_more, at_drop_all}
 use Rattle.std.specs.Str.{bytes_eq}
-use Rattle.script_index.proofs.Told.{told, none_so_far, one_more, none_left}
+use Rattle.script_check.proofs.Told.{told, none_so_far, one_more, none_left}
 use Rattle.script_code.specs.Callees.{number_from}
 use Rattle.script_code.proofs.Numbers.{same_option}
 use Rattle.script_code.proofs.emitter.numbers_of.Goals as goal
@@ -27,11 +27,13 @@ loop-declaration-preserved c =
     elim c.match-declaration.branch [
       | in-Store w ↦ record {
         few = omega (arith, w.count-is, so_far.few);
-        told = λ (f : List ℕ). (λ j. told (λ k. k) (w.numbers-is j) f (number_from (w.count-is j) f left)) ∙ ap (λ e. told (λ k. k) old f (number_from n f (e ∷ left))) (sym w.in-Store.is) ∙ numbers f;
+        told = λ (f : List ℕ). (λ j. told (λ k. k) (w.numbers-is j) f (number_from (w.count-is j) f left))
+            ∙ ap (λ e. told (λ k. k) old f (number_from n f (e ∷ left))) (sym w.in-Store.is) ∙ numbers f;
       }
       | in-Table w ↦ record {
         few = omega (arith, w.count-is, so_far.few);
-        told = λ (f : List ℕ). (λ j. told (λ k. k) (w.numbers-is j) f (number_from (w.count-is j) f left)) ∙ ap (λ e. told (λ k. k) old f (number_from n f (e ∷ left))) (sym w.in-Table.is) ∙ numbers f;
+        told = λ (f : List ℕ). (λ j. told (λ k. k) (w.numbers-is j) f (number_from (w.count-is j) f left))
+            ∙ ap (λ e. told (λ k. k) old f (number_from n f (e ∷ left))) (sym w.in-Table.is) ∙ numbers f;
       }
       | in-Function+in_ok-add-in-Function w ↦ record {
         few = omega (arith, w.count-is, so_far.few);
@@ -43,7 +45,8 @@ loop-declaration-preserved c =
       }
       | in-Page w ↦ record {
         few = omega (arith, w.count-is, so_far.few);
-        told = λ (f : List ℕ). (λ j. told (λ k. k) (w.numbers-is j) f (number_from (w.count-is j) f left)) ∙ ap (λ e. told (λ k. k) old f (number_from n f (e ∷ left))) (sym w.in-Page.is) ∙ numbers f;
+        told = λ (f : List ℕ). (λ j. told (λ k. k) (w.numbers-is j) f (number_from (w.count-is j) f left))
+            ∙ ap (λ e. told (λ k. k) old f (number_from n f (e ∷ left))) (sym w.in-Page.is) ∙ numbers f;
       }
     ]
 

@@ -1,5 +1,5 @@
 use Rattle.std.proofs.Common.{◌≡◌, ◌≤◌, ℕ, List, drop}
-use Rattle.script_index.proofs.Told.{told}
+use Rattle.script_check.proofs.Told.{told}
 use Rattle.script_code.specs.Callees.{number_from}
 use Rattle.script_code.proofs.emitter.numbers_of.Given as goal
 

@@ -1,6 +1,6 @@
 use Rattle.std.proofs.Common.{◌≡◌, map, take}
 use Rattle.script_tree.specs.Declarations.{column_in}
-use Rattle.script_index.specs.Found.{table_of}
+use Rattle.script_check.specs.FoundByName.{table_of}
 use Rattle.script_code.proofs.shapes.columns_of.Given as goal
 
 abbrev pub invariant-loop-name : goal.invariant-loop-name

@@ -18,7 +18,8 @@ loop-declaration-init c =
       written = record {
         instructions = ap (λ l. l ++ declarations_code program ds) c.new-2.ensures.items;
         functions = λ j. c.new-3.ensures.items j ++ places_from program (length (c.new-2.ensures.items j)) ds;
-        entries = λ (path : List ℕ). none_so_far c.new-4.result path _ c.new-4.ensures.empty ∙ ap (λ l. entry_from program 0 (length l) path ds) c.new-2.ensures.items;
+        entries = λ (path : List ℕ). none_so_far c.new-4.result path _ c.new-4.ensures.empty
+            ∙ ap (λ l. entry_from program 0 (length l) path ds) c.new-2.ensures.items;
       };
     }
 
@@ -40,11 +41,15 @@ loop-declaration-preserved c =
     elim c.match-declaration.branch [
       | in-Store w ↦ record {
         few = omega (arith, w.page_count-is, so_far.few);
-        written = to n old w.page_count-is w.code-is (written_store program ds left n old w.in-Store.at w.in-Store.name (subst (λ e. IsWritten program ds (e ∷ left) n old) w.in-Store.is written));
+        written = to n old w.page_count-is w.code-is
+            (written_store program ds left n old w.in-Store.at w.in-Store.name
+            (subst (λ e. IsWritten program ds (e ∷ left) n old) w.in-Store.is written));
       }
       | in-Table w ↦ record {
         few = omega (arith, w.page_count-is, so_far.few);
-        written = to n old w.page_count-is w.code-is (written_table program ds left n old w.in-Table.at w.in-Table.name w.in-Table.columns (subst (λ e. IsWritten program ds (e ∷ left) n old) w.in-Table.is written));
+        written = to n old w.page_count-is w.code-is
+            (written_table program ds left n old w.in-Table.at w.in-Table.name w.in-Table.columns
+            (subst (λ e. IsWritten program ds (e ∷ left) n old) w.in-Table.is written));
       }
       | in-Function+in_ok-push-in-Function+in_ok-function-in-Function w ↦
           let new : Code = record { instructions = w.function.new.code; functions = w.push.new.self; pages = old.pages } in
@@ -60,7 +65,8 @@ loop-declaration-preserved c =
       | in-Page+in_ok-add-in-Page+in_ok-page-in-Page w ↦
           let new : Code = record { instructions = w.page.new.code; functions = old.functions; pages = w.add.new.pages } in
           let wrote =
-          w.in_ok-page-in-Page.ensures ∙ (λ j. old.instructions.items ++ (block_code (c.in_ok-emitter.ensures j) [] (statements_of w.in-Page.body) ++ Halt ∷ [])) in
+          w.in_ok-page-in-Page.ensures ∙ (λ j. old.instructions.items
+          ++ (block_code (c.in_ok-emitter.ensures j) [] (statements_of w.in-Page.body) ++ Halt ∷ [])) in
           record {
             few = omega (arith, w.page_count-is, so_far.few);
             written = to (n + 1) new w.page_count-is w.code-is

@@ -2,7 +2,7 @@ use Rattle.std.proofs.Common.{◌∙◌, ap, sym, ◌∷◌, [], ◌++◌, ◌�
 use Rattle.std.proofs.lemmas.Result.{err_from_is_err_and}
 use Rattle.script_tokens.specs.declared.word.Word.TheVariants as w
 use Rattle.script_grammar.specs.Machine.{of_name, of_names, adds_name, act, a_name, more_names, parameters}
-use Rattle.script_syntax.specs.Gives.{reading, names_value}
+use Rattle.script_syntax.specs.Parses.{reading, names_value}
 use Rattle.script_syntax.proofs.Descend.{act_runs, fails, follows, parameters_run}
 use Rattle.script_syntax.proofs.declaration.parameters.Goals as goal
 
@@ -15,7 +15,8 @@ returns-in_err-name-clause-gives c =
 pub returns-clause-gives : goal.returns-clause-gives
 returns-clause-gives c =
     let pushed : c.push.new.self ≡ c.in_ok-name.field-0 ∷ [] = c.in_ok-push.ensures.ok ∙ ap (λ l. l ++ c.in_ok-name.field-0 ∷ []) c.in_ok-names.ensures in
-    follows names_value (parameters ∷ []) (of_names [] ∷ []) c.args.tokens.now (more_names w.Close ∷ []) (of_names c.push.new.self ∷ []) c.name.new.tokens c.more_names.new.tokens c.more_names.result
+    follows names_value (parameters ∷ []) (of_names [] ∷ []) c.args.tokens.now (more_names w.Close ∷ [])
+    (of_names c.push.new.self ∷ []) c.name.new.tokens c.more_names.new.tokens c.more_names.result
     (λ k vs.
     parameters_run c.args.tokens.now (sym c.stands.ensures ∙ c.if-stands.false) k (of_names [] ∷ vs)
     ∙ c.in_ok-name.ensures.gives (act adds_name ∷ more_names w.Close ∷ k) (of_names [] ∷ vs)

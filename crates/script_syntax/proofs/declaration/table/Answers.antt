@@ -2,7 +2,7 @@ use Rattle.std.proofs.Common.{◌∙◌, ap, sym, ◌∷◌, [], ◌++◌, List,
 use Rattle.std.proofs.lemmas.Result.{err_from_is_err_and}
 use Rattle.script_tokens.specs.declared.word.Word.TheVariants as w
 use Rattle.script_grammar.specs.Machine.{Symbol, Val, of_name, of_names, puts, adds_name, tabled, act, word, a_name, more_names}
-use Rattle.script_syntax.specs.Gives.{reading}
+use Rattle.script_syntax.specs.Parses.{reading}
 use Rattle.script_syntax.proofs.Descend.{act_runs, fails}
 use Rattle.script_syntax.proofs.declaration.table.Goals as goal
 

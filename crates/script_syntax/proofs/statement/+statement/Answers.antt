@@ -5,13 +5,14 @@ use Rattle.script_tree.specs.StatementView.{else_of}
 use Rattle.script_tokens.specs.Feed.{rest_of}
 use Rattle.script_tokens.specs.declared.word.Word.TheVariants as w
 use Rattle.script_grammar.specs.Machine.{of_name, of_expression, of_statement, of_statements, of_else, puts, adds_statement, bound, said, branched, otherwise, repeated, turned, act, word, a_name, operand, a_statement, statements, else_part, block, begin_statement}
-use Rattle.script_syntax.specs.Gives.{reading, word_token, statement_value}
+use Rattle.script_syntax.specs.Parses.{reading, word_token, statement_value}
 use Rattle.script_syntax.proofs.Descend.{act_runs, fails, begin_follows, statements_run, else_runs}
 use Rattle.script_syntax.proofs.statement.+statement.Goals as goal
 
 pub block-loop-alloc-init : goal.block-loop-alloc-init
 block-loop-alloc-init t c = record {
-  told = λ k vs. c.in_ok-take.ensures.gives (act (puts (of_statements [])) ∷ statements ∷ k) vs ∙ act_runs (puts (of_statements [])) c.take.new.tokens (statements ∷ k) vs ∙ rw c.in_ok-statements.ensures refl;
+  told = λ k vs. c.in_ok-take.ensures.gives (act (puts (of_statements [])) ∷ statements ∷ k) vs
+      ∙ act_runs (puts (of_statements [])) c.take.new.tokens (statements ∷ k) vs ∙ rw c.in_ok-statements.ensures refl;
   shorter = c.in_ok-take.ensures.shorter;
 }
 
@@ -59,15 +60,24 @@ for_statement-returns-clause-gives t c = λ k vs.
     ∙ c.in_ok-take.ensures.gives (operand 6 ∷ block (act (turned c.args.at) ∷ k)) (of_name c.in_ok-name.name ∷ vs)
     ∙ c.in_ok-members.ensures.gives (block (act (turned c.args.at) ∷ k)) (of_name c.in_ok-name.name ∷ vs)
     ∙ c.in_ok-body.ensures.gives (act (turned c.args.at) ∷ k) (of_expression c.in_ok-members.members ∷ of_name c.in_ok-name.name ∷ vs)
-    ∙ act_runs (turned c.args.at) c.block.new.tokens k (of_statements c.in_ok-body.body ∷ of_expression c.in_ok-members.members ∷ of_name c.in_ok-name.name ∷ vs)
+    ∙ act_runs (turned c.args.at) c.block.new.tokens k
+    (of_statements c.in_ok-body.body ∷ of_expression c.in_ok-members.members ∷ of_name c.in_ok-name.name ∷ vs)
 
 pub statement_of-returns-in-Let-clause-gives : goal.statement_of-returns-in-Let-clause-gives
 statement_of-returns-in-Let-clause-gives t c =
-    rw c.in-Let.is (begin_follows statement_value (word_token c.args.at w.Let) (begin_statement c.args.at w.Let) c.args.tokens.now (a_name ∷ word w.Becomes ∷ operand 6 ∷ word w.Semicolon ∷ act (bound (tree.let_ c.args.at)) ∷ []) [] c.let_statement.new.tokens c.let_statement.result (λ k vs. refl) c.let_statement.ensures.gives)
+    rw c.in-Let.is (begin_follows statement_value (word_token c.args.at w.Let)
+    (begin_statement c.args.at w.Let) c.args.tokens.now
+    (a_name ∷ word w.Becomes ∷ operand 6 ∷ word w.Semicolon ∷ act
+    (bound (tree.let_ c.args.at)) ∷ []) [] c.let_statement.new.tokens c.let_statement.result
+    (λ k vs. refl) c.let_statement.ensures.gives)
 
 pub statement_of-returns-in-Set-clause-gives : goal.statement_of-returns-in-Set-clause-gives
 statement_of-returns-in-Set-clause-gives t c =
-    rw c.in-Set.is (begin_follows statement_value (word_token c.args.at w.Set) (begin_statement c.args.at w.Set) c.args.tokens.now (a_name ∷ word w.Becomes ∷ operand 6 ∷ word w.Semicolon ∷ act (bound (tree.set_ c.args.at)) ∷ []) [] c.set_statement.new.tokens c.set_statement.result (λ k vs. refl) c.set_statement.ensures.gives)
+    rw c.in-Set.is (begin_follows statement_value (word_token c.args.at w.Set)
+    (begin_statement c.args.at w.Set) c.args.tokens.now
+    (a_name ∷ word w.Becomes ∷ operand 6 ∷ word w.Semicolon ∷ act
+    (bound (tree.set_ c.args.at)) ∷ []) [] c.set_statement.new.tokens c.set_statement.result
+    (λ k vs. refl) c.set_statement.ensures.gives)
 
 pub statement_of-returns-in-Echo-clause-gives : goal.statement_of-returns-in-Echo-clause-gives
 statement_of-returns-in-Echo-clause-gives t c =

@@ -1,6 +1,6 @@
 use Rattle.std.proofs.Common.{◌≡◌, ◌<◌, ◌∷◌, length, List, ◌+◌, ◌*◌}
 use Rattle.script_grammar.specs.Machine.{Symbol, Val, block, statements, of_statements}
-use Rattle.script_syntax.specs.Gives.{reading}
+use Rattle.script_syntax.specs.Parses.{reading}
 use Rattle.script_syntax.proofs.statement.+statement.Given as goal
 
 abbrev pub decreases-block : goal.decreases-block

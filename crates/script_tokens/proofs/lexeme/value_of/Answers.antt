@@ -7,4 +7,6 @@ pub returns-then-value-digit : goal.returns-then-value-digit
 returns-then-value-digit c =
     let s = c.args.digits.now in
     let i = c.loop-digit.digit-index in
-    sym (too_large s (drop (suc i) s) c.loop-digit.value (get_or s i 0) (c.loop-digit.invariant.told ∙ ap (value_from c.loop-digit.value) (drop-cons s i 0 c.loop-digit-test.true)) (digit_small (get_or s i 0) (c.requires i 0 c.loop-digit-test.true)) c.if-value-digit.true)
+    sym (too_large s (drop (suc i) s) c.loop-digit.value (get_or s i 0)
+    (c.loop-digit.invariant.told ∙ ap (value_from c.loop-digit.value) (drop-cons s i 0 c.loop-digit-test.true))
+    (digit_small (get_or s i 0) (c.requires i 0 c.loop-digit-test.true)) c.if-value-digit.true)

@@ -15,13 +15,19 @@ returns-clause-given c =
     let d = c.remove-tables.new.self in
     let registers : option_map view c.remove-registers.result ≡ get_member (codes "registers") ms = found_in (codes "registers") members c.remove-registers.result c.remove-registers.ensures.value in
     let stores : option_map view c.remove-stores.result ≡ get_member (codes "stores") ms =
-    found_in (codes "stores") members c.remove-stores.result (c.remove-stores.ensures.value ∙ taken_out (codes "registers") (codes "stores") members a c.remove-registers.ensures.updates refl) in
+    found_in (codes "stores") members c.remove-stores.result
+    (c.remove-stores.ensures.value ∙ taken_out (codes "registers")
+    (codes "stores") members a c.remove-registers.ensures.updates refl) in
     let tables : option_map view c.remove-tables.result ≡ get_member (codes "tables") ms =
     found_in (codes "tables") members c.remove-tables.result
-    (c.remove-tables.ensures.value ∙ taken_out (codes "stores") (codes "tables") a b c.remove-stores.ensures.updates refl ∙ taken_out (codes "registers") (codes "tables") members a c.remove-registers.ensures.updates refl) in
+    (c.remove-tables.ensures.value ∙ taken_out (codes "stores")
+    (codes "tables") a b c.remove-stores.ensures.updates refl
+    ∙ taken_out (codes "registers") (codes "tables") members a c.remove-registers.ensures.updates refl) in
     let clock : option_map view c.remove-clock.result ≡ get_member (codes "clock") ms =
     found_in (codes "clock") members c.remove-clock.result
-    (c.remove-clock.ensures.value ∙ taken_out (codes "tables") (codes "clock") b d c.remove-tables.ensures.updates refl ∙ taken_out (codes "stores") (codes "clock") a b c.remove-stores.ensures.updates refl
+    (c.remove-clock.ensures.value ∙ taken_out (codes "tables")
+    (codes "clock") b d c.remove-tables.ensures.updates refl
+    ∙ taken_out (codes "stores") (codes "clock") a b c.remove-stores.ensures.updates refl
     ∙ taken_out (codes "registers") (codes "clock") members a c.remove-registers.ensures.updates refl) in
     let r = c.in_ok-array_or_empty.ensures ∙ ap (read_or [] entries_of) registers in
     let s = c.in_ok-object_or_empty.ensures.given ∙ ap (read_or [] stores_of) stores in

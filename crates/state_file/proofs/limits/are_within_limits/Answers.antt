@@ -51,6 +51,7 @@ returns-else-are_tables_within_limits c =
             c.if-are_tables_within_limits.false ∙ (λ i. sym registers i && sym stores i && list_all tables_within given.tables && int_le (pos 0) given.clock)
         | else-are_entries_within_limits v ↦
             let registers = entries ∙ v.if-are_entries_within_limits.false in
-            c.if-are_tables_within_limits.false ∙ (λ i. sym registers i && list_all stores_within given.stores && list_all tables_within given.tables && int_le (pos 0) given.clock)
+            c.if-are_tables_within_limits.false ∙ (λ i. sym registers i && list_all stores_within given.stores
+            && list_all tables_within given.tables && int_le (pos 0) given.clock)
       ]
     ]

@@ -18,7 +18,8 @@ returns-then-are_stores_there c =
     let known = λ (t : Named (List Row)). is_some (table_from 0 t.0 ds) in
     let stores : list_all declared given.stores ≡ c.are_stores_there.result =
     sym (all_same there declared given.stores (λ s. c.requires.stores s.0)) ∙ ap (list_all there) (sym c.as_slice.ensures) ∙ sym c.are_stores_there.ensures in
-    c.are_tables_there.ensures ∙ ap (list_all known) c.as_slice-then-are_stores_there.ensures ∙ ap (λ b. b && list_all known given.tables) (sym (stores ∙ c.if-are_stores_there.true))
+    c.are_tables_there.ensures ∙ ap (list_all known) c.as_slice-then-are_stores_there.ensures
+    ∙ ap (λ b. b && list_all known given.tables) (sym (stores ∙ c.if-are_stores_there.true))
 
 pub returns-else-are_stores_there : goal.returns-else-are_stores_there
 returns-else-are_stores_there c =

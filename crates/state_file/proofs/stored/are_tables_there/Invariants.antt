@@ -5,4 +5,5 @@ use Rattle.state_file.proofs.stored.are_tables_there.Given as goal
 
 abbrev pub invariant-loop-table : goal.invariant-loop-table
 invariant-loop-table l =
-    list_all (λ t. is_some (table_from 0 t.0 l.index.declarations)) (drop l.table-index l.tables) ≡ list_all (λ t. is_some (table_from 0 t.0 l.index.declarations)) l.tables
+    list_all (λ t. is_some (table_from 0 t.0 l.index.declarations)) (drop l.table-index l.tables)
+    ≡ list_all (λ t. is_some (table_from 0 t.0 l.index.declarations)) l.tables

@@ -72,6 +72,8 @@ loop-name-preserved c =
           clock = put.others.clock ∙ i.3.others.clock;
         };
       },
-      all_in_front (λ s. are_entries_within_limits s.1) front (name, entries) (ap (λ ss. list_all (λ s. are_entries_within_limits s.1) ss) (sym c.in-Some.ensures.items) ∙ i.4),
-      all_in_front (λ s. has_store c.args.objects.now.stores s.0) front (name, entries) (ap (λ ss. list_all (λ s. has_store c.args.objects.now.stores s.0) ss) (sym c.in-Some.ensures.items) ∙ i.5),
+      all_in_front (λ s. are_entries_within_limits s.1) front (name, entries)
+          (ap (λ ss. list_all (λ s. are_entries_within_limits s.1) ss) (sym c.in-Some.ensures.items) ∙ i.4),
+      all_in_front (λ s. has_store c.args.objects.now.stores s.0) front (name, entries)
+          (ap (λ ss. list_all (λ s. has_store c.args.objects.now.stores s.0) ss) (sym c.in-Some.ensures.items) ∙ i.5),
     )

@@ -1,6 +1,6 @@
 use Rattle.std.proofs.Common.{◌≡◌, List, map}
 use Rattle.script_tree.specs.declared.operation.Object.{Object}
-use Rattle.report.specs.declared.LogEntry.{LogEntry}
+use Rattle.period.specs.declared.report.LogEntry.{LogEntry}
 use Rattle.trace_and_report.specs.Draft.{spelled_log}
 use Rattle.trace_and_report.specs.Grouped.{entries_in}
 use Rattle.trace_and_report.specs.Widths.{Each}

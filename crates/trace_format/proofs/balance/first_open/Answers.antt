@@ -7,7 +7,8 @@ pub returns-then-asks_open : goal.returns-then-asks_open
 returns-then-asks_open c =
     let stage = stage_of c.args.stages.now in
     subst (λ r. IsFirstOpen stage c.args.trace.now (Some r)) (sym c.id_of.ensures)
-    (first_asked stage c.args.trace.now c.loop-place.place c.head-head.result (omega arith) c.head-head.ensures (sym c.asks_open.ensures ∙ c.if-asks_open.true) c.loop-place.invariant)
+    (first_asked stage c.args.trace.now c.loop-place.place c.head-head.result (omega arith) c.head-head.ensures
+    (sym c.asks_open.ensures ∙ c.if-asks_open.true) c.loop-place.invariant)
 
 pub loop-place-preserved : goal.loop-place-preserved
 loop-place-preserved c = none_more (stage_of c.args.stages.now) c.args.trace.now c.loop-place.place c.head-head.result c.head-head.ensures (sym c.asks_open.ensures ∙ c.if-asks_open.false) c.loop-place.invariant

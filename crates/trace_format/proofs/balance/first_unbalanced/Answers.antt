@@ -20,7 +20,9 @@ returns-then-not-branch c =
     let e = some_at events i (omega arith) in
     let head : c.head-head.result ≡ head_of e.0 = c.head-head.ensures e.0 e.1 in
     let unfit : fits e.0 (stage_of c.loop-place.stages (id_of e.0)) ≡ false = ap (λ h. head_fits h (stage_of c.loop-place.stages (head_id h))) (sym head) ∙ sym c.in_ok-note.ensures.fits ∙ c.if-not-branch.true in
-    subst (λ r. IsFirstFault events (Some r)) (ap head_id (sym head) ∙ sym c.id_of.ensures) (misfit_is_fault events i (id_of e.0) c.loop-place.invariant.fitting (known-misfit _ events i e.0 e.1 c.loop-place.invariant unfit))
+    subst (λ r. IsFirstFault events (Some r)) (ap head_id (sym head) ∙ sym c.id_of.ensures)
+    (misfit_is_fault events i (id_of e.0) c.loop-place.invariant.fitting
+    (known-misfit _ events i e.0 e.1 c.loop-place.invariant unfit))
 
 pub loop-place-preserved : goal.loop-place-preserved
 loop-place-preserved c =

@@ -1,7 +1,7 @@
 use Rattle.wire.specs.Spellings.{bytes_field}
 use Rattle.wire.proofs.Faults.{part_missed, part_not_taken}
 use Rattle.trace_format.specs.Events.{parameters_field, request_field}
-use Rattle.trace_format.proofs.RequestFields.{no_method, no_path, no_count, too_many, no_parameters, no_body, all_parts, request_there, not_limited}
+use Rattle.trace_format.proofs.RequestFields.{begun, begun_whole, no_method, no_path, no_count, too_many, no_parameters, no_body, request_there, not_limited}
 use Rattle.trace_format.proofs.request.read_request.Goals as goal
 
 pub returns-in_err-method : goal.returns-in_err-method
@@ -22,18 +22,25 @@ returns-then-count-gt-MOST_PARAMETERS c =
 
 pub returns-in_err-parameters : goal.returns-in_err-parameters
 returns-in_err-parameters c =
-    part_not_taken (parameters_field c.in_ok-count.count) request_field (λ x. x) (λ x. x) c.args.bytes.now c.in_ok-count.next c.args.at c.in_err-parameters.field-0.0 c.from_residual-in_err-parameters.result c.in_err-parameters.ensures c.from_residual-in_err-parameters.ensures.1 (no_parameters c.args.bytes.now c.args.at c.in_ok-method.method c.in_ok-method.next c.in_ok-path.path c.in_ok-path.next c.in_ok-count.count c.in_ok-count.next (record { method = c.in_ok-method.ensures; path = c.in_ok-path.ensures; count = c.in_ok-count.ensures.field; few = c.if-count-gt-MOST_PARAMETERS.false }))
+    let begun = begun c.in_ok-method.ensures c.in_ok-path.ensures c.in_ok-count.ensures.field c.if-count-gt-MOST_PARAMETERS.false in
+    part_not_taken (parameters_field begun.count) request_field (λ x. x) (λ x. x) c.args.bytes.now begun.next c.args.at c.in_err-parameters.field-0.0 c.from_residual-in_err-parameters.result c.in_err-parameters.ensures
+    c.from_residual-in_err-parameters.ensures.1 (no_parameters c.args.bytes.now c.args.at begun)
 
 pub returns-in_err-body : goal.returns-in_err-body
 returns-in_err-body c =
-    part_not_taken bytes_field request_field (λ x. x) (λ x. x) c.args.bytes.now c.in_ok-parameters.next c.args.at c.in_err-body.field-0.0 c.from_residual-in_err-body.result c.in_err-body.ensures c.from_residual-in_err-body.ensures.1 (no_body c.args.bytes.now c.args.at c.in_ok-method.method c.in_ok-method.next c.in_ok-path.path c.in_ok-path.next c.in_ok-count.count c.in_ok-count.next c.in_ok-parameters.parameters c.in_ok-parameters.next (record { method = c.in_ok-method.ensures; path = c.in_ok-path.ensures; count = c.in_ok-count.ensures.field; few = c.if-count-gt-MOST_PARAMETERS.false }) c.in_ok-parameters.ensures)
+    let begun = begun c.in_ok-method.ensures c.in_ok-path.ensures c.in_ok-count.ensures.field c.if-count-gt-MOST_PARAMETERS.false in
+    let read = begun_whole begun c.in_ok-parameters.parameters c.in_ok-parameters.next c.in_ok-parameters.ensures in
+    part_not_taken bytes_field request_field (λ x. x) (λ x. x) c.args.bytes.now read.next c.args.at c.in_err-body.field-0.0 c.from_residual-in_err-body.result c.in_err-body.ensures
+    c.from_residual-in_err-body.ensures.1 (no_body c.args.bytes.now c.args.at read)
 
 pub returns-in-Some : goal.returns-in-Some
 returns-in-Some c =
-    let parts = all_parts c.args.bytes.now c.args.at c.in_ok-method.method c.in_ok-method.next c.in_ok-path.path c.in_ok-path.next c.in_ok-count.count c.in_ok-count.next c.in_ok-parameters.parameters c.in_ok-parameters.next c.in_ok-body.body c.in_ok-body.next (record { method = c.in_ok-method.ensures; path = c.in_ok-path.ensures; count = c.in_ok-count.ensures.field; few = c.if-count-gt-MOST_PARAMETERS.false }) c.in_ok-parameters.ensures c.in_ok-body.ensures in
-    request_there c.args.bytes.now c.args.at c.in_ok-method.method c.in_ok-path.path c.in_ok-count.count c.in_ok-parameters.parameters c.in_ok-body.body c.in-Some.request c.in_ok-body.next parts c.in-Some.ensures.1 c.in-Some.ensures.0
+    let begun = begun c.in_ok-method.ensures c.in_ok-path.ensures c.in_ok-count.ensures.field c.if-count-gt-MOST_PARAMETERS.false in
+    let read = begun_whole begun c.in_ok-parameters.parameters c.in_ok-parameters.next c.in_ok-parameters.ensures in
+    request_there c.args.bytes.now c.args.at read c.in_ok-body.body c.in_ok-body.next c.in-Some.request c.in_ok-body.ensures c.in-Some.ensures.1 c.in-Some.ensures.0
 
 pub returns-in-None : goal.returns-in-None
 returns-in-None c =
-    let parts = all_parts c.args.bytes.now c.args.at c.in_ok-method.method c.in_ok-method.next c.in_ok-path.path c.in_ok-path.next c.in_ok-count.count c.in_ok-count.next c.in_ok-parameters.parameters c.in_ok-parameters.next c.in_ok-body.body c.in_ok-body.next (record { method = c.in_ok-method.ensures; path = c.in_ok-path.ensures; count = c.in_ok-count.ensures.field; few = c.if-count-gt-MOST_PARAMETERS.false }) c.in_ok-parameters.ensures c.in_ok-body.ensures in
-    not_limited c.args.bytes.now c.args.at c.in_ok-method.method c.in_ok-path.path c.in_ok-count.count c.in_ok-parameters.parameters c.in_ok-body.body c.in_ok-body.next parts c.in-None.ensures
+    let begun = begun c.in_ok-method.ensures c.in_ok-path.ensures c.in_ok-count.ensures.field c.if-count-gt-MOST_PARAMETERS.false in
+    let read = begun_whole begun c.in_ok-parameters.parameters c.in_ok-parameters.next c.in_ok-parameters.ensures in
+    not_limited c.args.bytes.now c.args.at read c.in_ok-body.body c.in_ok-body.next c.in_ok-body.ensures c.in-None.ensures

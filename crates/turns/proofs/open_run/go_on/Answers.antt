@@ -15,14 +15,19 @@ act-requires-clause-waits g c =
       follows = c.in_ok-op.ensures.follows program o.0.request o.0.answers o.2.follows;
       waits = subst (λ step. WaitsAfter step c.run.new.self) c.in-Wants.is c.in_ok-op.ensures.waits;
       short = o.2.short;
-      wants = ending_is program o.0 c.in_ok-op.field-0 (Wants c.in-Wants.op) c.in-Wants.is (c.in_ok-op.ensures.tells program o.0.request o.0.answers o.2.follows);
+      wants = ending_is program o.0 c.in_ok-op.field-0 (Wants c.in-Wants.op) c.in-Wants.is
+          (c.in_ok-op.ensures.tells program o.0.request o.0.answers o.2.follows);
     }
 
 pub step-requires : goal.step-requires
 step-requires g c =
     let program = c.args.recording.now.program in
-    let o = open_here program (at_seat c.args.recording.now.visits c.args.seat) c.args.machine c.requires.seated in
-    (o.0, o.1, ending_is program o.0 c.in_ok-op.field-0 (Ends c.in-Ends.response c.in-Ends.path) c.in-Ends.is (c.in_ok-op.ensures.tells program o.0.request o.0.answers o.2.follows))
+    let o = open_here program (at_seat c.args.recording.now.visits c.args.seat) c.args.machine c.requires.seated in (
+      o.0,
+      o.1,
+      ending_is program o.0 c.in_ok-op.field-0 (Ends c.in-Ends.response c.in-Ends.path) c.in-Ends.is
+          (c.in_ok-op.ensures.tells program o.0.request o.0.answers o.2.follows),
+    )
 
 pub returns : goal.returns
 returns g c =

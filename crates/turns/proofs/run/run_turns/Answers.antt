@@ -49,7 +49,8 @@ pub rounds-smaller : goal.rounds-smaller
 rounds-smaller g c =
     let all : c.loop-seat.seat ≡ SEATS = omega (arith, c.loop-seat-test.false, c.loop-seat.auto.seat-end) in
     let busy : IsDone c.rounds.table → ⊥ = λ done. not_false (c.rounds-test.ensures.1 done) in
-    falls c.rounds.table c.loop-seat.table c.rounds.invariant.goes.laid busy (subst (λ n. IsUnderWay n c.rounds.table c.loop-seat.table) all c.loop-seat.invariant.under_way)
+    falls c.rounds.table c.loop-seat.table c.rounds.invariant.goes.laid busy
+    (subst (λ n. IsUnderWay n c.rounds.table c.loop-seat.table) all c.loop-seat.invariant.under_way)
 
 pub rounds-preserved : goal.rounds-preserved
 rounds-preserved g c =

@@ -15,4 +15,5 @@ decreases-rounds g l = work l.table
 
 abbrev pub invariant-loop-seat : goal.invariant-loop-seat
 invariant-loop-seat g l =
-    InRound g.J.Journal.keeps (setting l.fn.program.value l.fn.start l.fn.jobs l.fn.turns l.seed (g.C.Clock.reading l.clock)) l.seat l.initial.table l.table l.journal
+    InRound g.J.Journal.keeps (setting l.fn.program.value l.fn.start l.fn.jobs l.fn.turns l.seed
+    (g.C.Clock.reading l.clock)) l.seat l.initial.table l.table l.journal

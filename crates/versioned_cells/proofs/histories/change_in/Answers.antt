@@ -21,4 +21,5 @@ returns-in-Some g c =
     let is : lookup (is_at (slice_cmp nat_cmp k)) old ≡ Some c.in-Some.history.now = search rules in
     let written = (c.get_mut.follows.holds c.change.new.self).3 (search rules) in
     OnOk-map c.change.result
-    (λ after. changed_at g.T.PartialEq.eq k c.args.since c.args.value c.in-Some.history.now c.change.new.self old _ (there k old c.in-Some.history.now is) after written.0) c.change.ensures
+    (λ after. changed_at g.T.PartialEq.eq k c.args.since c.args.value c.in-Some.history.now c.change.new.self old _
+    (there k old c.in-Some.history.now is) after written.0) c.change.ensures

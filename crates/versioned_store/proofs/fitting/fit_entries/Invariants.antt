@@ -1,6 +1,6 @@
 use Rattle.std.proofs.Common.{◌≡◌, ◌<◌, ℕ, Some}
 use Rattle.basis.specs.Lists.{nth}
-use Rattle.report.specs.declared.LogEntry.{LogEntry}
+use Rattle.period.specs.declared.report.LogEntry.{LogEntry}
 use Rattle.object_set.specs.Applied.{FitsSet, op_of}
 use Rattle.versioned_store.proofs.fitting.fit_entries.Given as goal
 

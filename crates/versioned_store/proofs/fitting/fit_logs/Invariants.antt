@@ -1,6 +1,6 @@
 use Rattle.std.proofs.Common.{◌≡◌, ◌<◌, ℕ, Some}
 use Rattle.basis.specs.Lists.{nth}
-use Rattle.report.specs.declared.Log.{Log}
+use Rattle.period.specs.declared.report.Log.{Log}
 use Rattle.versioned_store.specs.Logged.{FitsLog}
 use Rattle.versioned_store.proofs.fitting.fit_logs.Given as goal
 

@@ -4,7 +4,7 @@ use Rattle.std.specs.Option.{is_some}
 use Rattle.basis.specs.Lists.{nth}
 use Rattle.basis.proofs.Options.{some_is, none_is_not}
 use Rattle.script_tree.specs.Datum.{Datum}
-use Rattle.report.specs.declared.LogEntry.{LogEntry}
+use Rattle.period.specs.declared.report.LogEntry.{LogEntry}
 use Rattle.versioned_tables.specs.OverTime.{IsAnswerThen}
 use Rattle.versioned_store.specs.Tables.{is_own}
 use Rattle.versioned_store.proofs.Kept.{push_nth}

@@ -4,4 +4,6 @@ use Rattle.versioned_tables.proofs.Moving.{runs}
 use Rattle.versioned_tables.proofs.moves.advance.Goals as goal
 
 pub keys_of-requires : goal.keys_of-requires
-keys_of-requires c = runs c.args.widths.now (length c.as_slice.result.now) c.args.statements.now c.as_slice-2.result.now c.requires.fits (ap (λ (hs : RowsOverTime). length hs) c.as_slice.ensures.value ∙ c.requires.count) c.as_slice-2.ensures
+keys_of-requires c = runs c.args.widths.now
+    (length c.as_slice.result.now) c.args.statements.now c.as_slice-2.result.now c.requires.fits
+    (ap (λ (hs : RowsOverTime). length hs) c.as_slice.ensures.value ∙ c.requires.count) c.as_slice-2.ensures

@@ -15,4 +15,5 @@ loop-table-preserved c =
 pub returns : goal.returns
 returns c =
     let many : length c.widths-count.result.now ≡ length c.args.start.now.widths = ap (λ (ws : List ℕ). length ws) c.widths-count.ensures.widths in
-    begin_all c.args.start.now c.loop-table.table c.loop-table.tables.items c.widths-count.ensures.fit (omega (arith, many, c.loop-table-test.false)) c.loop-table.invariant
+    begin_all c.args.start.now c.loop-table.table c.loop-table.tables.items c.widths-count.ensures.fit
+    (omega (arith, many, c.loop-table-test.false)) c.loop-table.invariant

@@ -13,7 +13,8 @@ loop-row-init c =
     let all : c.into_iter-row-iterator.result ≡ c.args.rows = c.into_iter-row-iterator.ensures.into_iter_gives in
     let none : reverse c.new-histories.result.items ≡ [] = ap (λ (ps : VersionsByKey Row). reverse ps) c.new-histories.ensures.items in
     record {
-      rows = λ p k. ap (λ (r : Table). or_else (row_at k r) (held_at p (reverse c.new-histories.result.items) k)) all ∙ rows_none c.args.rows (reverse c.new-histories.result.items) none p k;
+      rows = λ p k. ap (λ (r : Table). or_else (row_at k r) (held_at p (reverse c.new-histories.result.items) k)) all
+          ∙ rows_none c.args.rows (reverse c.new-histories.result.items) none p k;
       are = (c.requires.0, subst (AreRows c.requires.0) (sym all) (rows_of_table c.requires.0 c.args.rows c.requires.1));
       until = until_none (reverse c.new-histories.result.items) none;
       fresh = fresh_none c.into_iter-row-iterator.result (reverse c.new-histories.result.items) none;

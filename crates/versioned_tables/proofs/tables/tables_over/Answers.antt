@@ -21,7 +21,9 @@ loop-entry-init c =
 
 pub note_act-requires-clause-fits : goal.note_act-requires-clause-fits
 note_act-requires-clause-fits c =
-    entry_fits c.args.widths.now c.args.entries.now c.loop-entry.entry-index c.entry-item.result (subst (λ ws. FitEntries ws c.args.entries.now) (sym c.requires.same) c.requires.fits) c.loop-entry-test.true c.entry-item.is
+    entry_fits c.args.widths.now c.args.entries.now c.loop-entry.entry-index c.entry-item.result
+    (subst (λ ws. FitEntries ws c.args.entries.now)
+    (sym c.requires.same) c.requires.fits) c.loop-entry-test.true c.entry-item.is
 
 pub note_act-requires-clause-stands : goal.note_act-requires-clause-stands
 note_act-requires-clause-stands c =

@@ -24,7 +24,8 @@ loop-path-preserved c =
     let under = subst (λ left. AreGroupsMade (groups_in c.args.groups) left c.loop-path.made.items) (ap lists c.in-Some.ensures.steps) c.loop-path.invariant in
     record {
       are_made =
-          one_made members_of (groups_in c.args.groups) (lists c.next.new.self) (c.in-Some._path, c.in-Some.rids.items) c.in-Some-new.group c.loop-path.made.items c.push.new.self.items
+          one_made members_of (groups_in c.args.groups) (lists c.next.new.self)
+          (c.in-Some._path, c.in-Some.rids.items) c.in-Some-new.group c.loop-path.made.items c.push.new.self.items
           under.are_made c.in-Some-new.ensures.1 c.in_ok-push.ensures.items;
       have = under.have.1;
     }

@@ -13,7 +13,8 @@ loop-object-init c =
 pub loop-object-preserved : goal.loop-object-preserved
 loop-object-preserved c =
     let under = subst (λ left. AreMade log_of (groups_in c.args.logs) left c.loop-object.made.items) (ap lists c.in-Some.ensures.steps) c.loop-object.invariant in
-    one_made log_of (groups_in c.args.logs) (lists c.next.new.self) (c.in-Some.object, c.in-Some.entries.items) _ c.loop-object.made.items c.push.new.self.items under
+    one_made log_of (groups_in c.args.logs) (lists c.next.new.self)
+    (c.in-Some.object, c.in-Some.entries.items) _ c.loop-object.made.items c.push.new.self.items under
     (λ i. record { object = c.in-Some.object; entries = c.from_vec.ensures i }) c.in_ok-push.ensures.items
 
 pub returns : goal.returns

@@ -21,4 +21,5 @@ pub returns-in-Ok-clause-accepted : goal.returns-in-Ok-clause-accepted
 returns-in-Ok-clause-accepted c =
     let draft = c.in_ok-draft.draft in
     trace_accepted c.recorded_is_accepted.ensures c.args.history.now c.in-Ok.trace
-    (read_as c.reading_is_exact.ensures c.args.history.now draft c.in-Ok.trace c.requires (omega (arith, draft.bytes.ok.0)) c.in_ok-draft.ensures c.in-Ok.ensures)
+    (read_as c.reading_is_exact.ensures c.args.history.now draft c.in-Ok.trace c.requires
+    (omega (arith, draft.bytes.ok.0)) c.in_ok-draft.ensures c.in-Ok.ensures)

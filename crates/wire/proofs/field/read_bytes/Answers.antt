@@ -15,4 +15,5 @@ pub returns-clause-field : goal.returns-clause-field
 returns-clause-field c =
     let start = c.in_ok-len.start in
     let len = c.in_ok-len.len in
-    bytes_found c.args.bytes.now c.args.at (take (start + len - start) (drop start c.args.bytes.now)) (start + len) (λ i. omega (arith, c.type_inv.bytes i)) (grind (arith, common_steps))
+    bytes_found c.args.bytes.now c.args.at (take (start + len - start) (drop start c.args.bytes.now)) (start + len)
+    (λ i. omega (arith, c.type_inv.bytes i)) (grind (arith, common_steps))

@@ -6,4 +6,5 @@ use Rattle.wire.proofs.field.read_u64.Goals as goal
 
 pub returns-in-Some-len8-up-clause-field : goal.returns-in-Some-len8-up-clause-field
 returns-in-Some-len8-up-clause-field c =
-    number_found w64 wide64 c.args.bytes.now c.args.at c.from_be_bytes.result (c.args.at + 8) (λ i. omega (arith, c.type_inv.bytes i)) (grind (arith, common_steps))
+    number_found w64 wide64 c.args.bytes.now c.args.at c.from_be_bytes.result (c.args.at + 8)
+    (λ i. omega (arith, c.type_inv.bytes i)) (grind (arith, common_steps))

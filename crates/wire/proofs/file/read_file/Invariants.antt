@@ -1,12 +1,9 @@
 use Rattle.std.proofs.Common.{length, ◌-◌}
-use Rattle.wire.proofs.FileSteps.{IsReadUpTo}
+use Rattle.wire.specs.FileReaders.{HasReadFile}
 use Rattle.wire.proofs.file.read_file.Given as goal
 
-abbrev pub invariant-loop-at : goal.invariant-loop-at
-invariant-loop-at g l = record {
-  kept : g.R.RecordReader.HasRead l.reader l.items.items;
-  read : IsReadUpTo g.R.RecordFormat.format l.bytes l.items.items l.at;
-}
+abbrev pub invariant-loop-items : goal.invariant-loop-items
+invariant-loop-items g l = HasReadFile g.R.RecordFormat.format g.R.RecordReader.HasRead l.bytes l.items.items l.file
 
-abbrev pub decreases-loop-at : goal.decreases-loop-at
-decreases-loop-at g l = length l.bytes - l.at
+abbrev pub decreases-loop-items : goal.decreases-loop-items
+decreases-loop-items g l = length l.file.bytes.now - l.file.at

@@ -7,7 +7,8 @@ use Rattle.wire.proofs.value_reading.+read_any.Goals as goal
 
 pub read_any-returns-in_err-tag : goal.read_any-returns-in_err-tag
 read_any-returns-in_err-tag t c =
-    value_fault c.args.depth c.args.room c.args.bytes.now c.args.at _ c.from_residual.result c.from_residual.ensures.1 (no_byte c.args.depth c.args.room c.args.bytes.now c.args.at c.in_err-tag.ensures.field.1)
+    value_fault c.args.depth c.args.room c.args.bytes.now c.args.at _ c.from_residual.result c.from_residual.ensures.1
+    (no_byte c.args.depth c.args.room c.args.bytes.now c.args.at c.in_err-tag.ensures.field.1)
 
 pub read_any-returns-in_default : goal.read_any-returns-in_default
 read_any-returns-in_default t c = λ d next bound p. no_room c.args.depth c.args.room d (omega (arith, c.in_default.ensures)) bound

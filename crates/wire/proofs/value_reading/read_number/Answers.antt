@@ -4,7 +4,8 @@ use Rattle.wire.proofs.value_reading.read_number.Goals as goal
 
 pub returns-in_err-number : goal.returns-in_err-number
 returns-in_err-number c = λ depth.
-    tail_fault 3 depth (c.args.room + 1) c.args.bytes.now c.args.at _ c.from_residual.result c.from_residual.ensures.1 (no_number c.args.bytes.now c.args.at depth (c.args.room + 1) c.in_err-number.ensures.field.1)
+    tail_fault 3 depth (c.args.room + 1) c.args.bytes.now c.args.at _ c.from_residual.result c.from_residual.ensures.1
+    (no_number c.args.bytes.now c.args.at depth (c.args.room + 1) c.in_err-number.ensures.field.1)
 
 pub returns : goal.returns
 returns c = λ depth.

@@ -5,7 +5,8 @@ use Rattle.wire.proofs.value_reading.read_text.Goals as goal
 
 pub returns-in_err-text : goal.returns-in_err-text
 returns-in_err-text c = λ depth.
-    tail_fault 4 depth (c.args.room + 1) c.args.bytes.now c.args.at _ c.from_residual.result c.from_residual.ensures.1 (no_text c.args.bytes.now c.args.at depth c.args.room c.requires c.in_err-text.ensures.field.1)
+    tail_fault 4 depth (c.args.room + 1) c.args.bytes.now c.args.at _ c.from_residual.result c.from_residual.ensures.1
+    (no_text c.args.bytes.now c.args.at depth c.args.room c.requires c.in_err-text.ensures.field.1)
 
 pub returns-in_default : goal.returns-in_default
 returns-in_default c = λ depth.

@@ -16,13 +16,19 @@ returns c =
     let d = c.remove-parameters.new.self in
     let method : option_map view c.remove-method.result ≡ get_member (codes "method") ms = found_in (codes "method") members c.remove-method.result c.remove-method.ensures.value in
     let path : option_map view c.remove-path.result ≡ get_member (codes "path") ms =
-    found_in (codes "path") members c.remove-path.result (c.remove-path.ensures.value ∙ taken_out (codes "method") (codes "path") members a c.remove-method.ensures.updates refl) in
+    found_in (codes "path") members c.remove-path.result
+    (c.remove-path.ensures.value ∙ taken_out (codes "method")
+    (codes "path") members a c.remove-method.ensures.updates refl) in
     let parameters : option_map view c.remove-parameters.result ≡ get_member (codes "params") ms =
     found_in (codes "params") members c.remove-parameters.result
-    (c.remove-parameters.ensures.value ∙ taken_out (codes "path") (codes "params") a b c.remove-path.ensures.updates refl ∙ taken_out (codes "method") (codes "params") members a c.remove-method.ensures.updates refl) in
+    (c.remove-parameters.ensures.value ∙ taken_out (codes "path")
+    (codes "params") a b c.remove-path.ensures.updates refl
+    ∙ taken_out (codes "method") (codes "params") members a c.remove-method.ensures.updates refl) in
     let body : option_map view c.remove-body.result ≡ get_member (codes "body") ms =
     found_in (codes "body") members c.remove-body.result
-    (c.remove-body.ensures.value ∙ taken_out (codes "params") (codes "body") b d c.remove-parameters.ensures.updates refl ∙ taken_out (codes "path") (codes "body") a b c.remove-path.ensures.updates refl
+    (c.remove-body.ensures.value ∙ taken_out (codes "params")
+    (codes "body") b d c.remove-parameters.ensures.updates refl
+    ∙ taken_out (codes "path") (codes "body") a b c.remove-path.ensures.updates refl
     ∙ taken_out (codes "method") (codes "body") members a c.remove-method.ensures.updates refl) in
     let m = c.in_ok-text_or.ensures ∙ ap (read_or (codes "GET") text_of) method in
     let p = c.in_ok-text_there.ensures ∙ ap (option_and_then text_of) path in

@@ -16,7 +16,8 @@ jobs-preserved c =
     let first : BeginWithJob l.reader q us = rw (← going.1) (rw c.in-Some.is at c.in_ok-request.ensures.read) in record {
       turns = l.invariant.turns - 1;
       enough = omega (arith, l.invariant.enough);
-      all = next_turn c.args.reader.now l.reader us l.invariant.turns l.requests.items c.push.new.self.items q (omega (arith, l.invariant.enough)) going.0 first pushed l.invariant.all;
+      all = next_turn c.args.reader.now l.reader us l.invariant.turns l.requests.items c.push.new.self.items q
+          (omega (arith, l.invariant.enough)) going.0 first pushed l.invariant.all;
       few = grind (arith, common_steps);
       within = grind (arith, common_steps);
     }

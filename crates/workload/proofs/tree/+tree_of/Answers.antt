@@ -12,7 +12,9 @@ pub items_of-returns : goal.items_of-returns
 items_of-returns t c =
     let vs = c.deref-item-items.result.now in
     let all : take c.loop-item.item-index vs ≡ vs = take_all c.loop-item.item-index vs c.loop-item-test.false in
-    all_trees c.args.items.now.items c.loop-item.trees.items (ap (map (λ v. of_json (borrowed.value_view v))) (sym c.deref-item-items.ensures.value ∙ sym all) ∙ c.loop-item.invariant)
+    all_trees c.args.items.now.items c.loop-item.trees.items
+    (ap (map (λ v. of_json (borrowed.value_view v))) (sym c.deref-item-items.ensures.value ∙ sym all)
+    ∙ c.loop-item.invariant)
 
 pub members_of-loop-name-preserved : goal.members_of-loop-name-preserved
 members_of-loop-name-preserved t c =
@@ -24,6 +26,9 @@ members_of-loop-name-preserved t c =
     let left : drop i ms ≡ m ∷ drop (i + 1) ms = drop_more ms i m c.loop-name-test.true ∙ ap (λ n. n ∷ drop (i + 1) ms) (sym c.loop-name-item.is) in
     let named : string_bytes c.in_ok-name.name ≡ m.0.now = search rules in
     let inserted : members_view c.insert.new.self.entries ≡ put m.0.now (view tree) old =
-    ap members_view c.in_ok-insert-in-Some.ensures.entries ∙ members_view-insert_entry c.loop-name.trees.entries c.in_ok-name.name tree ∙ ap (λ k. put k (view tree) old) named in
+    ap members_view c.in_ok-insert-in-Some.ensures.entries
+    ∙ members_view-insert_entry c.loop-name.trees.entries c.in_ok-name.name tree
+    ∙ ap (λ k. put k (view tree) old) named in
     let next = next_member m (drop (i + 1) ms) (view tree) old (rw c.in-Some.is at c.in_ok-tree.ensures) in
-    c.loop-name.invariant ∙ ap (λ ns. of_members (borrowed.members_view ns) old) left ∙ next ∙ ap (of_members (borrowed.members_view (drop (i + 1) ms))) (sym inserted)
+    c.loop-name.invariant ∙ ap (λ ns. of_members (borrowed.members_view ns) old) left ∙ next
+    ∙ ap (of_members (borrowed.members_view (drop (i + 1) ms))) (sym inserted)

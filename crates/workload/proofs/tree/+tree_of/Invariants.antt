@@ -11,4 +11,5 @@ invariant-items_of-loop-item l = map (λ v. of_json (borrowed.value_view v)) (ta
 
 -- all are the members that are left, put in after those so far
 abbrev pub invariant-members_of-loop-name : goal.invariant-members_of-loop-name
-invariant-members_of-loop-name l = of_members (borrowed.members_view l.name-items) no_members ≡ of_members (borrowed.members_view (drop l.name-index l.name-items)) (members_view l.trees.entries)
+invariant-members_of-loop-name l = of_members (borrowed.members_view l.name-items) no_members
+    ≡ of_members (borrowed.members_view (drop l.name-index l.name-items)) (members_view l.trees.entries)

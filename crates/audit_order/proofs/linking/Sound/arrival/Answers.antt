@@ -1,7 +1,7 @@
 use Rattle.std.proofs.Common.{◌≡◌, ◌∙◌, ℕ, true, None, Some, refl, ap, sym, subst}
 use Rattle.basis.specs.Lists.{nth}
 use Rattle.script_tree.specs.Requests.{Request}
-use Rattle.script_tree.specs.declared.trace.TraceEvent.TheVariants.{Asked}
+use Rattle.period.specs.declared.trace.TraceEvent.TheVariants.{Asked}
 use Rattle.event_order.specs.declared.graph.Node.{Node as GraphNode}
 use Rattle.basis.proofs.Places.{nth_within}
 use Rattle.precedence_graph.specs.Since.{IsSince}
@@ -26,4 +26,5 @@ returns c =
     (c.in_ok-narrow.ensures ∙ here, subst (IsSince trace i) (sym (c.number_at.ensures t.0 (ap (nth c.args.since.now) here ∙ t.1))) t.2) in
     let sound = c.requires.sound in
     step_node trace s.report.now r 0 at c.number_at.result v sound.balanced
-    (unlinked trace s.report.now sound.balanced sound.faultless r 0 v (no_entry trace s.report.now sound.balanced sound.faultless r) refl refl) refl refl refl places
+    (unlinked trace s.report.now sound.balanced sound.faultless r 0 v
+    (no_entry trace s.report.now sound.balanced sound.faultless r) refl refl) refl refl refl places

@@ -21,4 +21,5 @@ overflow_add-result c =
 pub returns : goal.returns
 returns c =
     let s = c.args.self.now in
-    end_number s.trace.now s.report.now c.args.rid c.count.result c.number_of.result c.requires.sound.balanced (c.count.ensures ∙ counted s.report.now s.map.now c.args.rid c.requires.sound.map) c.number_of.ensures
+    end_number s.trace.now s.report.now c.args.rid c.count.result c.number_of.result c.requires.sound.balanced
+    (c.count.ensures ∙ counted s.report.now s.map.now c.args.rid c.requires.sound.map) c.number_of.ensures

@@ -34,5 +34,6 @@ returns-in-Answers c =
       arrival = λ r q e. absurd (apart_asked (nth s.trace.now c.args.place) r c.in-Answers.rid q at.0 e at.1);
       departure = λ r i x q e asked.
           let same = one_rid (nth s.trace.now c.args.place) c.in-Answers.rid r at.0 x at.1 e in
-          ap Departure (end_is s.trace.now s.report.now r i c.end_of.result q c.requires.sound.balanced asked (c.end_of.ensures ∙ ap (λ n. Some (close n)) same));
+          ap Departure (end_is s.trace.now s.report.now r i c.end_of.result q c.requires.sound.balanced asked
+          (c.end_of.ensures ∙ ap (λ n. Some (close n)) same));
     }

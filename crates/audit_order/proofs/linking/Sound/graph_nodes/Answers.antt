@@ -20,7 +20,8 @@ loop-name-preserved c =
     let names = c.deref-name-items.ensures.value ∙ c.requires.sound.numbering.names in
     record {
       count = omega (arith, c.in_ok-push.ensures.len, c.loop-name.invariant.count);
-      each = subst (λ xs. (k : ℕ) → k < i + 1 → (v : GraphNode) × (nth xs k ≡ Some v) × ((n : Node) → nth N k ≡ Some n → IsNodeOf s.trace.now s.report.now n v)) (sym c.in_ok-push.ensures.items)
+      each = subst (λ xs. (k : ℕ) → k < i + 1 → (v : GraphNode) × (nth xs k ≡ Some v)
+          × ((n : Node) → nth N k ≡ Some n → IsNodeOf s.trace.now s.report.now n v)) (sym c.in_ok-push.ensures.items)
           (each_more (λ k v. (n : Node) → nth N k ≡ Some n → IsNodeOf s.trace.now s.report.now n v) c.loop-name.made.items c.in_ok-graph_node.field-0 i c.loop-name.invariant.count c.loop-name.invariant.each
           (λ n at. subst (λ m. IsNodeOf s.trace.now s.report.now m c.in_ok-graph_node.field-0) (some_is (sym (nth-get_or _ c.deref-name-items.result.now i c.loop-name-test.true) ∙ ap (λ xs. nth xs i) names ∙ at)) c.in_ok-graph_node.ensures));
     }

@@ -9,5 +9,7 @@ use Rattle.audit_order.proofs.linking.Sound.graph_nodes.Given as goal
 abbrev pub invariant-loop-name : goal.invariant-loop-name
 invariant-loop-name l = record {
   count : length l.made.items ≡ l.name-index;
-  each : (i : ℕ) → i < l.name-index → (v : GraphNode) × (nth l.made.items i ≡ Some v) × ((n : Node) → nth (nodes l.self.trace.now l.self.report.now) i ≡ Some n → IsNodeOf l.self.trace.now l.self.report.now n v);
+  each : (i : ℕ) → i < l.name-index → (v : GraphNode) × (nth l.made.items i ≡ Some v)
+      × ((n : Node) → nth (nodes l.self.trace.now l.self.report.now) i ≡ Some n
+      → IsNodeOf l.self.trace.now l.self.report.now n v);
 }

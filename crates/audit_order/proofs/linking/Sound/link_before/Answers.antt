@@ -22,5 +22,6 @@ returns c =
       none = λ z. absurd (c.if-position-eq0.false z);
       some = λ j f is there.
           let same : c.args.position - 1 ≡ j = omega (arith, is) in
-          subst (λ x. IsLink (nodes c.args.self.now.trace.now c.args.self.now.report.now) c.args.rid x c.link.result) (some_is (sym at ∙ ap (nth c.args.entries.now) same ∙ there)) c.link.ensures;
+          subst (λ x. IsLink (nodes c.args.self.now.trace.now c.args.self.now.report.now) c.args.rid x c.link.result)
+          (some_is (sym at ∙ ap (nth c.args.entries.now) same ∙ there)) c.link.ensures;
     }

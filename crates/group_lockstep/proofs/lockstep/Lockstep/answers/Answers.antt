@@ -20,7 +20,8 @@ loop-member-preserved c =
     let items : c.push.new.self.items ≡ before ++ value ∷ [] = search rules in
     record {
       count = ap length items ∙ length-append before (value ∷ []) ∙ ap (λ k. k + 1) c.loop-member.invariant.count;
-      have = subst (λ vs. (i : ℕ) → i < n + 1 → answer_to t (rid_at t rids i) c.args.number (Wants (get_or ops i nothing)) ≡ Some (get_or vs i null)) (sym items)
+      have = subst (λ vs. (i : ℕ) → i < n + 1 → answer_to t (rid_at t rids i) c.args.number
+          (Wants (get_or ops i nothing)) ≡ Some (get_or vs i null)) (sym items)
           (each_more (λ i d. answer_to t (rid_at t rids i) c.args.number (Wants (get_or ops i nothing)) ≡ Some d) before value null n c.loop-member.invariant.count c.loop-member.invariant.have
           (ap (λ o. answer_to t (rid_at t rids n) c.args.number (Wants o)) (sym op) ∙ own));
     }

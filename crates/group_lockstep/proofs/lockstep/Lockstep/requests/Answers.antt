@@ -1,5 +1,5 @@
 use Rattle.std.proofs.Common.{rules, ◌≡◌, ◌∙◌, ◌<◌, ◌+◌, ℕ, get_or, length, length-append, Some, ap, sym, subst, ◌∷◌, [], ◌++◌}
-use Rattle.script_tree.specs.Traces.{request_of}
+use Rattle.period.specs.Traces.{request_of}
 use Rattle.trace_index.specs.Places.{request_place}
 use Rattle.trace_index.proofs.PlaceFacts.{request_place-within}
 use Rattle.multi_nodes.specs.Members.{nobody, request_at}

@@ -9,7 +9,9 @@ use Rattle.group_runner.proofs.evidence.Evidence.answer.Goals as goal
 pub returns-in_default : goal.returns-in_default
 returns-in_default c =
     let a = c.self.inside in
-    sym (no_entry (told_in a) c.args.rid c.args.number c.args.op.now (points_nowhere a.report.now a.map.now c.args.rid c.args.number c.self.invariant.mapped (sym c.find.ensures ∙ c.in_default.is)))
+    sym (no_entry (told_in a) c.args.rid c.args.number c.args.op.now
+    (points_nowhere a.report.now a.map.now c.args.rid c.args.number c.self.invariant.mapped
+    (sym c.find.ensures ∙ c.in_default.is)))
     ∙ ap (λ t. answer_to t c.args.rid c.args.number (Wants c.args.op.now)) c.self.view_is
 
 pub bounds-as_slice-log_number : goal.bounds-as_slice-log_number
@@ -61,7 +63,8 @@ returns c =
     let stands = read_at c.as_slice.result.now a.report.now.logs c.in-Some.log_number log c.as_slice.ensures (within a.report.now.logs a.report.now.logs c.in-Some.log_number spot.2.log refl spot.2.stands) c.index-as_slice-log_number.is in
     let there = entry_read a.report.now.logs place log spot.0 stands spot.2 in
     let holds = read_at c.as_slice-2.result.now log.entries c.in-Some.position entry c.as_slice-2.ensures (within log.entries log.entries c.in-Some.position there.0 refl there.1) c.index-as_slice-position.is in
-    own_entry (told_in a) c.args.rid c.args.number c.args.op.now place log entry spot.0 spot.1 spot.2 stands holds (sym c.is_entry_of.ensures ∙ c.if-not-is_entry_of.false) c.in_ok-answer_at.field-0
+    own_entry (told_in a) c.args.rid c.args.number c.args.op.now place log entry spot.0 spot.1 spot.2 stands holds
+    (sym c.is_entry_of.ensures ∙ c.if-not-is_entry_of.false) c.in_ok-answer_at.field-0
     (subst (λ logs. IsAnswerIn logs c.in-Some.log_number c.in-Some.position c.in_ok-answer_at.field-0) c.self.invariant.stored c.in_ok-answer_at.ensures)
     (logged_there a.start.now a.report.now.logs c.in-Some.log_number log stands)
     ∙ ap (λ t. answer_to t c.args.rid c.args.number (Wants c.args.op.now)) c.self.view_is

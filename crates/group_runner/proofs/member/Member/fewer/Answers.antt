@@ -4,7 +4,8 @@ use Rattle.group_runner.proofs.member.Member.fewer.Goals as goal
 
 pub returns-then-self-count : goal.returns-then-self-count
 returns-then-self-count c = λ program told is counted.
-    is_fewer program told c.args.rid c.args.self.now is c.args.count (c.args.self.now.done + 1) counted (lt-ltb c.args.self.now.done c.args.count c.if-self-count.true) (omega arith)
+    is_fewer program told c.args.rid c.args.self.now is c.args.count (c.args.self.now.done + 1) counted
+    (lt-ltb c.args.self.now.done c.args.count c.if-self-count.true) (omega arith)
 
 pub returns-else-self-count : goal.returns-else-self-count
 returns-else-self-count c = λ program told is counted.

@@ -1,5 +1,5 @@
 use Rattle.std.proofs.Common.{◌∙◌, ap, sym}
-use Rattle.script_tree.specs.Traces.{request_of}
+use Rattle.period.specs.Traces.{request_of}
 use Rattle.trace_index.proofs.PlaceFacts.{request_absent}
 use Rattle.group_runner.proofs.runner.Runner.member.Goals as goal
 

@@ -1,5 +1,5 @@
 use Rattle.std.proofs.Common.{◌≡◌, ◌∙◌, Some, refl, ap, sym, subst}
-use Rattle.script_tree.specs.Traces.{request_of}
+use Rattle.period.specs.Traces.{request_of}
 use Rattle.trace_index.specs.Places.{request_place, IsRequestPlace}
 use Rattle.trace_index.proofs.PlaceFacts.{request_place-within}
 use Rattle.group_runner.specs.Told.{answers_to}

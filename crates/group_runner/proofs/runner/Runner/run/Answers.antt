@@ -14,7 +14,8 @@ returns-in-Some-clause-run c = λ program of.
     subst (GoesOn program c.args.request (answers_to t r k) t r (k + 1) c.go_on.new.machine) c.in-Some.is
     (c.in_ok-step.ensures.goes program c.args.request (answers_to t r k) (c.loop-done.invariant.follows program of)) in
     record {
-      done' = ends_at program t r c.args.request k (k + 1) (c.loop-done.invariant.good program of) (omega (arith, c.loop-done-test.true, c.count-count.ensures)) (omega arith) goes.0;
+      done' = ends_at program t r c.args.request k (k + 1) (c.loop-done.invariant.good program of)
+          (omega (arith, c.loop-done-test.true, c.count-count.ensures)) (omega arith) goes.0;
       follows = goes.2;
       ending = goes.1;
     }

@@ -2,7 +2,7 @@ use Rattle.std.proofs.Common.{◌≡◌, ◌∙◌, take, length, false, Some, g
 use Rattle.std.specs.Option.{is_some}
 use Rattle.basis.specs.Lists.{nth, first_answer}
 use Rattle.basis.proofs.Places.{nth-get_or}
-use Rattle.report.specs.declared.Count.{Count}
+use Rattle.period.specs.declared.report.Count.{Count}
 use Rattle.audit_meaning.specs.Spots.{operations_in}
 use Rattle.log_checker.proofs.CountFacts.{second_is, once_more, no_second}
 use Rattle.log_checker.proofs.Firsts.{none_start}

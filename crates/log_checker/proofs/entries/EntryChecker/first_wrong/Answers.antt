@@ -2,7 +2,7 @@ use Rattle.std.proofs.Common.{◌∙◌, not, true, false, ap, sym, subst}
 use Rattle.std.proofs.Math.Facts.{to_z-of_z}
 use Rattle.object_set.specs.ObjectSets.{objects_of}
 use Rattle.audit_meaning.specs.LogFaults.{is_out_of_order}
-use Rattle.report.specs.LeftBy.{left_by}
+use Rattle.period.specs.LeftBy.{left_by}
 use Rattle.log_checker.specs.Entries.{Awaits, spot_at}
 use Rattle.log_checker.proofs.EntryFacts.{at_first, at_second, at_third, at_fourth, at_fifth, at_sixth, at_none, unasked, second_is, implausible_is}
 use Rattle.log_checker.proofs.EntryTests.{fits_both, awaits}

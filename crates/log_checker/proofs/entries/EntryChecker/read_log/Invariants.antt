@@ -3,7 +3,7 @@ use Rattle.std.specs.Option.{option_copied}
 use Rattle.basis.specs.Lists.{nth}
 use Rattle.script_tree.specs.Programs.{Program}
 use Rattle.object_set.specs.ObjectSets.{objects_of, IsSetOf}
-use Rattle.report.specs.declared.Report.{Report}
+use Rattle.period.specs.declared.report.Report.{Report}
 use Rattle.audit_meaning.specs.Lists.{last}
 use Rattle.audit_meaning.specs.Spots.{Spot}
 use Rattle.log_checker.specs.Entries.{Knows}

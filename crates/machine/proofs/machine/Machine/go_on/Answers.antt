@@ -14,7 +14,8 @@ returns-in-Ok-clause-tells c program q answers f =
     let new = c.run.new.self in
     let ops = ops_so_far program q answers m f c.requires in
     let p = progress_of new.state.account ops [] in
-    IfOk-weaker c.ended.result (λ step. ending_of step ≡ Ends (response_of p) (path_of m.page p Normal)) (λ step. ending_of step ≡ (conduct program q answers).ending)
+    IfOk-weaker c.ended.result (λ step. ending_of step ≡ Ends (response_of p) (path_of m.page p Normal))
+    (λ step. ending_of step ≡ (conduct program q answers).ending)
     (λ step e. e ∙ over_tells program q answers m f c.requires new c.in-Ok.ensures) (c.ended.ensures.ends ops [])
 
 pub returns-in-Ok-clause-follows : goal.returns-in-Ok-clause-follows
@@ -47,7 +48,8 @@ returns-in-Err-Fault-clause-tells c program q answers f =
     let j = c.in-Err-Fault.fault in
     let p = progress_of new.state.account (ops_so_far program q answers m f c.requires) [] in
     let runs = subst (λ e. Runs m.request m.code.now.functions.items m.code.now.instructions.items m.run (Err e) new) c.in-Err-Fault.field-0-is c.in-Err-Fault.ensures in
-    IfOk-weaker c.faulted.result (λ step. ending_of step ≡ Ends (fault_response j) (path_of m.page p (FaultEnd j))) (λ step. ending_of step ≡ (conduct program q answers).ending)
+    IfOk-weaker c.faulted.result (λ step. ending_of step ≡ Ends (fault_response j) (path_of m.page p (FaultEnd j)))
+    (λ step. ending_of step ≡ (conduct program q answers).ending)
     (λ step e. e ∙ fault_tells program q answers m f c.requires new j runs) (c.faulted.ensures (ops_so_far program q answers m f c.requires) [])
 
 pub returns-in-Err-Fault-clause-follows : goal.returns-in-Err-Fault-clause-follows

@@ -22,7 +22,9 @@ pub returns-in-Refused-clause-tells : goal.returns-in-Refused-clause-tells
 returns-in-Refused-clause-tells c program q answers f =
     let m = c.args.self.now in
     let t = refused_tells program q answers m f c.in-Refused.is in
-    IfOk-weaker c.faulted.result (λ step. ending_of step ≡ Ends (fault_response TooLarge) (path_of m.page (progress_of m.run.state.account t.0 []) AnswerFault)) (λ step. ending_of step ≡ (conduct program q answers).ending)
+    IfOk-weaker c.faulted.result (λ step. ending_of step
+    ≡ Ends (fault_response TooLarge) (path_of m.page (progress_of m.run.state.account t.0 []) AnswerFault))
+    (λ step. ending_of step ≡ (conduct program q answers).ending)
     (λ step e. e ∙ t.1) (c.faulted.ensures t.0 [])
 
 pub returns-in-Refused-clause-follows : goal.returns-in-Refused-clause-follows

@@ -15,5 +15,6 @@ returns-in_ok-push-clause-acts c q functions next ops more ends =
     let d : decide x p ≡ goes true r = ap (λ v. decide v p) (sym c.value.ensures) ∙ c.in_ok-decide.ensures.gives ops more ∙ ap (λ b. goes b r) c.if-branch.true in
     subst (λ o. Comes next ops more c.jump.result c.jump.new.self o)
     (sym (or_jumps q functions next m.frames c.args.place c.args.count m.state.stack s.stack c.push.new.self m.state.slots.items s.slots.items x (progress_of m.state.account ops more) p r
-    c.in_ok-operand.ensures.pops (ap (λ v. v.items) c.in_ok-operand.ensures.slots) (ap (λ a. progress_of a ops more) c.in_ok-operand.ensures.account) d c.in_ok-push.ensures))
+    c.in_ok-operand.ensures.pops (ap (λ v. v.items) c.in_ok-operand.ensures.slots)
+    (ap (λ a. progress_of a ops more) c.in_ok-operand.ensures.account) d c.in_ok-push.ensures))
     (c.jump.ensures.acts q functions next ops more ends)

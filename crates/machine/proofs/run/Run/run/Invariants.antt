@@ -10,7 +10,8 @@ abbrev pub invariant-loop-stopped : goal.invariant-loop-stopped
 invariant-loop-stopped l = record {
   reaches :
       (ops : List Op) (more : List Datum)
-      → Reaches (λ k. onward (exec l.request l.code.functions.items l.code.instructions.items k) l.fn.self ops more) (λ k. onward (exec l.request l.code.functions.items l.code.instructions.items k) l.self ops more);
+      → Reaches (λ k. onward (exec l.request l.code.functions.items l.code.instructions.items k) l.fn.self ops more)
+      (λ k. onward (exec l.request l.code.functions.items l.code.instructions.items k) l.self ops more);
 }
 
 abbrev pub decreases-loop-stopped : goal.decreases-loop-stopped

@@ -40,7 +40,9 @@ returns-in-Binary-Some-Assign-clause-gives c =
     let here : slice_get code m.place ≡ Some c.in-Some.instruction.now =
     ap (λ l. slice_get l m.place) (sym c.deref.ensures.value) ∙ slice_get_read c.deref.result.now (length c.deref.result.now) m.place c.in-Some.instruction.now refl c.in-Some.ensures.lookup.3.0 c.in-Some.ensures.lookup.1 in
     let behind : slice_get code (m.place + 1) ≡ Some both.field-0-1.now =
-    ap (λ l. slice_get l (m.place + 1)) (sym c.deref-in-Some.ensures.value) ∙ slice_get_read c.deref-in-Some.result.now (length c.deref-in-Some.result.now) (m.place + 1) both.field-0-1.now refl both.ensures.lookup.3.0 both.ensures.lookup.1 in
+    ap (λ l. slice_get l (m.place + 1)) (sym c.deref-in-Some.ensures.value)
+    ∙ slice_get_read c.deref-in-Some.result.now (length c.deref-in-Some.result.now)
+    (m.place + 1) both.field-0-1.now refl both.ensures.lookup.3.0 both.ensures.lookup.1 in
     let first : c.in-Some.instruction.now ≡ Binary both.operator = search rules in
     let second : both.field-0-1.now ≡ Assign both.slot = search rules in
     let two : m.place + 1 + 1 ≡ m.place + 2 = omega arith in (
@@ -62,7 +64,9 @@ returns-in-Push-Some-Binary-clause-gives c =
     let here : slice_get code m.place ≡ Some c.in-Some.instruction.now =
     ap (λ l. slice_get l m.place) (sym c.deref.ensures.value) ∙ slice_get_read c.deref.result.now (length c.deref.result.now) m.place c.in-Some.instruction.now refl c.in-Some.ensures.lookup.3.0 c.in-Some.ensures.lookup.1 in
     let behind : slice_get code (m.place + 1) ≡ Some both.field-0-1.now =
-    ap (λ l. slice_get l (m.place + 1)) (sym c.deref-in-Some.ensures.value) ∙ slice_get_read c.deref-in-Some.result.now (length c.deref-in-Some.result.now) (m.place + 1) both.field-0-1.now refl both.ensures.lookup.3.0 both.ensures.lookup.1 in
+    ap (λ l. slice_get l (m.place + 1)) (sym c.deref-in-Some.ensures.value)
+    ∙ slice_get_read c.deref-in-Some.result.now (length c.deref-in-Some.result.now)
+    (m.place + 1) both.field-0-1.now refl both.ensures.lookup.3.0 both.ensures.lookup.1 in
     let first : c.in-Some.instruction.now ≡ Push both.value = search rules in
     let second : both.field-0-1.now ≡ Binary both.operator = search rules in
     let two : m.place + 1 + 1 ≡ m.place + 2 = omega arith in (
@@ -84,7 +88,9 @@ returns-in-Load-Some-Binary-clause-gives c =
     let here : slice_get code m.place ≡ Some c.in-Some.instruction.now =
     ap (λ l. slice_get l m.place) (sym c.deref.ensures.value) ∙ slice_get_read c.deref.result.now (length c.deref.result.now) m.place c.in-Some.instruction.now refl c.in-Some.ensures.lookup.3.0 c.in-Some.ensures.lookup.1 in
     let behind : slice_get code (m.place + 1) ≡ Some both.field-0-1.now =
-    ap (λ l. slice_get l (m.place + 1)) (sym c.deref-in-Some.ensures.value) ∙ slice_get_read c.deref-in-Some.result.now (length c.deref-in-Some.result.now) (m.place + 1) both.field-0-1.now refl both.ensures.lookup.3.0 both.ensures.lookup.1 in
+    ap (λ l. slice_get l (m.place + 1)) (sym c.deref-in-Some.ensures.value)
+    ∙ slice_get_read c.deref-in-Some.result.now (length c.deref-in-Some.result.now)
+    (m.place + 1) both.field-0-1.now refl both.ensures.lookup.3.0 both.ensures.lookup.1 in
     let first : c.in-Some.instruction.now ≡ Load both.slot = search rules in
     let second : both.field-0-1.now ≡ Binary both.operator = search rules in
     let two : m.place + 1 + 1 ≡ m.place + 2 = omega arith in (

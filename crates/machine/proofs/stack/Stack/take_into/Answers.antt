@@ -6,7 +6,8 @@ use Rattle.machine.proofs.stack.Stack.take_into.Goals as goal
 use Rattle.machine.proofs.stack.Stack.take_into.Goals.{else-loop-alloc-test, then-loop-alloc-test+in_default}
 
 pub loop-alloc-init : goal.loop-alloc-init
-loop-alloc-init c = takes_none c.args.count c.args.self.now c.reserve.new.self.items (reverse c.self.inside.cells.items) (c.reserve.ensures.items ∙ c.clear.ensures.items) c.self.view_is
+loop-alloc-init c = takes_none c.args.count c.args.self.now c.reserve.new.self.items
+    (reverse c.self.inside.cells.items) (c.reserve.ensures.items ∙ c.clear.ensures.items) c.self.view_is
 
 pub loop-alloc-preserved : goal.loop-alloc-preserved
 loop-alloc-preserved c =
@@ -16,7 +17,9 @@ loop-alloc-preserved c =
     let cells : reverse c.loop-alloc.self-inside.cells.items ≡ c.in-Some.cell ∷ reverse left = ap reverse c.in-Some.ensures.items ∙ reverse-append left (c.in-Some.cell ∷ []) in
     let value : c.in_ok-into_value.field-0 ≡ c.in-Some.cell = c.in_ok-into_value.ensures ∙ c.in_ok-into_operand.ensures in
     subst (λ l. IsTaking c.args.count all l (reverse left)) (sym (c.in_ok-push.ensures.items ∙ ap (λ v. taken ++ v ∷ []) value))
-    (takes_one c.args.count all taken (reverse left) c.in-Some.cell (omega (arith, c.loop-alloc-test.true, c.len-in-loop-alloc.ensures, c.loop-alloc.values.ok.0)) (subst (IsTaking c.args.count all taken) cells c.loop-alloc.invariant))
+    (takes_one c.args.count all taken (reverse left) c.in-Some.cell
+    (omega (arith, c.loop-alloc-test.true, c.len-in-loop-alloc.ensures, c.loop-alloc.values.ok.0))
+    (subst (IsTaking c.args.count all taken) cells c.loop-alloc.invariant))
 
 pub returns-clause-values : goal.returns-clause-values
 returns-clause-values c =

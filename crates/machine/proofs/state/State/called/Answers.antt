@@ -17,4 +17,6 @@ returns-in-Operation-clause-does c call answers then' ops more =
     let p = progress_of c.args.self.now.account ops more in
     let r = progress_of c.charge.new.self ops more in
     let e : (spend >> call_made call) p ≡ issue op r = ap (λ o. after o (λ u. call_made call)) (c.in_ok-charge.ensures.gives ops more) ∙ calls_issue call op r came in
-    subst (λ o. Leaves then' ops more c.issue.result c.issue.new.self o) (sym (ap (λ o. after o (λ d. then' (d ∷ c.args.self.now.stack) c.args.self.now.slots.items)) e)) (c.issue.ensures.does then' ops more)
+    subst (λ o. Leaves then' ops more c.issue.result c.issue.new.self o)
+    (sym (ap (λ o. after o (λ d. then' (d ∷ c.args.self.now.stack) c.args.self.now.slots.items)) e))
+    (c.issue.ensures.does then' ops more)

@@ -20,9 +20,12 @@ returns-in_err-print_value-clause-does c q functions next fs pc ops more =
     let w = err_from_is_err_and c.from_residual-in_err-print_value.result c.from_residual-in_err-print_value.ensures.1 in
     rw (w.1, w.2) (subst (λ o. Leaves (next fs (pc + 1)) ops more (Err e) there o)
     (sym (echo_prints q functions next fs pc m.stack s.stack m.slots.items s.slots.items x c.value.result.now (progress_of m.account ops more) p r
-    c.in_ok-operand.ensures.pops (ap (λ v. v.items) c.in_ok-operand.ensures.slots) (ap (λ a. progress_of a ops more) c.in_ok-operand.ensures.account) c.value.ensures (c.in_ok-charge.ensures.gives ops more)))
+    c.in_ok-operand.ensures.pops (ap (λ v. v.items) c.in_ok-operand.ensures.slots)
+    (ap (λ a. progress_of a ops more) c.in_ok-operand.ensures.account) c.value.ensures
+    (c.in_ok-charge.ensures.gives ops more)))
     (stops_leaves (next fs (pc + 1)) ops more there e (after printing (λ u. next fs (pc + 1) s.stack s.slots.items))
-    (stops_first e (progress_of c.print_value.new.self ops more) printing (λ u. next fs (pc + 1) s.stack s.slots.items) (c.in_err-print_value.ensures.gives ops more))))
+    (stops_first e (progress_of c.print_value.new.self ops more) printing
+    (λ u. next fs (pc + 1) s.stack s.slots.items) (c.in_err-print_value.ensures.gives ops more))))
 
 pub returns-clause-does : goal.returns-clause-does
 returns-clause-does c q functions next fs pc ops more =
@@ -32,5 +35,7 @@ returns-clause-does c q functions next fs pc ops more =
     let p = progress_of s.account ops more in
     let r = progress_of c.charge.new.self ops more in
     echo_prints q functions next fs pc m.stack s.stack m.slots.items s.slots.items x c.value.result.now (progress_of m.account ops more) p r
-    c.in_ok-operand.ensures.pops (ap (λ v. v.items) c.in_ok-operand.ensures.slots) (ap (λ a. progress_of a ops more) c.in_ok-operand.ensures.account) c.value.ensures (c.in_ok-charge.ensures.gives ops more)
+    c.in_ok-operand.ensures.pops (ap (λ v. v.items) c.in_ok-operand.ensures.slots)
+    (ap (λ a. progress_of a ops more) c.in_ok-operand.ensures.account) c.value.ensures
+    (c.in_ok-charge.ensures.gives ops more)
     ∙ ap (λ o. after o (λ u. next fs (pc + 1) s.stack s.slots.items)) (c.in_ok-print_value.ensures.gives ops more)

@@ -21,7 +21,8 @@ returns-in_err-op-clause-does c q functions next fs pc ops more =
     let rest = c.take.new.self in
     let r = progress_of c.charge.new.self ops more in
     let values : topmost (all_taken shapes) st [] ≡ ds =
-    sym (c.as_slice.ensures.value ∙ c.in_ok-values.ensures.values ∙ ap (λ n. topmost n st []) c.all_taken.ensures ∙ as_many (all_taken shapes) _ st [] c.take.ensures.fits) in
+    sym (c.as_slice.ensures.value ∙ c.in_ok-values.ensures.values ∙ ap (λ n. topmost n st []) c.all_taken.ensures
+    ∙ as_many (all_taken shapes) _ st [] c.take.ensures.fits) in
     let left : drop (all_taken shapes) st ≡ rest =
     sym (c.in_ok-values.ensures.left ∙ ap (λ n. drop n st) c.all_taken.ensures ∙ as_deep (all_taken shapes) _ st c.take.ensures.fits) in
     let step = transact_issues q functions next fs pc st rest vs ds shapes (progress_of m.account ops more) r values left (c.in_ok-charge.ensures.gives ops more) in
@@ -44,7 +45,8 @@ returns-clause-does c q functions next fs pc ops more =
     let rest = c.take.new.self in
     let r = progress_of c.charge.new.self ops more in
     let values : topmost (all_taken shapes) st [] ≡ ds =
-    sym (c.as_slice.ensures.value ∙ c.in_ok-values.ensures.values ∙ ap (λ n. topmost n st []) c.all_taken.ensures ∙ as_many (all_taken shapes) _ st [] c.take.ensures.fits) in
+    sym (c.as_slice.ensures.value ∙ c.in_ok-values.ensures.values ∙ ap (λ n. topmost n st []) c.all_taken.ensures
+    ∙ as_many (all_taken shapes) _ st [] c.take.ensures.fits) in
     let left : drop (all_taken shapes) st ≡ rest =
     sym (c.in_ok-values.ensures.left ∙ ap (λ n. drop n st) c.all_taken.ensures ∙ as_deep (all_taken shapes) _ st c.take.ensures.fits) in
     let step = transact_issues q functions next fs pc st rest vs ds shapes (progress_of m.account ops more) r values left (c.in_ok-charge.ensures.gives ops more) in

@@ -13,7 +13,10 @@ returns-in-Ok-true-clause-acts g c functions =
     let st = record old.state { stack = c.pop.new.self } in
     let mid = record old { state = record st { stack = c.pop.new.self; account = c.decide.new.self } } in
     let h = subst (λ b. AllDecide c.args.evaluations.now c.decide.new.evaluations qs node.Decide (m ∷ []) old.state.account (Ok b) c.decide.new.self) c.in-Ok-true.field-0-test c.in-Ok-true.ensures.decides in
-    decided c.args.evaluations.now c.decide.new.evaluations qs functions (instruction.Branch c.args.count) node.Decide (m ∷ []) old c.pass.new.self (branch_rest qs functions old st refl m c.in_ok-values.ensures c.args.count) (branch_is qs functions old st refl m c.in_ok-values.ensures c.args.count) true c.decide.new.self (ap (λ s. s.account) c.in_ok-pass-in-Ok-true.ensures.state) h
+    decided c.args.evaluations.now c.decide.new.evaluations qs functions (instruction.Branch c.args.count) node.Decide
+    (m ∷ []) old c.pass.new.self (branch_rest qs functions old st refl m c.in_ok-values.ensures c.args.count)
+    (branch_is qs functions old st refl m c.in_ok-values.ensures c.args.count) true c.decide.new.self
+    (ap (λ s. s.account) c.in_ok-pass-in-Ok-true.ensures.state) h
     (λ next i lt. passed_one next i mid c.pass.new.self c.in_ok-pass-in-Ok-true.ensures.frames c.in_ok-pass-in-Ok-true.ensures.state c.in_ok-pass-in-Ok-true.ensures.place)
 
 pub returns-in-Ok-false-clause-acts : goal.returns-in-Ok-false-clause-acts
@@ -24,7 +27,11 @@ returns-in-Ok-false-clause-acts g c functions =
     let st = record old.state { stack = c.pop.new.self } in
     let mid = record old { state = record st { stack = c.pop.new.self; account = c.decide.new.self } } in
     let h = subst (λ b. AllDecide c.args.evaluations.now c.decide.new.evaluations qs node.Decide (m ∷ []) old.state.account (Ok b) c.decide.new.self) c.in-Ok-false.field-0-test c.in-Ok-false.ensures.decides in
-    decided c.args.evaluations.now c.decide.new.evaluations qs functions (instruction.Branch c.args.count) node.Decide (m ∷ []) old c.pass-in-Ok-false.new.self (branch_rest qs functions old st refl m c.in_ok-values.ensures c.args.count) (branch_is qs functions old st refl m c.in_ok-values.ensures c.args.count) false c.decide.new.self (ap (λ s. s.account) c.in_ok-pass-in-Ok-false.ensures.state) h
+    decided c.args.evaluations.now c.decide.new.evaluations qs functions (instruction.Branch c.args.count) node.Decide
+    (m ∷ []) old c.pass-in-Ok-false.new.self
+    (branch_rest qs functions old st refl m c.in_ok-values.ensures c.args.count)
+    (branch_is qs functions old st refl m c.in_ok-values.ensures c.args.count) false c.decide.new.self
+    (ap (λ s. s.account) c.in_ok-pass-in-Ok-false.ensures.state) h
     (λ next i lt. passed next i mid c.pass-in-Ok-false.new.self c.args.count c.in_ok-pass-in-Ok-false.ensures.frames c.in_ok-pass-in-Ok-false.ensures.state c.in_ok-pass-in-Ok-false.ensures.place)
 
 pub returns-clause-acts : goal.returns-clause-acts
@@ -35,4 +42,7 @@ returns-clause-acts g c functions =
     let st = record old.state { stack = c.pop.new.self } in
     let new = record old { state = record st { account = c.decide.new.self } } in
     let h = c.in-Err.ensures.decides in
-    decide_halts c.args.evaluations.now c.decide.new.evaluations qs functions (instruction.Branch c.args.count) node.Decide (m ∷ []) old new (branch_rest qs functions old st refl m c.in_ok-values.ensures c.args.count) (branch_is qs functions old st refl m c.in_ok-values.ensures c.args.count) c.in-Err.apart h
+    decide_halts c.args.evaluations.now c.decide.new.evaluations qs functions
+    (instruction.Branch c.args.count) node.Decide (m ∷ []) old new
+    (branch_rest qs functions old st refl m c.in_ok-values.ensures c.args.count)
+    (branch_is qs functions old st refl m c.in_ok-values.ensures c.args.count) c.in-Err.apart h

@@ -25,5 +25,7 @@ returns-in-Err-clause-acts g c =
     let ms = c.in_ok-values.values.items in
     let mid = record old { state = record old.state { stack = c.take.new.self; account = c.value.new.self } } in
     let h = subst (λ xs. ValuesDo c.args.evaluations.now c.value.new.evaluations qs node.Call xs old.state.account (Err c.in-Err.apart) c.value.new.self) c.as_slice.ensures.value c.in-Err.ensures.does in
-    value_halts c.args.evaluations.now c.value.new.evaluations qs functions (instruction.Call c.args.function c.args.count) node.Call ms old mid (λ next i d. entered_at functions c.args.function ms next i mid)
+    value_halts c.args.evaluations.now c.value.new.evaluations qs functions
+    (instruction.Call c.args.function c.args.count) node.Call ms old mid
+    (λ next i d. entered_at functions c.args.function ms next i mid)
     (call_is qs functions c.args.function c.args.count ms old mid refl refl refl c.in_ok-values.ensures.values c.in_ok-values.ensures.left) c.in-Err.apart h

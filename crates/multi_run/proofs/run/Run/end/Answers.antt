@@ -13,6 +13,7 @@ returns-clause-acts c n qs functions =
       refl,
       λ i lt u next.
           (λ z. back_to next (frames_at i c.args.self.now.frames.items) (sym c.null.ensures z) (progress_at c.args.self.now.state.account cs i u))
-          ∙ (λ z. back_to next (frames_at i c.args.self.now.frames.items) (member_value (sym c.all.ensures z) i) (progress_at c.args.self.now.state.account cs i u))
+          ∙ (λ z. back_to next (frames_at i c.args.self.now.frames.items) (member_value (sym c.all.ensures z) i)
+          (progress_at c.args.self.now.state.account cs i u))
           ∙ (λ z. back.goes' next i z (progress_at (sym back.account z) cs i u)),
     )

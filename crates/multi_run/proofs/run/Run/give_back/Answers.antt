@@ -13,7 +13,9 @@ returns-in-Ok-clause-acts g c functions =
     let m = c.in_ok-operand.operand in
     let st = record old.state { stack = c.pop.new.self } in
     let back = c.in_ok-back-in-Ok.ensures.back in
-    value_goes c.args.evaluations.now c.value.new.evaluations qs functions instruction.Return node.Pass (m ∷ []) old c.back.new.self (λ next i. back_to next (frames_at i old.frames.items)) (return_is qs functions old st refl m c.in_ok-operand.ensures)
+    value_goes c.args.evaluations.now c.value.new.evaluations qs functions instruction.Return node.Pass
+    (m ∷ []) old c.back.new.self (λ next i. back_to next (frames_at i old.frames.items))
+    (return_is qs functions old st refl m c.in_ok-operand.ensures)
     c.in-Ok.values c.value.new.self c.in_ok-back-in-Ok.field-0 back.account back.goes' c.in-Ok.ensures.does
 
 pub returns-clause-acts : goal.returns-clause-acts
@@ -23,5 +25,7 @@ returns-clause-acts g c functions =
     let m = c.in_ok-operand.operand in
     let st = record old.state { stack = c.pop.new.self } in
     let new = record old { state = record st { account = c.value.new.self } } in
-    value_halts c.args.evaluations.now c.value.new.evaluations qs functions instruction.Return node.Pass (m ∷ []) old new (λ next i. back_to next (frames_at i old.frames.items)) (return_is qs functions old st refl m c.in_ok-operand.ensures)
+    value_halts c.args.evaluations.now c.value.new.evaluations qs functions instruction.Return node.Pass
+    (m ∷ []) old new (λ next i. back_to next (frames_at i old.frames.items))
+    (return_is qs functions old st refl m c.in_ok-operand.ensures)
     c.in-Err.apart c.in-Err.ensures.does

@@ -16,7 +16,10 @@ returns-in_ok-pass-in-Ok-true-clause-acts g c functions =
     let mid = record old { state = record st { stack = c.push.new.self; account = c.decide.new.self } } in
     let one : c.from_ref-operands.result.now ≡ m ∷ [] = c.from_ref-operands.ensures.value in
     let h = subst (λ ms. AllDecide c.args.evaluations.now c.decide.new.evaluations qs node.Decide ms old.state.account (Ok true) c.decide.new.self) one (subst (λ b. AllDecide c.args.evaluations.now c.decide.new.evaluations qs node.Decide c.from_ref-operands.result.now old.state.account (Ok b) c.decide.new.self) c.in-Ok-true.field-0-test c.in-Ok-true.ensures.decides) in
-    decided c.args.evaluations.now c.decide.new.evaluations qs functions (instruction.Or c.args.count) node.Decide (m ∷ []) old c.pass.new.self (or_rest qs functions old st refl m c.in_ok-values.ensures c.args.count) (or_is qs functions old st refl m c.in_ok-values.ensures c.args.count) true c.decide.new.self (ap (λ s. s.account) c.in_ok-pass-in-Ok-true.ensures.state) h
+    decided c.args.evaluations.now c.decide.new.evaluations qs functions (instruction.Or c.args.count) node.Decide
+    (m ∷ []) old c.pass.new.self (or_rest qs functions old st refl m c.in_ok-values.ensures c.args.count)
+    (or_is qs functions old st refl m c.in_ok-values.ensures c.args.count) true c.decide.new.self
+    (ap (λ s. s.account) c.in_ok-pass-in-Ok-true.ensures.state) h
     (λ next i lt. (λ z. next (frames_at i old.frames.items) (old.place + 1 + c.args.count) (sym (c.in_ok-push-in-Ok-true.ensures i) z) (members_at i st.slots.items)) ∙ passed next i mid c.pass.new.self c.args.count c.in_ok-pass-in-Ok-true.ensures.frames c.in_ok-pass-in-Ok-true.ensures.state c.in_ok-pass-in-Ok-true.ensures.place)
 
 pub returns-in_ok-pass-in-Ok-false-clause-acts : goal.returns-in_ok-pass-in-Ok-false-clause-acts
@@ -28,7 +31,11 @@ returns-in_ok-pass-in-Ok-false-clause-acts g c functions =
     let mid = record old { state = record st { stack = c.pop.new.self; account = c.decide.new.self } } in
     let one : c.from_ref-operands.result.now ≡ m ∷ [] = c.from_ref-operands.ensures.value in
     let h = subst (λ ms. AllDecide c.args.evaluations.now c.decide.new.evaluations qs node.Decide ms old.state.account (Ok false) c.decide.new.self) one (subst (λ b. AllDecide c.args.evaluations.now c.decide.new.evaluations qs node.Decide c.from_ref-operands.result.now old.state.account (Ok b) c.decide.new.self) c.in-Ok-false.field-0-test c.in-Ok-false.ensures.decides) in
-    decided c.args.evaluations.now c.decide.new.evaluations qs functions (instruction.Or c.args.count) node.Decide (m ∷ []) old c.pass-in-Ok-false.new.self (or_rest qs functions old st refl m c.in_ok-values.ensures c.args.count) (or_is qs functions old st refl m c.in_ok-values.ensures c.args.count) false c.decide.new.self (ap (λ s. s.account) c.in_ok-pass-in-Ok-false.ensures.state) h
+    decided c.args.evaluations.now c.decide.new.evaluations qs functions (instruction.Or c.args.count) node.Decide
+    (m ∷ []) old c.pass-in-Ok-false.new.self
+    (or_rest qs functions old st refl m c.in_ok-values.ensures c.args.count)
+    (or_is qs functions old st refl m c.in_ok-values.ensures c.args.count) false c.decide.new.self
+    (ap (λ s. s.account) c.in_ok-pass-in-Ok-false.ensures.state) h
     (λ next i lt. passed_one next i mid c.pass-in-Ok-false.new.self c.in_ok-pass-in-Ok-false.ensures.frames c.in_ok-pass-in-Ok-false.ensures.state c.in_ok-pass-in-Ok-false.ensures.place)
 
 pub returns-in-Err-clause-acts : goal.returns-in-Err-clause-acts
@@ -40,4 +47,7 @@ returns-in-Err-clause-acts g c functions =
     let new = record old { state = record st { account = c.decide.new.self } } in
     let one : c.from_ref-operands.result.now ≡ m ∷ [] = c.from_ref-operands.ensures.value in
     let h = subst (λ ms. AllDecide c.args.evaluations.now c.decide.new.evaluations qs node.Decide ms old.state.account (Err c.in-Err.apart) c.decide.new.self) one c.in-Err.ensures.decides in
-    decide_halts c.args.evaluations.now c.decide.new.evaluations qs functions (instruction.Or c.args.count) node.Decide (m ∷ []) old new (or_rest qs functions old st refl m c.in_ok-values.ensures c.args.count) (or_is qs functions old st refl m c.in_ok-values.ensures c.args.count) c.in-Err.apart h
+    decide_halts c.args.evaluations.now c.decide.new.evaluations qs functions
+    (instruction.Or c.args.count) node.Decide (m ∷ []) old new
+    (or_rest qs functions old st refl m c.in_ok-values.ensures c.args.count)
+    (or_is qs functions old st refl m c.in_ok-values.ensures c.args.count) c.in-Err.apart h

@@ -21,7 +21,9 @@ returns-in_ok-push_loop-in-Ok-true-clause-acts g c functions =
     let place : c.saturating_sub-self.result ≡ old.place - n = search rules in
     let more : c.in-Some.more ≡ k + 1 = search rules in
     let members : length c.requests.result.now ≡ length qs = ap length c.requests.ensures.requests in
-    decided c.args.evaluations.now c.decide.new.evaluations qs functions (instruction.Turn n) (node.Member k) (m ∷ []) old new (turn_rest qs functions old st refl m k n) (turn_is qs functions old st refl m k c.in_ok-lists.ensures n) true c.decide.new.self refl h
+    decided c.args.evaluations.now c.decide.new.evaluations qs functions (instruction.Turn n) (node.Member k)
+    (m ∷ []) old new (turn_rest qs functions old st refl m k n)
+    (turn_is qs functions old st refl m k c.in_ok-lists.ensures n) true c.decide.new.self refl h
     (λ next i lt. next_turn next i n k c.in-Some.more old st new m x refl place more c.in_ok-push_loop-in-Ok-true.ensures c.in_ok-push-in-Ok-true.ensures.items (c.in_ok-members-in-Ok-true.ensures i (subst (λ j. i < j) (sym members) lt)))
 
 pub returns-in_ok-pass-in-Ok-false-clause-acts : goal.returns-in_ok-pass-in-Ok-false-clause-acts
@@ -37,7 +39,10 @@ returns-in_ok-pass-in-Ok-false-clause-acts g c functions =
     let h = subst (λ ms. AllDecide c.args.evaluations.now c.decide.new.evaluations qs (node.Member k) ms old.state.account (Ok false) c.decide.new.self) one
     (subst (λ b. AllDecide c.args.evaluations.now c.decide.new.evaluations qs (node.Member k) c.from_ref-operands.result.now old.state.account (Ok b) c.decide.new.self) c.in-Ok-false.field-0-test c.in-Ok-false.ensures.decides) in
     let pass = c.in_ok-pass-in-Ok-false.ensures in
-    decided c.args.evaluations.now c.decide.new.evaluations qs functions (instruction.Turn n) (node.Member k) (m ∷ []) old c.pass.new.self (turn_rest qs functions old st refl m k n) (turn_is qs functions old st refl m k c.in_ok-lists.ensures n) false c.decide.new.self (ap (λ s. s.account) pass.state) h
+    decided c.args.evaluations.now c.decide.new.evaluations qs functions (instruction.Turn n) (node.Member k)
+    (m ∷ []) old c.pass.new.self (turn_rest qs functions old st refl m k n)
+    (turn_is qs functions old st refl m k c.in_ok-lists.ensures n) false c.decide.new.self
+    (ap (λ s. s.account) pass.state) h
     (λ next i lt. passed_one next i mid c.pass.new.self pass.frames pass.state pass.place)
 
 pub returns-in-Err-clause-acts : goal.returns-in-Err-clause-acts
@@ -51,4 +56,6 @@ returns-in-Err-clause-acts g c functions =
     let new = record old { state = record st { account = c.decide.new.self } } in
     let one : c.from_ref-operands.result.now ≡ m ∷ [] = c.from_ref-operands.ensures.value in
     let h = subst (λ ms. AllDecide c.args.evaluations.now c.decide.new.evaluations qs (node.Member k) ms old.state.account (Err c.in-Err.apart) c.decide.new.self) one c.in-Err.ensures.decides in
-    decide_halts c.args.evaluations.now c.decide.new.evaluations qs functions (instruction.Turn n) (node.Member k) (m ∷ []) old new (turn_rest qs functions old st refl m k n) (turn_is qs functions old st refl m k c.in_ok-lists.ensures n) c.in-Err.apart h
+    decide_halts c.args.evaluations.now c.decide.new.evaluations qs functions (instruction.Turn n) (node.Member k)
+    (m ∷ []) old new (turn_rest qs functions old st refl m k n)
+    (turn_is qs functions old st refl m k c.in_ok-lists.ensures n) c.in-Err.apart h

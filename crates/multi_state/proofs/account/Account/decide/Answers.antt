@@ -8,9 +8,14 @@ use Rattle.multi_state.proofs.account.Account.decide.Goals as goal
 
 pub returns-in-Ok-clause-decides : goal.returns-in-Ok-clause-decides
 returns-in-Ok-clause-decides g c =
-    and_then (length c.args.group.now) c.args.evaluations.now c.value.new.evaluations (node_at c.args.group.now c.args.primitive c.args.operands.now) (λ i o. after o noted) (λ i m. give (member_value m i)) (λ i. give) c.in-Ok.decided
+    and_then (length c.args.group.now) c.args.evaluations.now c.value.new.evaluations
+    (node_at c.args.group.now c.args.primitive c.args.operands.now) (λ i o. after o noted)
+    (λ i m. give (member_value m i)) (λ i. give) c.in-Ok.decided
     c.args.self.now c.value.new.self c.note.new.self c.note.result c.in-Ok.ensures.does (c.note.ensures.notes (length c.args.group.now))
 
 pub returns-in-Err-clause-decides : goal.returns-in-Err-clause-decides
 returns-in-Err-clause-decides g c =
-    halted (length c.args.group.now) c.args.evaluations.now c.value.new.evaluations (node_at c.args.group.now c.args.primitive c.args.operands.now) (λ i o. after o noted) (λ i m. give (member_value m i)) (λ i. give) c.in-Err.apart c.args.self.now c.value.new.self (λ i f p. refl) c.in-Err.ensures.does
+    halted (length c.args.group.now) c.args.evaluations.now c.value.new.evaluations
+    (node_at c.args.group.now c.args.primitive c.args.operands.now) (λ i o. after o noted)
+    (λ i m. give (member_value m i)) (λ i. give) c.in-Err.apart c.args.self.now c.value.new.self
+    (λ i f p. refl) c.in-Err.ensures.does

@@ -19,8 +19,12 @@ returns-then-not-charge-clause-does g c cs =
     let qs = c.args.group.now in
     let cost = cost_at qs c.args.primitive c.args.operands.now in
     let charged : c.charge.result ≡ false = search rules in
-    let spends = subst (λ b. Spends c.args.self.now c.charge.new.self b) charged c.charge.ensures in
-    (cs, refl, λ i lt u. on_stopped (cost i) (answer_at qs c.args.primitive c.args.operands.now i) (fault OutOfSteps) (progress_at c.args.self.now cs i u) (progress_at c.charge.new.self cs i u) (spends cost cs i u))
+    let spends = subst (λ b. Spends c.args.self.now c.charge.new.self b) charged c.charge.ensures in (
+      cs,
+      refl,
+      λ i lt u. on_stopped (cost i) (answer_at qs c.args.primitive c.args.operands.now i) (fault OutOfSteps)
+          (progress_at c.args.self.now cs i u) (progress_at c.charge.new.self cs i u) (spends cost cs i u),
+    )
 
 pub returns-in-Ok-Values-clause-does : goal.returns-in-Ok-Values-clause-does
 returns-in-Ok-Values-clause-does g c cs =
@@ -31,8 +35,13 @@ returns-in-Ok-Values-clause-does g c cs =
     let charged : c.charge.result ≡ true = search rules in
     let spends = subst (λ b. Spends c.args.self.now mid b) charged c.charge.ensures in
     let have = subst (λ t. Have (length qs) answers (Ok t)) c.in-Ok-Values.field-0-is c.in-Ok-Values.ensures.have in
-    let counts = subst (λ t. Counts c.args.evaluations.now c.evaluate_members.new.evaluations (price (length qs) cost) (length qs) (Ok t)) c.in-Ok-Values.field-0-is c.in-Ok-Values.ensures.counts in
-    (cost ∷ cs, omega (arith, counts), λ i lt u. on_charged (cost i) (answers i) (Ok (Value (member_value c.in-Ok-Values.values i))) (progress_at c.args.self.now cs i u) (progress_at mid (cost ∷ cs) i u) (spends.1 cost cs i u) (have i lt))
+    let counts = subst (λ t. Counts c.args.evaluations.now c.evaluate_members.new.evaluations (price (length qs) cost) (length qs) (Ok t)) c.in-Ok-Values.field-0-is c.in-Ok-Values.ensures.counts in (
+      cost ∷ cs,
+      omega (arith, counts),
+      λ i lt u. on_charged (cost i) (answers i)
+          (Ok (Value (member_value c.in-Ok-Values.values i))) (progress_at c.args.self.now cs i u)
+          (progress_at mid (cost ∷ cs) i u) (spends.1 cost cs i u) (have i lt),
+    )
 
 pub returns-in-Ok-Operations-clause-does : goal.returns-in-Ok-Operations-clause-does
 returns-in-Ok-Operations-clause-does g c cs =
@@ -51,7 +60,8 @@ returns-in-Ok-Operations-clause-does g c cs =
       omega (arith, counts, prices),
       λ i lt u.
           let op = get_or c.in-Ok-Operations.ops i nothing in
-          on_charged (cost i) (answers i) (Ok (Operation op)) (progress_at c.args.self.now cs i u) (progress_at mid (cost ∷ cs) i u) (spends.1 cost cs i u) (have.1 i lt)
+          on_charged (cost i) (answers i) (Ok (Operation op)) (progress_at c.args.self.now cs i u)
+          (progress_at mid (cost ∷ cs) i u) (spends.1 cost cs i u) (have.1 i lt)
           ∙ issues mid cost cs i u op free,
     )
 

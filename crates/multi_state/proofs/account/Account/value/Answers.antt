@@ -11,4 +11,7 @@ returns-in-Ok-Values-clause-does g c =
 
 pub returns-in-Err-clause-does : goal.returns-in-Err-clause-does
 returns-in-Err-clause-does g c =
-    halted (length c.args.group.now) c.args.evaluations.now c.node.new.evaluations (node_at c.args.group.now c.args.primitive c.args.operands.now) (λ i o. o) given_at (λ i m. give (member_value m i)) c.in-Err.apart c.args.self.now c.node.new.self (λ i f p. refl) c.in-Err.ensures.does
+    halted (length c.args.group.now) c.args.evaluations.now c.node.new.evaluations
+    (node_at c.args.group.now c.args.primitive c.args.operands.now) (λ i o. o) given_at
+    (λ i m. give (member_value m i)) c.in-Err.apart c.args.self.now c.node.new.self
+    (λ i f p. refl) c.in-Err.ensures.does

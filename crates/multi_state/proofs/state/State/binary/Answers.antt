@@ -15,4 +15,6 @@ returns-clause-does g c =
     let x = c.in_ok-left.left in
     let y = c.in_ok-right.right in
     let both : (i : ℕ) → stack_at i old.stack ≡ member_value y i ∷ member_value x i ∷ stack_at i mid.stack = λ i. c.in_ok-right.ensures i ∙ ap (λ st. member_value y i ∷ st) (c.in_ok-left.ensures i) in
-    puts_does c.args.evaluations.now c.put.new.evaluations qs (instruction.Binary c.args.operator) (node.Binary c.args.operator) (x ∷ y ∷ []) old mid c.put.new.self c.put.result refl (λ a i r. binary_is qs old mid refl x y both a i r c.args.operator) c.put.ensures.puts
+    puts_does c.args.evaluations.now c.put.new.evaluations qs (instruction.Binary c.args.operator)
+    (node.Binary c.args.operator) (x ∷ y ∷ []) old mid c.put.new.self c.put.result refl
+    (λ a i r. binary_is qs old mid refl x y both a i r c.args.operator) c.put.ensures.puts

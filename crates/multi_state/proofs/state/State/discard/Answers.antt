@@ -17,7 +17,9 @@ returns-in-Ok-clause-does g c =
     let then' = c.value.new.self in
     let new = then' in
     let x = c.in-Ok._values in
-    value_does c.args.evaluations.now c.value.new.evaluations qs instruction.Discard node.Pass (m ∷ []) old new (λ a i d. onward a (stack_at i mid.stack) (members_at i mid.slots.items)) (λ a i r. discard_is qs old mid refl m c.in_ok-operand.ensures a i r) x then'.account refl
+    value_does c.args.evaluations.now c.value.new.evaluations qs instruction.Discard node.Pass (m ∷ []) old new
+    (λ a i d. onward a (stack_at i mid.stack) (members_at i mid.slots.items))
+    (λ a i r. discard_is qs old mid refl m c.in_ok-operand.ensures a i r) x then'.account refl
     (λ a i. λ z. onward a (stack_at i (sym c.in-Ok.ensures.stack z)) (members_at i (sym c.in-Ok.ensures.slots z).items)) c.in-Ok.ensures.does
 
 pub returns-clause-does : goal.returns-clause-does
@@ -26,4 +28,6 @@ returns-clause-does g c =
     let old = c.args.self.now in
     let m = c.in_ok-operand.operand in
     let mid = record old { stack = c.pop.new.self } in
-    value_halts c.args.evaluations.now c.value.new.evaluations qs instruction.Discard node.Pass (m ∷ []) old c.value.new.self (λ a i d. onward a (stack_at i mid.stack) (members_at i mid.slots.items)) (λ a i r. discard_is qs old mid refl m c.in_ok-operand.ensures a i r) c.in-Err.apart c.in-Err.ensures.does
+    value_halts c.args.evaluations.now c.value.new.evaluations qs instruction.Discard node.Pass
+    (m ∷ []) old c.value.new.self (λ a i d. onward a (stack_at i mid.stack) (members_at i mid.slots.items))
+    (λ a i r. discard_is qs old mid refl m c.in_ok-operand.ensures a i r) c.in-Err.apart c.in-Err.ensures.does

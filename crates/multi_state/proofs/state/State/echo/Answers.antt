@@ -24,9 +24,14 @@ returns-in-Ok-print-clause-does g c =
     let x = c.in-Ok.texts in
     let n : length c.requests.result.now ≡ length qs = ap length c.requests.ensures.requests in
     let done = subst (λ k. AllPrint k x then'.account (Ok tt) c.print.new.self) n c.in-Ok-print.ensures.prints in
-    value_then c.args.evaluations.now c.value.new.evaluations qs instruction.Echo node.Echo (m ∷ []) old new (λ a i d r. after (print_text d r) (λ _. onward a (stack_at i mid.stack) (members_at i mid.slots.items)))
-    (λ a i r. echo_is qs old mid refl m c.in_ok-operand.ensures a i r ∙ after_both (node_at qs node.Echo (m ∷ []) i r) print_text (λ _. onward a (stack_at i mid.stack) (members_at i mid.slots.items))) x then'.account print_text
-    (λ a i z r. after (print_text (member_value x i) r) (λ _. onward a (stack_at i (sym c.in-Ok.ensures.stack z)) (members_at i (sym c.in-Ok.ensures.slots z).items))) c.in-Ok.ensures.does done
+    value_then c.args.evaluations.now c.value.new.evaluations qs instruction.Echo node.Echo (m ∷ []) old new
+    (λ a i d r. after (print_text d r) (λ _. onward a (stack_at i mid.stack) (members_at i mid.slots.items)))
+    (λ a i r. echo_is qs old mid refl m c.in_ok-operand.ensures a i r
+    ∙ after_both (node_at qs node.Echo (m ∷ []) i r) print_text
+    (λ _. onward a (stack_at i mid.stack) (members_at i mid.slots.items))) x then'.account print_text
+    (λ a i z r. after (print_text (member_value x i) r)
+    (λ _. onward a (stack_at i (sym c.in-Ok.ensures.stack z))
+    (members_at i (sym c.in-Ok.ensures.slots z).items))) c.in-Ok.ensures.does done
 
 pub returns-in-Ok-clause-does : goal.returns-in-Ok-clause-does
 returns-in-Ok-clause-does g c =
@@ -40,9 +45,14 @@ returns-in-Ok-clause-does g c =
     let n : length c.requests.result.now ≡ length qs = ap length c.requests.ensures.requests in
     let e = c.in-Err-print.apart in
     let done = subst (λ k. AllPrint k x then'.account (Err e) c.print.new.self) n c.in-Err-print.ensures.prints in
-    value_stops c.args.evaluations.now c.value.new.evaluations qs instruction.Echo node.Echo (m ∷ []) old new (λ a i d r. after (print_text d r) (λ _. onward a (stack_at i mid.stack) (members_at i mid.slots.items)))
-    (λ a i r. echo_is qs old mid refl m c.in_ok-operand.ensures a i r ∙ after_both (node_at qs node.Echo (m ∷ []) i r) print_text (λ _. onward a (stack_at i mid.stack) (members_at i mid.slots.items))) x then'.account print_text e
-    (λ a i z r. after (print_text (member_value x i) r) (λ _. onward a (stack_at i (sym c.in-Ok.ensures.stack z)) (members_at i (sym c.in-Ok.ensures.slots z).items))) c.in-Ok.ensures.does done
+    value_stops c.args.evaluations.now c.value.new.evaluations qs instruction.Echo node.Echo (m ∷ []) old new
+    (λ a i d r. after (print_text d r) (λ _. onward a (stack_at i mid.stack) (members_at i mid.slots.items)))
+    (λ a i r. echo_is qs old mid refl m c.in_ok-operand.ensures a i r
+    ∙ after_both (node_at qs node.Echo (m ∷ []) i r) print_text
+    (λ _. onward a (stack_at i mid.stack) (members_at i mid.slots.items))) x then'.account print_text e
+    (λ a i z r. after (print_text (member_value x i) r)
+    (λ _. onward a (stack_at i (sym c.in-Ok.ensures.stack z))
+    (members_at i (sym c.in-Ok.ensures.slots z).items))) c.in-Ok.ensures.does done
 
 pub returns-clause-does : goal.returns-clause-does
 returns-clause-does g c =
@@ -50,5 +60,9 @@ returns-clause-does g c =
     let old = c.args.self.now in
     let m = c.in_ok-operand.operand in
     let mid = record old { stack = c.pop.new.self } in
-    value_halts c.args.evaluations.now c.value.new.evaluations qs instruction.Echo node.Echo (m ∷ []) old c.value.new.self (λ a i d r. after (print_text d r) (λ _. onward a (stack_at i mid.stack) (members_at i mid.slots.items)))
-    (λ a i r. echo_is qs old mid refl m c.in_ok-operand.ensures a i r ∙ after_both (node_at qs node.Echo (m ∷ []) i r) print_text (λ _. onward a (stack_at i mid.stack) (members_at i mid.slots.items))) c.in-Err.apart c.in-Err.ensures.does
+    value_halts c.args.evaluations.now c.value.new.evaluations qs instruction.Echo node.Echo
+    (m ∷ []) old c.value.new.self (λ a i d r. after (print_text d r)
+    (λ _. onward a (stack_at i mid.stack) (members_at i mid.slots.items)))
+    (λ a i r. echo_is qs old mid refl m c.in_ok-operand.ensures a i r
+    ∙ after_both (node_at qs node.Echo (m ∷ []) i r) print_text
+    (λ _. onward a (stack_at i mid.stack) (members_at i mid.slots.items))) c.in-Err.apart c.in-Err.ensures.does

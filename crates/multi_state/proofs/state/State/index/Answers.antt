@@ -15,4 +15,6 @@ returns-clause-does g c =
     let x = c.in_ok-whole.whole in
     let y = c.in_ok-place.place in
     let both : (i : ℕ) → stack_at i old.stack ≡ member_value y i ∷ member_value x i ∷ stack_at i mid.stack = λ i. c.in_ok-place.ensures i ∙ ap (λ st. member_value y i ∷ st) (c.in_ok-whole.ensures i) in
-    puts_does c.args.evaluations.now c.put.new.evaluations qs instruction.Index node.Index (x ∷ y ∷ []) old mid c.put.new.self c.put.result refl (λ a i r. index_is qs old mid refl x y both a i r) c.put.ensures.puts
+    puts_does c.args.evaluations.now c.put.new.evaluations qs instruction.Index node.Index
+    (x ∷ y ∷ []) old mid c.put.new.self c.put.result refl
+    (λ a i r. index_is qs old mid refl x y both a i r) c.put.ensures.puts

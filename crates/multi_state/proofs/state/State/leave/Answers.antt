@@ -12,4 +12,6 @@ returns-clause-does c n qs =
     let old = c.args.self.now in
     let new = record old { slots = c.truncate.new.self } in
     let left : c.truncate.new.self.items ≡ take c.args.count old.slots.items = search rules in
-    freely n qs (instruction.Leave c.args.count) old new refl (λ a i z. onward a (stack_at i old.stack) ((sym (slots_left i c.args.count old.slots.items) ∙ ap (members_at i) (sym left)) z))
+    freely n qs (instruction.Leave c.args.count) old new refl
+    (λ a i z. onward a (stack_at i old.stack)
+    ((sym (slots_left i c.args.count old.slots.items) ∙ ap (members_at i) (sym left)) z))

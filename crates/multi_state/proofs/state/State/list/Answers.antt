@@ -15,4 +15,6 @@ returns-clause-does g c =
     let mid = record old { stack = c.take.new.self } in
     let ms = c.as_slice.result.now in
     let values : (i : ℕ) → topmost c.args.count (stack_at i old.stack) [] ≡ members_at i ms = λ i. c.in_ok-values.ensures.values i ∙ ap (members_at i) (sym c.as_slice.ensures.value) in
-    puts_does c.args.evaluations.now c.put.new.evaluations qs (instruction.List c.args.count) node.List ms old mid c.put.new.self c.put.result refl (λ a i r. list_is qs old mid refl c.args.count ms values c.in_ok-values.ensures.left a i r) c.put.ensures.puts
+    puts_does c.args.evaluations.now c.put.new.evaluations qs
+    (instruction.List c.args.count) node.List ms old mid c.put.new.self c.put.result refl
+    (λ a i r. list_is qs old mid refl c.args.count ms values c.in_ok-values.ensures.left a i r) c.put.ensures.puts

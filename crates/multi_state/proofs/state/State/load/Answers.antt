@@ -14,4 +14,6 @@ returns-clause-does g c =
     let old = c.args.self.now in
     let mid = old in
     let is : c.in_ok-values.values ≡ slice_index_or mid.slots.items c.args.slot (all null) = search rules in
-    puts_does c.args.evaluations.now c.put.new.evaluations qs (instruction.Load c.args.slot) node.Pass (c.in_ok-values.values ∷ []) old mid c.put.new.self c.put.result refl (load_is qs old mid refl c.args.slot c.in_ok-values.values is (λ i. refl)) c.put.ensures.puts
+    puts_does c.args.evaluations.now c.put.new.evaluations qs (instruction.Load c.args.slot) node.Pass
+    (c.in_ok-values.values ∷ []) old mid c.put.new.self c.put.result refl
+    (load_is qs old mid refl c.args.slot c.in_ok-values.values is (λ i. refl)) c.put.ensures.puts

@@ -10,4 +10,6 @@ returns-clause-does g c =
     let qs = c.args.group.now in
     let old = c.args.self.now in
     let mid = old in
-    puts_does c.args.evaluations.now c.put.new.evaluations qs (instruction.Push c.args.value.now) (node.Literal c.args.value) [] old mid c.put.new.self c.put.result refl (push_is qs old mid refl c.args.value (λ i. refl)) c.put.ensures.puts
+    puts_does c.args.evaluations.now c.put.new.evaluations qs (instruction.Push c.args.value.now)
+    (node.Literal c.args.value) [] old mid c.put.new.self c.put.result refl
+    (push_is qs old mid refl c.args.value (λ i. refl)) c.put.ensures.puts

@@ -18,7 +18,7 @@ returns-in-Get-clause-done c = λ choice.
 pub returns-in_ok-put-in-Put-clause-done : goal.returns-in_ok-put-in-Put-clause-done
 returns-in_ok-put-in-Put-clause-done c = λ choice.
     let key : c.in_ok-clone-in-Put.field-0 ≡ c.in-Put.key = c.in_ok-clone-in-Put.ensures.cases in
-    let value : c.in_ok-clone-in-Put-2.field-0 ≡ c.in-Put.value = c.in_ok-clone-in-Put-2.ensures.cases in
+    let value : c.in_ok-copy_within_limits-in-Put.field-0 ≡ c.in-Put.value = c.in_ok-copy_within_limits-in-Put.ensures.copy in
     let changes : ChangesIn c.args.name.now c.in-Put.key (Some c.in-Put.value) c.self.inside.stores c.put.new.self =
     rw (sym key, sym value) c.in_ok-put-in-Put.ensures.put in
     rw (c.in-Put.is, c.null.ensures)

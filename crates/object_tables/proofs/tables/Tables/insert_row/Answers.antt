@@ -17,5 +17,5 @@ invariant_of-self c =
           f c.self.invariant.fit c.insert_in.ensures.done c.insert_in.ensures.err;
       filed = c.insert_in.ensures.filed;
       whole = c.insert_in.ensures.whole c.self.invariant.whole;
-      journal = c.self.invariant.journal;
+      undo_log = c.self.invariant.undo_log;
     }

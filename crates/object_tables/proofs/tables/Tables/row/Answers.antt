@@ -19,6 +19,7 @@ returns c =
     let l : c.args.table < length ts =
     tables_each c.self.inside.widths.items c.args.self.now.widths ts c.args.table _
     (ap (λ (s : TableSet). s.widths) c.self.view_is) c.self.invariant.fit c.requires refl in
-    c.row.ensures.is ∙ row_there k c.index.result.now c.row.ensures.ordered (filed_here ts c.args.table c.index.result.now c.self.invariant.filed l c.index.ensures)
+    c.row.ensures.is ∙ row_there k c.index.result.now c.row.ensures.ordered
+    (filed_here ts c.args.table c.index.result.now c.self.invariant.filed l c.index.ensures)
     ∙ ap (λ es. row_at k (rows_of es)) (there ts c.args.table c.index.result.now l c.index.ensures) ∙ ap (row_at k) (sym (rows_there ts c.args.table))
     ∙ ap (λ (s : TableSet). row_at k (table_at c.args.table s.tables)) c.self.view_is

@@ -15,7 +15,7 @@ invariant_of-result c =
       fit = rw (all, rows_empty) (fit_empty c.args.widths.items);
       filed = rw all (filed_empty c.args.widths.items);
       whole = rw all (whole_empty c.args.widths.items);
-      journal = search rules;
+      undo_log = search rules;
     }
 
 pub returns-clause-rows : goal.returns-clause-rows

@@ -8,7 +8,7 @@ use Rattle.script_tree.specs.SyntaxLists.{statements_of}
 use Rattle.script_meaning.specs.Evaluate.{on, back}
 use Rattle.script_meaning.specs.Run.{goes, after}
 use Rattle.page_walker.specs.Flows.{flow_of}
-use Rattle.script_index.specs.Found.{function_of}
+use Rattle.script_check.specs.FoundByName.{function_of}
 use Rattle.page_walker.specs.Frames.{value_at, call_at}
 use Rattle.page_walker.specs.Gives.{GivesValue}
 use Rattle.page_walker.specs.Nodes.{block_nodes}
@@ -214,4 +214,5 @@ eval_call-returns-in-Builtin t c =
     let f = c.args.self.now in
     let name = c.args.name.now in
     let same = c.in-Builtin.ensures.callee ∙ ap (λ program. callee_in program name) c.index.ensures in
-    λ at. subst (λ callee. GivesValue c.call_builtin.result c.call_builtin.new.run (call_at f c.args.variables.now callee c.args.operands.now p)) same c.call_builtin.ensures
+    λ at. subst (λ callee. GivesValue c.call_builtin.result c.call_builtin.new.run
+    (call_at f c.args.variables.now callee c.args.operands.now p)) same c.call_builtin.ensures

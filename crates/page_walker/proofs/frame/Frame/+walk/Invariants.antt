@@ -8,7 +8,7 @@ use Rattle.script_tree.specs.SyntaxLists.{statements_of}
 use Rattle.script_meaning.specs.Evaluate.{exec}
 use Rattle.script_meaning.specs.Run.{Progress, after, give}
 use Rattle.script_values.specs.Queries.{unchecked_of}
-use Rattle.script_index.specs.Found.{table_of}
+use Rattle.script_check.specs.FoundByName.{table_of}
 use Rattle.page_walker.specs.Frames.{later_in, nodes_left, value_at, values_at, all_operands_at, tests_at, changes_at, block_at, turns_at}
 use Rattle.page_walker.specs.Nodes.{statement_nodes, else_nodes, block_nodes}
 use Rattle.page_walker.specs.Rows.{climbs}
@@ -112,7 +112,8 @@ abbrev pub decreases-exec_do : goal.decreases-exec_do
 decreases-exec_do l = nodes_left l.self.now.walker.now.program l.self.now.fuel + (4 * expression_weight l.e.now + 6)
 
 abbrev pub decreases-exec_if : goal.decreases-exec_if
-decreases-exec_if l = nodes_left l.self.now.walker.now.program l.self.now.fuel + (4 * (expression_weight l.e.now + block_nodes l.body.now + else_nodes (else_of l.other.now)) + 6)
+decreases-exec_if l = nodes_left l.self.now.walker.now.program l.self.now.fuel + (4 *
+    (expression_weight l.e.now + block_nodes l.body.now + else_nodes (else_of l.other.now)) + 6)
 
 abbrev pub decreases-exec_else : goal.decreases-exec_else
 decreases-exec_else l = nodes_left l.self.now.walker.now.program l.self.now.fuel + (4 * else_nodes (else_of l.other.now))
@@ -150,22 +151,28 @@ decreases-eval_first-loop-outer l = length l.waiting.items
 -- the values so far, and those of the operands that are left, are all values
 abbrev pub invariant-eval_all-loop-operand : goal.invariant-eval_all-loop-operand
 invariant-eval_all-loop-operand l = record {
-  told : after (values_at l.self l.variables (drop l.operand-index l.operands) l.run) (λ ds. give (l.values.items ++ ds)) ≡ values_at l.self l.variables l.operands l.initial.run;
+  told : after (values_at l.self l.variables (drop l.operand-index l.operands) l.run)
+      (λ ds. give (l.values.items ++ ds)) ≡ values_at l.self l.variables l.operands l.initial.run;
 }
 
 abbrev pub invariant-all_operands-loop-query : goal.invariant-all_operands-loop-query
 invariant-all_operands-loop-query l = record {
-  told : after (all_operands_at l.self l.variables (drop l.query-index l.query-items) l.run) (λ us. give (map unchecked_of l.all.items ++ us)) ≡ all_operands_at l.self l.variables l.query-items l.initial.run;
+  told : after (all_operands_at l.self l.variables (drop l.query-index l.query-items) l.run)
+      (λ us. give (map unchecked_of l.all.items ++ us))
+      ≡ all_operands_at l.self l.variables l.query-items l.initial.run;
 }
 
 abbrev pub invariant-tests-loop-condition : goal.invariant-tests-loop-condition
 invariant-tests-loop-condition l = record {
-  told : after (tests_at l.self l.variables (table_of l.table) (drop l.condition-index l.condition-items) l.run) (λ ts. give (l.tests ++ ts)) ≡ tests_at l.self l.variables (table_of l.table) l.condition-items l.initial.run;
+  told : after (tests_at l.self l.variables (table_of l.table) (drop l.condition-index l.condition-items) l.run)
+      (λ ts. give (l.tests ++ ts)) ≡ tests_at l.self l.variables (table_of l.table) l.condition-items l.initial.run;
 }
 
 abbrev pub invariant-changes-loop-assignment : goal.invariant-changes-loop-assignment
 invariant-changes-loop-assignment l = record {
-  told : after (changes_at l.self l.variables (table_of l.table) (drop l.assignment-index l.assignment-items) l.run) (λ cs. give (l.changes ++ cs)) ≡ changes_at l.self l.variables (table_of l.table) l.assignment-items l.initial.run;
+  told : after (changes_at l.self l.variables (table_of l.table) (drop l.assignment-index l.assignment-items) l.run)
+      (λ cs. give (l.changes ++ cs)) ≡ changes_at l.self l.variables
+      (table_of l.table) l.assignment-items l.initial.run;
 }
 
 -- what is left of the block does the rest
@@ -177,7 +184,8 @@ invariant-block-loop-statement l = record {
 -- what is left of the turns does the rest
 abbrev pub invariant-turns-loop-value : goal.invariant-turns-loop-value
 invariant-turns-loop-value l = record {
-  told : (whole : Datum) → turns_at l.self whole l.x.text l.body l.variables (drop l.value-index l.values) l.run ≡ turns_at l.self whole l.x.text l.body l.initial.variables l.values l.initial.run;
+  told : (whole : Datum) → turns_at l.self whole l.x.text l.body l.variables (drop l.value-index l.values) l.run
+      ≡ turns_at l.self whole l.x.text l.body l.initial.variables l.values l.initial.run;
 }
 
 -- the loop from here on does the rest, in one of the runs that are left
@@ -186,7 +194,10 @@ invariant-exec_while-loop-value l =
     let w = l.self.walker.now in
     record {
       within : l.left ≤ l.self.fuel;
-      told : (at : ℕ) → exec w (later_in w l.left) l.self.depth (while_ at l.e (statements_of l.body)) l.variables l.run ≡ exec w (later_in w l.self.fuel) l.self.depth (while_ at l.e (statements_of l.body)) l.fn.variables l.fn.run;
+      told : (at : ℕ) → exec w (later_in w l.left) l.self.depth
+          (while_ at l.e (statements_of l.body)) l.variables l.run
+          ≡ exec w (later_in w l.self.fuel) l.self.depth
+          (while_ at l.e (statements_of l.body)) l.fn.variables l.fn.run;
     }
 
 abbrev pub decreases-exec_while-loop-value : goal.decreases-exec_while-loop-value

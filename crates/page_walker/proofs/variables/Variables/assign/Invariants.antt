@@ -7,7 +7,9 @@ use Rattle.page_walker.proofs.variables.Variables.assign.Given as goal
 abbrev pub invariant-loop-place : goal.invariant-loop-place
 invariant-loop-place l = record {
   same : l.self-inside.variables.items ≡ l.fn.self;
-  left : (d : Datum) → take l.place l.self-inside.variables.items ++ assigned (drop l.place l.self-inside.variables.items) l.name d ≡ assigned l.self-inside.variables.items l.name d;
+  left : (d : Datum) → take l.place l.self-inside.variables.items
+      ++ assigned (drop l.place l.self-inside.variables.items) l.name d
+      ≡ assigned l.self-inside.variables.items l.name d;
 }
 
 abbrev pub decreases-loop-place : goal.decreases-loop-place

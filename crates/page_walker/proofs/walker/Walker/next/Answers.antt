@@ -1,7 +1,7 @@
 use Rattle.std.proofs.Common.{◌≡◌, sym, ap, ◌∙◌, Some}
 use Rattle.std.proofs.lemmas.Result.{IfOk-weaker}
 use Rattle.script_tree.specs.Declarations.{page_in}
-use Rattle.script_index.specs.Found.{page_of}
+use Rattle.script_check.specs.FoundByName.{page_of}
 use Rattle.page_walker.proofs.Endings.{page_told}
 use Rattle.page_walker.proofs.walker.Walker.next.Goals as goal
 

@@ -2,10 +2,10 @@ use Rattle.std.proofs.Common.{ℕ, ◌≡◌, ◌∙◌, ◌<◌, List, ap, sym,
 use Rattle.std.specs.declared.alloc.AllocError.{AllocError}
 use Rattle.basis.proofs.Options.{some_one}
 use Rattle.script_tree.specs.Programs.{Program}
-use Rattle.script_tree.specs.Traces.{request_of}
+use Rattle.period.specs.Traces.{request_of}
 use Rattle.script_tree.specs.Datum.{Datum}
 use Rattle.script_tree.specs.declared.operation.Op.{Op}
-use Rattle.script_tree.specs.declared.trace.TraceEvent.{TraceEvent}
+use Rattle.period.specs.declared.trace.TraceEvent.{TraceEvent}
 use Rattle.script_meaning.specs.Conduct.{Wants}
 use Rattle.script_meaning.specs.Replay.{ending_of, ending_with, next_of}
 use Rattle.script_tree.specs.Objects.{plausible}
@@ -18,12 +18,13 @@ use Rattle.replayer.specs.declared.stage.Stage.{Stage}
 use Rattle.replayer.specs.declared.runner.Next.TheVariants as told
 use Rattle.replayer.specs.declared.standing.Standing.{Standing}
 use Rattle.replayer.specs.declared.standing.Standing.TheVariants.{Away, Open}
-use Rattle.object_set.proofs.Sets.{fits_set}
+use Rattle.object_set.proofs.Sets.{fits_op, fits_set}
 use Rattle.replayer.proofs.StageFacts.{shows_act, opened_more, answered_opened, opened, act_told, open_is, puts_at}
 use Rattle.replayer.proofs.stage.Stage.act.Goals as goal
 
 -- what stands at the place gets an answer
-put : (trace : List TraceEvent) (old new : List Standing) (r place : ℕ) (o : Opened) (d : Datum) → request_place trace r ≡ Some place → place < length old → standing_in trace old r ≡ Open o
+put : (trace : List TraceEvent) (old new : List Standing) (r place : ℕ) (o : Opened) (d : Datum)
+    → request_place trace r ≡ Some place → place < length old → standing_in trace old r ≡ Open o
     → PutsAnswer old place d new → Puts trace old new r (Open (with_answer o d))
 put trace old new r place o d here inside is_open puts =
     let stands : get_or old place Away ≡ Open o = ap (standing_at old) (sym here) ∙ is_open in
@@ -37,8 +38,9 @@ wanted stage place r op next here = let k = next r here in k.1 ∙ ap (λ x. Som
 
 pub apply-requires : goal.apply-requires
 apply-requires g c =
-    fits_set c.args.self.now.index.now c.args.self.now.objects c.in-Some-Wants.op.object c.in-Some-Wants.op.act c.args.self.now.set
-    (rw (c.in-Some-Wants.is, c.in-Some-Wants.field-0-is) at c.in_ok-op.ensures.fits)
+    fits_op c.args.self.now.objects c.in-Some-Wants.op
+    (fits_set c.args.self.now.index.now c.args.self.now.objects c.in-Some-Wants.op.object c.in-Some-Wants.op.act c.args.self.now.set
+    (rw (c.in-Some-Wants.is, c.in-Some-Wants.field-0-is) at c.in_ok-op.ensures.fits))
 
 -- the request that wanted the operation
 record Asks (stage : Stage) (r : ℕ) (op : Op) : Type 0 where
@@ -47,7 +49,9 @@ record Asks (stage : Stage) (r : ℕ) (op : Op) : Type 0 where
   traced : request_of stage.trace r ≡ Some opened.request
   wants : ending_of stage.index.now opened.request opened.answers ≡ Wants op
 
-asks : (stage : Stage) (r : ℕ) (op : Op) → ending_with stage.index.now (request_of stage.trace r) (answers_in (standing_of stage r)) ≡ Some (Wants op) → Asks stage r op
+asks : (stage : Stage) (r : ℕ) (op : Op)
+    → ending_with stage.index.now (request_of stage.trace r) (answers_in (standing_of stage r)) ≡ Some (Wants op)
+    → Asks stage r op
 asks stage r op h =
     let w = opened stage.index.now (request_of stage.trace r) (answers_in (standing_of stage r)) (Wants op) h in
     let s = open_is (standing_of stage r) w.1 w.3 in
@@ -56,11 +60,15 @@ asks stage r op h =
     record { opened = opened_with s.0 w.1; stands = s.1; traced = traced; wants = ap (λ q. ending_of stage.index.now q w.1) (sym same) ∙ w.4 }
 
 -- all are the trace's, whether the answer was put or not
-put_opened : (program : Program) (trace : List TraceEvent) (old new : List Standing) (r place : ℕ) (o : Opened) (d : Datum) (op : Op) (result : Result (Unit {0}) AllocError)
-    → AreOpened program trace old → request_place trace r ≡ Some place → place < length old → standing_in trace old r ≡ Open o → request_of trace r ≡ Some o.request → ending_of program o.request o.answers ≡ Wants op
+put_opened : (program : Program) (trace : List TraceEvent) (old new : List Standing) (r place : ℕ) (o : Opened)
+    (d : Datum) (op : Op) (result : Result (Unit {0}) AllocError)
+    → AreOpened program trace old → request_place trace r ≡ Some place → place < length old
+    → standing_in trace old r ≡ Open o → request_of trace r ≡ Some o.request
+    → ending_of program o.request o.answers ≡ Wants op
     → OnOk result (PutsAnswer old place d new) → OnErr result (new ≡ old) → AreOpened program trace new
 put_opened program trace old new r place o d op (Ok done) before here inside is_open known wants puts refused =
-    opened_more program trace old new r (Open (with_answer o d)) before (put trace old new r place o d here inside is_open puts) (answered_opened program trace r o d op known wants)
+    opened_more program trace old new r (Open (with_answer o d)) before
+    (put trace old new r place o d here inside is_open puts) (answered_opened program trace r o d op known wants)
 put_opened program trace old new r place o d op (Err e) before here inside is_open known wants puts refused =
     let P : List Standing → Type 0 = λ ss. AreOpened program trace ss in
     subst P (sym refused) before

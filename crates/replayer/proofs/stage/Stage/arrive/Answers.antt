@@ -2,8 +2,8 @@ use Rattle.std.proofs.Common.{◌≡◌, ◌∙◌, ◌<◌, ap, sym, refl, subs
 use Rattle.std.proofs.Math.ListN.{set}
 use Rattle.std.proofs.lemmas.Bool.{lt-ltb}
 use Rattle.script_tree.specs.Requests.{Request}
-use Rattle.script_tree.specs.declared.schedule.Moment.{Moment}
-use Rattle.script_tree.specs.declared.trace.TraceEvent.{TraceEvent}
+use Rattle.period.specs.declared.schedule.Moment.{Moment}
+use Rattle.period.specs.declared.trace.TraceEvent.{TraceEvent}
 use Rattle.replayer.specs.Differences.{has_arrived, is_too_early, arrival_fault}
 use Rattle.replayer.specs.Opened.{Opened, opened_with}
 use Rattle.trace_index.specs.Places.{request_place}
@@ -15,8 +15,10 @@ use Rattle.replayer.specs.declared.standing.Standing.TheVariants.{Away, Open}
 use Rattle.replayer.proofs.StageFacts.{stands_in, early_where, not_below, shows_arrival, puts_at, opened_more, begun_opened}
 use Rattle.replayer.proofs.stage.Stage.arrive.Goals as goal
 
-fault_is : (trace : List TraceEvent) (past : List Moment) (r : ℕ) (b : Bool) → has_arrived past r ≡ false → is_too_early trace past r ≡ b → arrival_fault trace past r ≡ cond b (Some TooEarly) None
-fault_is trace past r b a e = ap (λ x. cond x (Some SecondArrival) (cond (is_too_early trace past r) (Some TooEarly) None)) a ∙ ap (λ x. cond x (Some TooEarly) None) e
+fault_is : (trace : List TraceEvent) (past : List Moment) (r : ℕ) (b : Bool) → has_arrived past r ≡ false
+    → is_too_early trace past r ≡ b → arrival_fault trace past r ≡ cond b (Some TooEarly) None
+fault_is trace past r b a e = ap (λ x. cond x (Some SecondArrival)
+    (cond (is_too_early trace past r) (Some TooEarly) None)) a ∙ ap (λ x. cond x (Some TooEarly) None) e
 
 pub returns-then-self-place-clause-step : goal.returns-then-self-place-clause-step
 returns-then-self-place-clause-step c = λ r here past scene h.
@@ -32,7 +34,8 @@ returns-then-self-place-clause-step c = λ r here past scene h.
     }
 
 -- what is put at the place of a request is that of the trace
-arrives : (trace : List TraceEvent) (ss : List Standing) (r place : ℕ) (q : Request) (o : Opened) → request_place trace r ≡ Some place → place < length ss → o ≡ opened_with q []
+arrives : (trace : List TraceEvent) (ss : List Standing) (r place : ℕ) (q : Request) (o : Opened)
+    → request_place trace r ≡ Some place → place < length ss → o ≡ opened_with q []
     → Puts trace ss (set ss place (Open o)) r (Open (opened_with q []))
 arrives trace ss r place q o here inside is =
     subst (λ x. Puts trace ss (set ss place (Open o)) r (Open x)) is (puts_at trace ss r place (Open o) here inside)

@@ -1,5 +1,5 @@
 use Rattle.std.proofs.Common.{◌≡◌, ◌∙◌, ap, sym, Some, None}
-use Rattle.script_tree.specs.declared.schedule.Moment.TheVariants.{Arrive, Act, Depart}
+use Rattle.period.specs.declared.schedule.Moment.TheVariants.{Arrive, Act, Depart}
 use Rattle.script_meaning.specs.Explains.{rid_of}
 use Rattle.trace_index.specs.Places.{request_place}
 use Rattle.trace_index.proofs.ResultFacts.{IfOk-map}
@@ -17,7 +17,9 @@ returns-in-Arrive-clause-step g c =
     let stage = c.args.self.now in
     let r = c.in-Arrive.field-0 in
     let here : request_place stage.trace r ≡ Some c.in-Some.place = ap (request_place stage.trace) (sym (c.rid_of.ensures ∙ ap rid_of c.in-Arrive.is)) ∙ sym c.place.ensures.place ∙ c.in-Some.is in
-    rw c.in-Arrive.is (IfOk-map c.arrive.result (λ reason step. known_step stage c.arrive.new.self (Arrive r) c.in-Some.place reason here (step r here)) c.arrive.ensures.step)
+    rw c.in-Arrive.is (IfOk-map c.arrive.result
+    (λ reason step. known_step stage c.arrive.new.self (Arrive r) c.in-Some.place reason here
+    (step r here)) c.arrive.ensures.step)
 
 pub returns-in-Act-clause-step : goal.returns-in-Act-clause-step
 returns-in-Act-clause-step g c =
@@ -31,4 +33,6 @@ returns-in-Depart-clause-step g c =
     let stage = c.args.self.now in
     let r = c.in-Depart.field-0 in
     let here : request_place stage.trace r ≡ Some c.in-Some.place = ap (request_place stage.trace) (sym (c.rid_of.ensures ∙ ap rid_of c.in-Depart.is)) ∙ sym c.place.ensures.place ∙ c.in-Some.is in
-    rw c.in-Depart.is (IfOk-map c.depart.result (λ reason step. known_step stage c.depart.new.self (Depart r) c.in-Some.place reason here (step r here)) c.depart.ensures.step)
+    rw c.in-Depart.is (IfOk-map c.depart.result
+    (λ reason step. known_step stage c.depart.new.self (Depart r) c.in-Some.place reason here
+    (step r here)) c.depart.ensures.step)

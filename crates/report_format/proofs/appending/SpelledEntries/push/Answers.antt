@@ -1,6 +1,6 @@
 use Rattle.std.proofs.Common.{◌≡◌, ◌∙◌, ℕ, ◌+◌, List, [], ◌∷◌, ◌++◌, length, ap, sym, arith}
 use Rattle.std.proofs.lemmas.List.{append-nil, length-append}
-use Rattle.report.specs.declared.LogEntry.{LogEntry}
+use Rattle.period.specs.declared.report.LogEntry.{LogEntry}
 use Rattle.report_format.specs.Parts.{all_spelled}
 use Rattle.report_format.specs.Reports.{entry_field}
 use Rattle.report_format.specs.ReportLaws.{entry_one}
@@ -9,7 +9,9 @@ use Rattle.report_format.specs.Spelled.{Spelled, spelled}
 use Rattle.report_format.proofs.appending.SpelledEntries.push.Goals as goal
 
 -- one entry more
-spelled_more : (entries : List LogEntry) (entry : LogEntry) (old new : Spelled) → old ≡ spelled entries → new.count ≡ old.count + 1 → new.bytes ≡ old.bytes ++ entry_field.spelling entry → new ≡ spelled (entries ++ entry ∷ [])
+spelled_more : (entries : List LogEntry) (entry : LogEntry) (old new : Spelled) → old ≡ spelled entries
+    → new.count ≡ old.count + 1 → new.bytes ≡ old.bytes ++ entry_field.spelling entry
+    → new ≡ spelled (entries ++ entry ∷ [])
 spelled_more entries entry old new was count bytes =
     let last : List ℕ = entry_field.spelling entry in
     let so_far : old.bytes ≡ all_spelled entry_field entries = ap (λ (s : Spelled). s.bytes) was in

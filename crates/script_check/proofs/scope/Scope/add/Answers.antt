@@ -19,4 +19,5 @@ returns-in-Ok-clause-declared c =
     let xs = c.self.inside.declared.items in
     let name = c.args.name in
     let new : has (newest_first [] xs) name.now ≡ false = sym (c.self.invariant.known name.now) ∙ sym c.contains.ensures ∙ c.if-contains.false in
-    ap (newest_first []) c.in_ok-push.ensures.items ∙ names_push [] xs name ∙ sym (with_new (newest_first [] xs) name.now new) ∙ ap (λ ys. with_name ys name.now) c.self.view_is
+    ap (newest_first []) c.in_ok-push.ensures.items ∙ names_push [] xs name
+    ∙ sym (with_new (newest_first [] xs) name.now new) ∙ ap (λ ys. with_name ys name.now) c.self.view_is

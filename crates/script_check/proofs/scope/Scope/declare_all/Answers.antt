@@ -16,7 +16,8 @@ loop-name-preserved c =
       declared = ap (λ s. with_names s rest) c.in_ok-declare.ensures.declared ∙ ap (with_names old) (sym here) ∙ c.loop-name.invariant.declared;
       faults =
           ap (λ s. lower c.declare.new.found.least (declared_in_turn s rest)) c.in_ok-declare.ensures.declared
-          ∙ then_rest c.loop-name.found.least c.declare.new.found.least (declared_where old x) (declared_in_turn (with_names old (x ∷ [])) rest) c.in_ok-declare.ensures.faults
+          ∙ then_rest c.loop-name.found.least c.declare.new.found.least (declared_where old x)
+          (declared_in_turn (with_names old (x ∷ [])) rest) c.in_ok-declare.ensures.faults
           ∙ ap (λ ys. lower c.loop-name.found.least (declared_in_turn old ys)) (sym here)
           ∙ c.loop-name.invariant.faults;
     }
@@ -24,5 +25,6 @@ loop-name-preserved c =
 pub returns-clause-faults : goal.returns-clause-faults
 returns-clause-faults c =
     sym (lower_none c.loop-name.found.least)
-    ∙ ap (λ ys. lower c.loop-name.found.least (declared_in_turn c.loop-name.self ys)) (sym (none_left c.args.names.now c.loop-name.name-index c.loop-name-test.false))
+    ∙ ap (λ ys. lower c.loop-name.found.least (declared_in_turn c.loop-name.self ys))
+    (sym (none_left c.args.names.now c.loop-name.name-index c.loop-name-test.false))
     ∙ c.loop-name.invariant.faults

@@ -54,7 +54,9 @@ pub arguments-returns-else-takes_store : goal.arguments-returns-else-takes_store
 arguments-returns-else-takes_store t c =
     let es = expressions_of c.args.operands.now in
     OnOk-map c.expressions-else-takes_store.result
-    (λ e. e ∙ ap (λ l. c.args.code.now.items ++ l) (all_arguments c.args.self.now c.args.scope.now es ∙ ap (λ b. arguments_code c.args.self.now c.args.scope.now b es) (sym c.if-takes_store.false)))
+    (λ e. e ∙ ap (λ l. c.args.code.now.items ++ l)
+    (all_arguments c.args.self.now c.args.scope.now es
+    ∙ ap (λ b. arguments_code c.args.self.now c.args.scope.now b es) (sym c.if-takes_store.false)))
     c.expressions-else-takes_store.ensures
 
 pub call-returns : goal.call-returns

@@ -46,13 +46,21 @@ decreases-assignments l = 4 * assignment_list_weight (map assignment_of l.assign
 
 -- the code so far, and that of what is left
 abbrev pub invariant-expressions-loop-operand : goal.invariant-expressions-loop-operand
-invariant-expressions-loop-operand l = l.code.items ++ expressions_code l.self l.scope (expressions_of (drop l.operand-index l.operands)) ≡ l.initial.code.items ++ expressions_code l.self l.scope (expressions_of l.operands)
+invariant-expressions-loop-operand l = l.code.items
+    ++ expressions_code l.self l.scope (expressions_of (drop l.operand-index l.operands)) ≡ l.initial.code.items
+    ++ expressions_code l.self l.scope (expressions_of l.operands)
 
 abbrev pub invariant-queries-loop-query : goal.invariant-queries-loop-query
-invariant-queries-loop-query l = l.code.items ++ queries_code l.self l.scope (queries_of (drop l.query-index l.queries)) ≡ l.initial.code.items ++ queries_code l.self l.scope (queries_of l.queries)
+invariant-queries-loop-query l = l.code.items
+    ++ queries_code l.self l.scope (queries_of (drop l.query-index l.queries)) ≡ l.initial.code.items
+    ++ queries_code l.self l.scope (queries_of l.queries)
 
 abbrev pub invariant-conditions-loop-condition : goal.invariant-conditions-loop-condition
-invariant-conditions-loop-condition l = l.code.items ++ conditions_code l.self l.scope (conditions_of (map condition_of (drop l.condition-index l.condition-items))) ≡ l.initial.code.items ++ conditions_code l.self l.scope (conditions_of (map condition_of l.condition-items))
+invariant-conditions-loop-condition l = l.code.items
+    ++ conditions_code l.self l.scope (conditions_of (map condition_of (drop l.condition-index l.condition-items)))
+    ≡ l.initial.code.items ++ conditions_code l.self l.scope (conditions_of (map condition_of l.condition-items))
 
 abbrev pub invariant-assignments-loop-assignment : goal.invariant-assignments-loop-assignment
-invariant-assignments-loop-assignment l = l.code.items ++ assignments_code l.self l.scope (assignments_of (map assignment_of (drop l.assignment-index l.assignment-items))) ≡ l.initial.code.items ++ assignments_code l.self l.scope (assignments_of (map assignment_of l.assignment-items))
+invariant-assignments-loop-assignment l = l.code.items ++ assignments_code l.self l.scope
+    (assignments_of (map assignment_of (drop l.assignment-index l.assignment-items))) ≡ l.initial.code.items
+    ++ assignments_code l.self l.scope (assignments_of (map assignment_of l.assignment-items))

@@ -20,7 +20,9 @@ first-returns-clause-code t c =
 
 pub second-returns-clause-code : goal.second-returns-clause-code
 second-returns-clause-code t c =
-    jump_written instruction.Jump c.args.code.now.items (scoped_else c.args.self.now c.args.scope.now (else_of c.args.other.now)) c.put.new.code.items c.other.new.code.items _ c.len-jump.result c.len.result
+    jump_written instruction.Jump c.args.code.now.items
+    (scoped_else c.args.self.now c.args.scope.now
+    (else_of c.args.other.now)) c.put.new.code.items c.other.new.code.items _ c.len-jump.result c.len.result
     (c.len-jump.ensures ∙ c.args.code.now.ok.0) c.in_ok-put.ensures c.in_ok-other.ensures.code (c.len.ensures ∙ c.other.new.code.ok.0)
 
 pub body-returns-clause-code : goal.body-returns-clause-code

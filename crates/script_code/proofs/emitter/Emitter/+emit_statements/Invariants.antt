@@ -44,6 +44,7 @@ decreases-block l = 8 * statement_list_weight l.body.now
 -- the code so far, and that of what is left; and the names from before the block are still in scope
 abbrev pub invariant-block-loop-s : goal.invariant-block-loop-s
 invariant-block-loop-s l = record {
-  code : l.code.items ++ block_code l.self l.scope (statements_of (drop l.s-index l.s-items)) ≡ l.initial.code.items ++ block_code l.self l.initial.scope (statements_of l.s-items);
+  code : l.code.items ++ block_code l.self l.scope (statements_of (drop l.s-index l.s-items)) ≡ l.initial.code.items
+      ++ block_code l.self l.initial.scope (statements_of l.s-items);
   scope : take (length l.initial.scope) l.scope ≡ l.initial.scope;
 }

@@ -13,5 +13,6 @@ loop-rest-preserved c =
     let l = length-drop n s in
     record {
       place_fits = rw rest_slice (omega (arith, w.1, l));
-      told = c.loop-rest.invariant.told ∙ blank_on s at c.args.depth n c.in-Blank.ensures.is w.0 w.1 ∙ ap (λ r. scan r (at + n) c.args.depth 0) (sym (rest_slice n s));
+      told = c.loop-rest.invariant.told ∙ blank_on s at c.args.depth n c.in-Blank.ensures.is w.0 w.1
+          ∙ ap (λ r. scan r (at + n) c.args.depth 0) (sym (rest_slice n s));
     }

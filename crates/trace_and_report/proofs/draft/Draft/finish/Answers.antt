@@ -8,7 +8,8 @@ pub returns : goal.returns
 returns c = λ names of.
     let is = whole names c.args.self c.in_ok-report.report.items c.write_counts.new.out.items c.write_logs.new.out.items c.write_groups.new.out.items of
     c.in_ok-report.ensures
-    (subst (λ rs. AreAdded rs c.in_ok-report.report.items c.write_counts.new.out.items) (λ i. count_records (c.deref-2.ensures.value i) (c.deref.ensures.value i)) c.in_ok-write_counts.ensures)
+    (subst (λ rs. AreAdded rs c.in_ok-report.report.items c.write_counts.new.out.items)
+    (λ i. count_records (c.deref-2.ensures.value i) (c.deref.ensures.value i)) c.in_ok-write_counts.ensures)
     (c.in_ok-write_logs.ensures (logs_of names) of.logs (logs_spelled names of.spellings)) c.in_ok-write_groups.ensures in
     record {
       trace = of.trace;

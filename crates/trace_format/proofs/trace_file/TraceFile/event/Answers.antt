@@ -1,5 +1,5 @@
 use Rattle.std.proofs.Common.{Err, length, ap, subst, arith}
-use Rattle.script_tree.specs.declared.trace.TraceEvent.{TraceEvent}
+use Rattle.period.specs.declared.trace.TraceEvent.{TraceEvent}
 use Rattle.wire.specs.Spellings.{TakesPart}
 use Rattle.trace_format.specs.Events.{event_field}
 use Rattle.trace_format.proofs.FileEvents.{as_many, some_event, event_there}

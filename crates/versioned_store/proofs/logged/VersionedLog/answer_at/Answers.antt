@@ -1,6 +1,6 @@
 use Rattle.std.proofs.Common.{◌∙◌, List, IfOk, sym, ap, subst}
 use Rattle.script_tree.specs.Objects.{one, many, reading, none}
-use Rattle.report.specs.declared.LogEntry.{LogEntry}
+use Rattle.period.specs.declared.report.LogEntry.{LogEntry}
 use Rattle.versioned_cells.specs.Versions.{as_of, held_at}
 use Rattle.versioned_store.specs.Logged.{Logged, FitsLog}
 use Rattle.versioned_store.specs.Tables.{TellsSelects, IsTablesAnswer, IsToldSelects}
@@ -15,7 +15,8 @@ answer_at-requires-clause-told c =
     let told = subst (λ (o : Logged). Tells o c.self.inside.versions) c.self.view_is c.self.invariant.tells in
     let fits = subst (λ (o : Logged). FitsLog o.start o.log) c.self.view_is c.self.invariant.fits in
     let same = c.as_slice.ensures ∙ ap (λ (o : Logged). o.log.entries) c.self.view_is in
-    subst (λ (es : List LogEntry). IsToldSelects es c.in-Tables.tables) (sym same) (all_told o c.self.inside.versions c.in-Tables.tables c.in-Tables.is fits told)
+    subst (λ (es : List LogEntry). IsToldSelects es c.in-Tables.tables) (sym same)
+    (all_told o c.self.inside.versions c.in-Tables.tables c.in-Tables.is fits told)
 
 pub returns-in-Register : goal.returns-in-Register
 returns-in-Register c =
@@ -55,4 +56,5 @@ pub returns-in-Dice : goal.returns-in-Dice
 returns-in-Dice c =
     let o = c.args.self.now in
     let told = subst (λ (o : Logged). Tells o c.self.inside.versions) c.self.view_is c.self.invariant.tells in
-    answer_by o c.args.position c.entry-entry.result.now none c.number_rolled.result c.entry-entry.ensures (cell_dice o c.args.position c.self.inside.versions c.in-Dice.is told) c.number_rolled.ensures
+    answer_by o c.args.position c.entry-entry.result.now none c.number_rolled.result c.entry-entry.ensures
+    (cell_dice o c.args.position c.self.inside.versions c.in-Dice.is told) c.number_rolled.ensures

@@ -12,7 +12,8 @@ returns-in-Some c =
     let told = subst (λ (o : Logged). Tells o c.self.inside.versions) c.self.view_is c.self.invariant.tells in
     let of = sym c.as_tables.ensures ∙ ap option_copied c.in-Some.is in
     let selects = (is_of_tables o c.self.inside.versions c.in-Some.tables.now of told).1 in
-    subst (IsSource o.log.entries c.args.position) (sym (c.source.ensures 0)) (selects.sources.each c.args.position 0 (omega (arith, c.requires, selects.sources.count)))
+    subst (IsSource o.log.entries c.args.position) (sym (c.source.ensures 0))
+    (selects.sources.each c.args.position 0 (omega (arith, c.requires, selects.sources.count)))
 
 pub returns-in-None : goal.returns-in-None
 returns-in-None c =

@@ -1,5 +1,5 @@
 use Rattle.std.proofs.Common.{refl}
-use Rattle.script_tree.specs.declared.trace.TraceEvent.TheVariants.{Asked}
+use Rattle.period.specs.declared.trace.TraceEvent.TheVariants.{Asked}
 use Rattle.history.specs.Names.{came}
 use Rattle.trace_and_report.proofs.Drafts.{on_ok}
 use Rattle.whole_history.proofs.TraceDrafts.{event_more}

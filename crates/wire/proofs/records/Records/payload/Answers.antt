@@ -27,4 +27,5 @@ returns c =
     let at : c.index.result.now ≡ get_or places i 0 = c.index.ensures ∙ get_or_default places i c.index.result.now 0 within in
     let here : IsFieldAt bytes_field bytes (get_or places i 0) payload c.in-Ok.field-0-1 =
     subst (λ a. IsFieldAt bytes_field bytes a payload c.in-Ok.field-0-1) at (subst (λ b. IsFieldAt bytes_field b c.index.result.now payload c.in-Ok.field-0-1) c.deref.ensures.value c.in-Ok.ensures.field) in
-    ap (λ ps. nth ps i) (sym c.self.view_is) ∙ payload_there bytes places i within ∙ ap (λ p. Some p) (payload_is bytes (get_or places i 0) payload c.in-Ok.field-0-1 here)
+    ap (λ ps. nth ps i) (sym c.self.view_is) ∙ payload_there bytes places i within
+    ∙ ap (λ p. Some p) (payload_is bytes (get_or places i 0) payload c.in-Ok.field-0-1 here)

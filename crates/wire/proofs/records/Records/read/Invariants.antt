@@ -1,9 +1,16 @@
-use Rattle.std.proofs.Common.{length, ◌-◌}
-use Rattle.wire.proofs.RecordSteps.{AreKept}
+use Rattle.std.proofs.Common.{◌≡◌, List, map, length, ◌-◌}
+use Rattle.wire.specs.FileReaders.{HasReadFile}
+use Rattle.wire.specs.Recorded.{payloads_at, StandAt}
 use Rattle.wire.proofs.records.Records.read.Given as goal
 
-abbrev pub invariant-loop-at : goal.invariant-loop-at
-invariant-loop-at g l = AreKept g.R.RecordFormat.format g.R.RecordReader.HasRead l.reader l.bytes.items l.places.items l.at
+-- the items of the records so far, and that their payloads are the ones at the places
+abbrev pub invariant-loop-places : goal.invariant-loop-places
+invariant-loop-places g l = record {
+  items : List g.row.R-Item.Denot;
+  read : HasReadFile g.R.RecordFormat.format g.R.RecordReader.HasRead l.fn.bytes.items items l.file;
+  payloads : payloads_at l.fn.bytes.items l.places.items ≡ map g.R.RecordFormat.format.payload items;
+  stand : StandAt l.fn.bytes.items l.places.items;
+}
 
-abbrev pub decreases-loop-at : goal.decreases-loop-at
-decreases-loop-at g l = length l.bytes.items - l.at
+abbrev pub decreases-loop-places : goal.decreases-loop-places
+decreases-loop-places g l = length l.file.bytes.now - l.file.at

@@ -1,0 +1,4 @@
+pub mod GroupView
+pub mod Groups
+pub mod LeftBy
+pub mod Traces

@@ -1,3 +1,0 @@
-pub mod GroupView
-pub mod Groups
-pub mod LeftBy

@@ -1,6 +1,7 @@
 -- One input after another.
 use Rattle.std.proofs.Common.{◌≡◌, List, ℕ, Option, Result, Ok, Err, refl, inl, inr}
 use Rattle.std.specs.Result.{IsErrAnd}
+use Rattle.replayer.specs.declared.reason.Replayed.{Replayed}
 use Rattle.command_inputs.specs.Inputs.{Input, IsInput, IsRead}
 use Rattle.command_inputs.specs.declared.fault.InputError.{InputError}
 use Rattle.command_inputs.specs.declared.fault.InputError.TheVariants.{Fault, Halt as Halts}
@@ -8,10 +9,9 @@ use Rattle.commands.specs.Outcome.{IfFound}
 use Rattle.commands.specs.Outputs.{Outcome, says}
 use Rattle.commands.specs.WithInput.{WithInput}
 use Rattle.commands.specs.declared.answer.Answer.TheVariants.{Replay}
-use Rattle.commands.specs.declared.answer.Finding.{Finding}
 
-abbrev pub replay_says : Finding → Outcome
-replay_says finding = says (Replay finding)
+abbrev pub replay_says : (ℕ × Replayed) → Outcome
+replay_says found = says (Replay found.0 found.1)
 
 -- This input was read, and so it goes on.
 pub goes_on : {A F : Type 0} (outcome : F → Outcome) (input : Input A) (file : Option (List ℕ)) (x : A)

@@ -11,6 +11,7 @@ use Rattle.script_check.specs.Counts.{counts_of}
 use Rattle.script_check.specs.declared.counts.Counts.{Counts}
 use Rattle.wire.specs.declared.limits.TheConstants.{MOST_FILE_BYTES, MOST_SCHEDULE_BYTES}
 use Rattle.replayer.specs.Differences.{replayed}
+use Rattle.replayer.specs.declared.reason.Replayed.{Replayed}
 use Rattle.history.specs.declared.happening.Happening.{Happening}
 use Rattle.turns.specs.Run.{IsRunOf}
 use Rattle.trace_and_report.specs.Recorded.{AreFilesOf, HasTooLong}
@@ -30,11 +31,9 @@ use Rattle.command_words.specs.AuditWords.{AuditWords, audit_words}
 use Rattle.command_words.specs.RecordWords.{RecordWords, record_words}
 use Rattle.command_words.specs.Words.{ReplayNames, check_name, replay_names}
 use Rattle.commands.specs.Audits.{IsAudited}
-use Rattle.commands.specs.Lines.{finding_of}
 use Rattle.commands.specs.Outputs.{Outcome, says}
 use Rattle.commands.specs.WithInput.{WithInput}
 use Rattle.commands.specs.declared.answer.Answer.{Answer}
-use Rattle.commands.specs.declared.answer.Finding.{Finding}
 use Rattle.commands.specs.declared.answer.Answer.TheVariants.{Usage, Input as InputAnswer, Checked, Replay, Recorded, TooLong, Accepted, Rejected}
 
 -- how many moments a schedule has, where it was read
@@ -46,7 +45,7 @@ moment_count (Err at) = 0
 abbrev pub IsFound : Program → Objects → List TraceEvent → Result (List Moment) ℕ → Outcome → Type 0
 IsFound program start trace schedule outcome =
     outcome
-    ≡ says (Replay (finding_of (moment_count schedule) (replayed program start trace schedule)))
+    ≡ says (Replay (moment_count schedule) (replayed program start trace schedule))
 
 -- ---- a replay, from its last input to its first
 
@@ -163,8 +162,8 @@ IfFound outcome is (Err (error.Fault fault)) = is (says (InputAnswer fault))
 IfFound outcome is (Err (error.Halt halt)) = Unit {0}
 
 -- The outcome of a replay, of which its result tells.
-abbrev pub IfReplayed : Files → ReplayNames → Result Finding InputError → Type 0
-IfReplayed files names = IfFound (λ finding. says (Replay finding)) (IsReplayed files names)
+abbrev pub IfReplayed : Files → ReplayNames → Result (ℕ × Replayed) InputError → Type 0
+IfReplayed files names = IfFound (λ found. says (Replay found.0 found.1)) (IsReplayed files names)
 
 -- The outcome of a check, of which its result tells.
 abbrev pub IfChecked : Files → List ℕ → Result Counts InputError → Type 0
@@ -189,7 +188,7 @@ abbrev pub IsAbsent : Answer → Type 0
 IsAbsent Usage = ⊥
 IsAbsent (InputAnswer fault) = IsAbsence fault
 IsAbsent (Checked counts) = ⊥
-IsAbsent (Replay finding) = ⊥
+IsAbsent (Replay moments replayed) = ⊥
 IsAbsent (Recorded requests groups) = ⊥
 IsAbsent (TooLong which) = ⊥
 IsAbsent (Accepted requests groups evaluated plain) = ⊥

@@ -1,5 +1,5 @@
 ghost use Rattle.std.specs.Prelude.{◌≡◌, IfOk, string_bytes};
-ghost use Rattle.commands.specs.Lines.{counts_line, difference_line, finding_of, line_of, status_of};
+ghost use Rattle.commands.specs.Lines.{counts_line, difference_line, line_of, status_of};
 
 use audit_meaning::reason::Reason;
 use command_inputs::InputFault;
@@ -8,14 +8,6 @@ use script_check::counts::Counts;
 use std::alloc::{AllocError, Global};
 use trace_and_report::TooLong;
 use verdict_lines::rejection_line;
-
-/// What a replay found.
-#[derive(Clone, Copy, Debug, PartialEq, Eq)]
-pub enum Finding {
-    /// The schedule agrees with the trace; it has so many moments.
-    Agrees(u64),
-    Differs(ReplayReason),
-}
 
 /// What a command answers.
 #[derive(Drop)]
@@ -26,7 +18,11 @@ pub enum Answer {
     Input(InputFault),
     /// The program is valid, and declares so much.
     Checked(Counts),
-    Replay(Finding),
+    /// What a replay of a schedule of so many moments found.
+    Replay {
+        moments: u64,
+        replayed: Replayed,
+    },
     /// So many requests were recorded, which took so many paths.
     Recorded {
         requests: usize,
@@ -46,18 +42,6 @@ pub enum Answer {
     Rejected(Reason),
 }
 
-impl Finding {
-    /// What was found in a schedule of so many moments.
-    pub fn new(moments: u64, replayed: Replayed) -> Finding
-        ensures { result ≡ finding_of moments replayed }
-    {
-        match replayed {
-            Replayed::Agrees => Finding::Agrees(moments),
-            Replayed::Differs(reason) => Finding::Differs(reason),
-        }
-    }
-}
-
 impl Answer {
     /// The exit status for it.
     pub fn status(&self) -> u8
@@ -65,10 +49,16 @@ impl Answer {
     {
         match self {
             Answer::Checked(_) => 0,
-            Answer::Replay(Finding::Agrees(_)) => 0,
+            Answer::Replay {
+                replayed: Replayed::Agrees,
+                ..
+            } => 0,
             Answer::Recorded { .. } => 0,
             Answer::Accepted { .. } => 0,
-            Answer::Replay(Finding::Differs(_)) => 1,
+            Answer::Replay {
+                replayed: Replayed::Differs(_),
+                ..
+            } => 1,
             Answer::Rejected(_) => 1,
             Answer::Usage => 2,
             Answer::Input(_) => 3,
@@ -85,10 +75,14 @@ impl Answer {
             Answer::Usage => String::from_str(alloc, "usage\n")?,
             Answer::Input(fault) => format!(in alloc; "{fault}\n")?,
             Answer::Checked(counts) => counts_line(alloc, *counts)?,
-            Answer::Replay(Finding::Agrees(moments)) => {
-                format!(in alloc; "agrees: moments {moments}\n")?
-            }
-            Answer::Replay(Finding::Differs(reason)) => difference_line(alloc, *reason)?,
+            Answer::Replay {
+                moments,
+                replayed: Replayed::Agrees,
+            } => format!(in alloc; "agrees: moments {moments}\n")?,
+            Answer::Replay {
+                replayed: Replayed::Differs(reason),
+                ..
+            } => difference_line(alloc, *reason)?,
             Answer::Recorded { requests, groups } => {
                 format!(in alloc; "recorded: requests {requests}, groups {groups}\n")?
             }

@@ -3,21 +3,21 @@ ghost use Rattle.command_inputs.specs.Faults.{UsesToRead};
 ghost use Rattle.command_words.specs.NamesView.{names_of};
 ghost use Rattle.commands.specs.Outcome.{IfReplayed};
 
-use crate::answer::Finding;
 use command_inputs::{InputError, read_program, read_schedule, read_state, read_trace};
 use command_words::ReplayNames;
 use outside::Shelf;
+use replayer::Replayed;
 use replayer::replay::replay;
 use std::alloc::Global;
 use wire::limits::{MOST_FILE_BYTES, MOST_SCHEDULE_BYTES};
 
-/// What a replay of the files of these names finds. They are read in the order of the names, up to
-/// the first one at fault.
+/// How many moments the schedule of these files has, and what its replay finds. The files are read
+/// in the order of the names, up to the first one at fault.
 pub fn replay_files<F: Shelf>(
     alloc: Global,
     shelf: &mut F,
     names: ReplayNames<'_>,
-) -> Result<Finding, InputError>
+) -> Result<(u64, Replayed), InputError>
     ensures answer { let names = names_of names.entry in
         ForSome (F.told shelf.old).files (λ files. IfReplayed files names result) }
     ensures used { UsesToRead (F.told shelf.old) (F.told shelf.new) result }
@@ -29,11 +29,11 @@ pub fn replay_files<F: Shelf>(
     match schedule {
         Ok(schedule) => {
             let replayed = replay(alloc, &program, start, &trace, Ok(&schedule))?;
-            Ok(Finding::new(schedule.len() as u64, replayed))
+            Ok((schedule.len() as u64, replayed))
         }
         Err(at) => {
             let replayed = replay(alloc, &program, start, &trace, Err(at))?;
-            Ok(Finding::new(0, replayed))
+            Ok((0, replayed))
         }
     }
 }

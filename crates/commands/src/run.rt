@@ -142,8 +142,8 @@ fn found_by<'w, F: Shelf, C: Clock, G: Gate + Sync>(
     ensures used { UsesToRead (F.told shelf.old) (F.told shelf.new) result }
 {
     if let Some(names) = words.replay_names(alloc)? {
-        let finding = replay_files(alloc, shelf, names)?;
-        return Ok(Outcome::says(alloc, Answer::Replay(finding)));
+        let (moments, replayed) = replay_files(alloc, shelf, names)?;
+        return Ok(Outcome::says(alloc, Answer::Replay { moments, replayed }));
     }
     if let Some(name) = words.check_name() {
         let counts = check_file(alloc, shelf, name)?;

@@ -4,3 +4,4 @@ pub mod Parts
 pub mod Turning
 pub mod Seating
 pub mod Told
+pub mod Permuted

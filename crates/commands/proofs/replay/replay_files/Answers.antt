@@ -1,8 +1,9 @@
-use Rattle.std.proofs.Common.{◌∙◌, ap, inr}
+use Rattle.std.proofs.Common.{◌∙◌, ap, ap₂, inr}
 use Rattle.object_set.specs.ObjectSets.{objects_of}
 use Rattle.command_words.specs.NamesView.{names_of}
-use Rattle.commands.specs.Lines.{finding_of}
 use Rattle.commands.specs.Outcome.{IsFound, ReplayWithProgram, ReplayWithState, ReplayWithTrace}
+use Rattle.commands.specs.Outputs.{says}
+use Rattle.commands.specs.declared.answer.Answer.TheVariants.{Replay}
 use Rattle.commands.proofs.Steps.{goes_on, ends, replay_says}
 use Rattle.commands.proofs.replay.replay_files.Goals as goal
 
@@ -45,8 +46,8 @@ returns-in-Ok-clause-answer g c = λ files told.
     let start = c.in_ok-start.ensures.read files told' in
     let trace = c.in_ok-trace.ensures.read files told'' in
     let schedule = rw c.in-Ok.is at c.in_ok-schedule.ensures.read files told3 in
-    let found = c.new.ensures ∙ (λ i. finding_of (c.len.ensures i) (c.in_ok-replayed-in-Ok.ensures.replayed i)) in
-    inr (_, program, inr (_, start, inr (_, trace, inr (_, schedule, ap replay_says found))))
+    let found = ap₂ (λ n r. says (Replay n r)) c.len.ensures c.in_ok-replayed-in-Ok.ensures.replayed in
+    inr (_, program, inr (_, start, inr (_, trace, inr (_, schedule, found))))
 
 pub returns-clause-answer : goal.returns-clause-answer
 returns-clause-answer g c = λ files told.
@@ -57,5 +58,5 @@ returns-clause-answer g c = λ files told.
     let start = c.in_ok-start.ensures.read files told' in
     let trace = c.in_ok-trace.ensures.read files told'' in
     let schedule = rw c.in-Err.is at c.in_ok-schedule.ensures.read files told3 in
-    let found = c.new-in-Err.ensures ∙ ap (finding_of 0) c.in_ok-replayed-in-Err.ensures.replayed in
-    inr (_, program, inr (_, start, inr (_, trace, inr (_, schedule, ap replay_says found))))
+    let found = ap (λ r. says (Replay 0 r)) c.in_ok-replayed-in-Err.ensures.replayed in
+    inr (_, program, inr (_, start, inr (_, trace, inr (_, schedule, found))))

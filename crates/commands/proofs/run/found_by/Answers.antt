@@ -9,4 +9,4 @@ returns-in-Some-clause-outcome g c = λ files told.
     let names = names_of c.in-Some.names in
     let asked = sym c.in_ok-names.ensures ∙ ap (option_map names_of) c.in-Some.is in
     by_replay c.args.words.now (g.C.Clock.reading c.args.clock.now) files c.says.result names asked
-    (subst (IsReplayed files names) (sym c.says.ensures) (c.in_ok-finding.ensures.answer files told))
+    (subst (IsReplayed files names) (sym c.says.ensures) (c.in_ok-moments.ensures.answer files told))

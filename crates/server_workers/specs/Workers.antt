@@ -1,0 +1,124 @@
+-- What workers come to: their seats, and what was called from them.
+use Rattle.std.specs.Prelude.{◌≡◌, ◌≢◌, ℕ, ◌+◌, ◌<◌, ◌≤◌, true, All, List, [], length, map, Option, None}
+use Rattle.std.specs.declared.alloc.Global.{Global}
+use Rattle.std.specs.declared.sync.Arc.{Arc}
+use Rattle.claims.specs.Seats.{Numbers, joint_seat, IsSeatOf as IsClaimOf}
+use Rattle.dice.specs.Rolls.{dice_of}
+use Rattle.desk.specs.Runs.{calls_by}
+use Rattle.script_tree.specs.Requests.{Request}
+use Rattle.history.specs.Arrivals.{arrivals}
+use Rattle.history.specs.Histories.{history_of}
+use Rattle.history.specs.Recordings.{Recorded}
+use Rattle.history.specs.declared.event.Event.{Event}
+use Rattle.history.specs.declared.event.Reply.{Reply}
+use Rattle.history.specs.declared.recorder.Recorder.{Recorder}
+use Rattle.script_code.specs.declared.translate.Code.{Code}
+use Rattle.shared_desk.specs.Seats.{IsSeatOf, start_of, view}
+use Rattle.shared_desk.specs.Views.{seats, with_joined}
+use Rattle.shared_desk.specs.declared.shared.Desk.{Desk}
+use Rattle.turns.specs.Offers.{AreRolled, rolls_at}
+use Rattle.server_workers.specs.Courses.{IsSound, RecorderCall}
+use Rattle.server_workers.specs.Jobs.{requests_of, request_at}
+use Rattle.server_workers.specs.Openings.{IsOpening, open_after}
+use Rattle.server_workers.specs.declared.serve.TheConstants.{MOST_WORKERS}
+use Rattle.server_workers.specs.declared.worker.Seats.{Seats}
+use Rattle.server_workers.specs.declared.worker.Worked.{Worked}
+
+-- what all workers are given: the jobs, the seed of the dice, and what the clock shows
+pub record Settings : Type 0 where
+  pub requests : List Request
+  pub seed : ℕ
+  pub reading : Option ℕ
+
+-- the settings of these jobs
+abbrev pub settings : List (Arc Request Global) → ℕ → Option ℕ → Settings
+settings jobs seed reading = record { requests = requests_of jobs; seed = seed; reading = reading }
+
+-- ---- calls
+
+-- No call is from the seat.
+abbrev pub AreElsewhere : ℕ → List RecorderCall → Type 0
+AreElsewhere seat calls = All (λ c. c.seat ≢ seat) calls
+
+-- The calls serve the jobs of these numbers: at each seat one after the other, with the seat's dice.
+pub record HaveServed (s : Settings) (drawn : List ℕ) (calls : List RecorderCall) : Type 0 where
+  pub came : arrivals (history_of calls) ≡ map (request_at s.requests) drawn
+  pub sound : All (IsSound s.reading) calls
+  pub closed : (seat : ℕ) → open_after None (calls_by seat calls) ≡ None
+  pub rolls : (seat : ℕ) → AreRolled (dice_of s.seed seat) (rolls_at seat (history_of calls))
+
+-- ---- seats
+
+-- the desk of a recorder
+abbrev pub RecorderDesk : Type 0
+RecorderDesk = Desk Recorder Recorded Event Reply
+
+-- The desk opens for the program of this code, and there is a number for each job.
+pub record AreOpenFor (code : Code) (jobs : List (Arc Request Global)) (claims : Numbers) (desk : RecorderDesk)
+    : Type 0 where
+  pub opening : IsOpening code (start_of desk)
+  pub limit : claims.limit ≡ length jobs
+
+-- The seats are of these numbers and of this desk.
+pub record AreOwn (claims : Numbers) (desk : RecorderDesk) (worker : Seats) : Type 0 where
+  pub claim : IsClaimOf claims worker.claim
+  pub desk' : IsSeatOf desk worker.desk
+
+-- The worker of this number has drawn nothing and called nothing.
+pub record IsFresh (number : ℕ) (worker : Seats) : Type 0 where
+  pub number' : (view worker.desk).number ≡ number
+  pub one : seats (view worker.desk) ≡ 1
+  pub no_call : (view worker.desk).calls ≡ []
+  pub drew_none : worker.claim.view.drawn ≡ []
+
+-- The first worker may split off so many more but one, the next of which has this number.
+pub record MaySplit (next workers : ℕ) (worker : Seats) : Type 0 where
+  pub next' : (view worker.desk).split_off + 1 ≡ next
+  pub room : next + workers ≤ MOST_WORKERS + 1
+  pub parts : workers < worker.claim.view.parts
+
+-- The worker of this number may begin.
+pub record MayBegin (claims : Numbers) (desk : RecorderDesk) (number : ℕ) (worker : Seats) : Type 0 where
+  pub own : AreOwn claims desk worker
+  pub fresh : IsFresh number worker
+
+-- The first worker may begin, and split off so many more but one.
+pub record MayBeginAll (claims : Numbers) (desk : RecorderDesk) (next workers : ℕ) (first : Seats) : Type 0 where
+  pub begins : MayBegin claims desk 0 first
+  pub split : MaySplit next workers first
+
+-- The seats of two workers are taken together.
+pub record AreJoint (first other both : Seats) : Type 0 where
+  pub claim : both.claim ≡ joint_seat first.claim other.claim
+  pub desk' : view both.desk ≡ with_joined (view first.desk) (view other.desk)
+
+-- No number is left to draw, and those that were drawn are served by calls from the worker's seat.
+pub record IsWorked (s : Settings) (number : ℕ) (before after : Seats) : Type 0 where
+  pub none_left : after.claim.view.none_left ≡ true
+  pub parts : after.claim.view.parts ≡ before.claim.view.parts
+  pub seats' : (view after.desk).numbers ≡ (view before.desk).numbers
+  pub number' : (view after.desk).number ≡ number
+  pub split_off : (view after.desk).split_off ≡ (view before.desk).split_off
+  pub served : HaveServed s after.claim.view.drawn (view after.desk).calls
+  pub others : (seat : ℕ) → seat ≢ number → AreElsewhere seat (view after.desk).calls
+
+-- The same of the first worker and of all that it split off, from the next number on.
+pub record IsWhole (s : Settings) (next : ℕ) (before after : Seats) : Type 0 where
+  pub none_left : after.claim.view.none_left ≡ true
+  pub parts : after.claim.view.parts ≡ before.claim.view.parts
+  pub seats' : seats (view after.desk) + (view before.desk).split_off ≡ 1 + (view after.desk).split_off
+  pub number' : (view after.desk).number ≡ 0
+  pub served : HaveServed s after.claim.view.drawn (view after.desk).calls
+  pub others : (seat : ℕ) → seat ≢ 0 → seat < next → AreElsewhere seat (view after.desk).calls
+
+-- The worker of this number is back: where memory sufficed, its work is done.
+pub record IsBack (s : Settings) (claims : Numbers) (desk : RecorderDesk) (number : ℕ) (before : Seats) (worked : Worked)
+    : Type 0 where
+  pub own : AreOwn claims desk worked.seats
+  pub done : worked.is_whole ≡ true → IsWorked s number before worked.seats
+
+-- The first worker is back, with all that it split off from the next number on.
+pub record AreAllBack (s : Settings) (claims : Numbers) (desk : RecorderDesk) (next : ℕ) (before : Seats) (worked : Worked)
+    : Type 0 where
+  pub own : AreOwn claims desk worked.seats
+  pub done : worked.is_whole ≡ true → IsWhole s next before worked.seats

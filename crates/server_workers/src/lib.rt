@@ -1,0 +1,10 @@
+//! Jobs that many threads serve at once, over shared objects. What happens has one order, and goes to
+//! a journal.
+#![tactic(auto)]
+
+mod request;
+mod serve;
+mod service;
+mod worker;
+
+pub use serve::{MOST_WORKERS, serve_jobs};

@@ -1,0 +1,119 @@
+ghost use Rattle.std.specs.Prelude.{◌≡◌, ◌<◌, ◌≤◌, [], All, IfOk};
+ghost use Rattle.script_code.specs.Translated.{IsCodeOf};
+ghost use Rattle.object_set.specs.ObjectSets.{IsSetOf, objects_of};
+ghost use Rattle.history.specs.Histories.{happening_in, history_of};
+ghost use Rattle.history.specs.Journals.{CanHappen};
+ghost use Rattle.turns.specs.Run.{KeepsRun};
+ghost use Rattle.server_workers.specs.Jobs.{requests_of};
+ghost use Rattle.server_workers.specs.Served.{IsServed};
+
+use crate::service::Service;
+use crate::worker::{Seats, Worked, work_all};
+use claims::Claims;
+use desk::Call;
+use history::law::runs_are_legal;
+use history::{Event, Happening, Journal, Recorder, Recording, Reply, happening_by};
+use object_set::ObjectSet;
+use outside::{Clock, Gate};
+use script_check::program::Program;
+use script_code::translate::Code;
+use shared_desk::Desk;
+use std::alloc::{AllocError, Global};
+use std::sync::{Arc, Wait};
+use std::thread::Threads;
+use trace_format::packed::PackedRequest;
+use workload::Requests;
+
+/// How many workers there may be.
+pub const MOST_WORKERS: u32 = 16;
+
+/// The number of workers in digits, as docs/formats.md has it.
+pub fn workers_in_digits()
+    ensures { MOST_WORKERS ≡ 16 }
+{}
+
+/// Serves the jobs by so many workers, and gives what happened to the journal, in its order. A worker
+/// draws the next job, has it arrive at its seat, does what its request wants, and has it depart.
+/// Each has its dice, by the seed. Where one lacks memory the others go on, and the whole is answered
+/// as want of memory.
+pub fn serve_jobs<R: Threads + Wait + Sync, C: Clock + Sync, G: Gate + Sync, J: Journal>(
+    rt: &R,
+    alloc: Global,
+    program: &Arc<Program>,
+    code: Code,
+    start: ObjectSet,
+    jobs: Requests,
+    workers: u32,
+    seed: u64,
+    clock: &C,
+    gate: &G,
+    journal: J,
+) -> Result<J, AllocError>
+    requires code { IsCodeOf program.now.value code }
+    requires start { IsSetOf program.now.value start }
+    requires some { 0 < workers }
+    requires few { workers ≤ MOST_WORKERS }
+    requires nothing_kept { J.keeps [] journal }
+    ensures { let objects = objects_of start in let reading = C.reading clock.now in
+        let IsOne = IsServed program.now.value objects jobs seed reading in
+        IfOk result (KeepsRun J.keeps IsOne) }
+{
+    runs_are_legal();
+    // It tells that the program is valid.
+    program.declarations();
+    let jobs = shared(alloc, jobs)?;
+    let Ok(limit) = u32::try_from(jobs.len()) else {
+        return Err(AllocError);
+    };
+    let recording = Recording::new(alloc, program.clone()?, start);
+    let (claims, claim) = Claims::new(alloc, u64::from(limit))?;
+    let (desk, seat) = Desk::<Recorder>::new(alloc, recording)?;
+    let service = Service {
+        alloc,
+        code,
+        jobs,
+        seed,
+    };
+    let first = Seats { claim, desk: seat };
+    let Worked { seats, is_whole } = work_all(
+        rt, &service, &claims, &desk, clock, gate, first, 1, workers,
+    );
+    if !is_whole {
+        return Err(AllocError);
+    }
+    let Seats { claim, desk: seat } = seats;
+    claims.close(claim);
+    keep(desk.close(seat).calls, journal)
+}
+
+/// Requests that many may hold.
+fn shared(alloc: Global, requests: Requests) -> Result<Vec<Arc<PackedRequest>>, AllocError>
+    ensures { IfOk result (λ jobs. requests_of jobs.items ≡ requests) }
+{
+    let requests = requests.into_vec();
+    let mut jobs = Vec::with_capacity(alloc, requests.len())?;
+    for request in requests {
+        jobs.push(Arc::new(alloc, request)?)?;
+    }
+    Ok(jobs)
+}
+
+/// Gives what happened by the calls to the journal.
+fn keep<J: Journal>(calls: Vec<Call<Event, Reply>>, mut journal: J) -> Result<J, AllocError>
+    requires can { All CanHappen (history_of calls.items) }
+    requires nothing_kept { J.keeps [] journal }
+    ensures { IfOk result (J.keeps (history_of calls.items)) }
+{
+    for call in calls {
+        journal.take(happening_in(call))?;
+    }
+    Ok(journal)
+}
+
+/// What happened by a call.
+fn happening_in(call: Call<Event, Reply>) -> Happening
+    ensures { result ≡ happening_in call }
+{
+    let Call { seat, event, reply } = call;
+    happening_by(seat, event, &reply)
+}

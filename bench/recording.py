@@ -193,13 +193,14 @@ class Inputs:
             with open(os.path.join(folder, name), "wb") as file:
                 file.write(data)
 
-    def words(self):
-        """Those by which it is recorded."""
-        return ["record", *INPUTS[:3], "trace", "report", "--turns", "turns", "--seed", str(self.seed)]
+    def words(self, workers=None):
+        """Those by which it is recorded: by its turns, or by so many workers."""
+        way = ["--workers", str(workers)] if workers else ["--turns", "turns"]
+        return ["record", *INPUTS[:3], "trace", "report", *way, "--seed", str(self.seed)]
 
-    def recorded(self):
-        """The trace, the report and the number of groups, by the second reading."""
-        return Recording(self.program, self.state, self.seed).all(map(as_bytes, self.requests), self.turns)
+    def recorded(self, turns=None):
+        """The trace, the report and the number of groups, by the second reading: by its turns, or by these."""
+        return Recording(self.program, self.state, self.seed).all(map(as_bytes, self.requests), self.turns if turns is None else turns)
 
 
 class BusyInputs(Inputs):

@@ -180,22 +180,27 @@ def parted(report, size):
 
 # ---- runs
 
+# A recording by turns, of which none are listed, and one by workers.
+BY_WORKERS = ["record", "program", "state", "requests", "trace", "report"]
+BY_TURNS = [*BY_WORKERS, "--turns", "turns"]
+
+
 def prepare(folder, text, state, requests):
     """Makes a folder with the inputs of a recording."""
     jobs = [{"path": path, "params": list(parameters.items())} for path, parameters in requests]
     os.mkdir(folder)
-    for name, data in {"program": text, "state": state, "requests": json.dumps(jobs).encode()}.items():
+    for name, data in {"program": text, "state": state, "requests": json.dumps(jobs).encode(), "turns": b"[]"}.items():
         with open(os.path.join(folder, name), "wb") as file:
             file.write(data)
 
 
-def run(words, folder):
-    """The line, the status, the seconds, the processor's seconds and the peak MiB of one run.
+def run(words, folder, processors="0"):
+    """The line, the status, the seconds, the processors' seconds and the peak MiB of one run, on these processors.
 
     `time` starts the program, since a child of this script would count the script's own peak as its own.
     """
     told = os.path.join(folder, "told")
-    timed = ["taskset", "-c", "0", "time", "-q", "-f", "%U %S %M", "-o", told]
+    timed = ["taskset", "-c", processors, "time", "-q", "-f", "%U %S %M", "-o", told]
     start = time.perf_counter()
     child = subprocess.run(timed + words, cwd=folder, stdout=subprocess.PIPE)
     seconds = time.perf_counter() - start

@@ -28,6 +28,10 @@ class Command:
         if "--turns" in options:
             self.inputs["turns"] = options["--turns"]
 
+    def workers(self):
+        """How many threads answer the jobs of a recording: with turns none but one."""
+        return 1 if "turns" in self.inputs else int(self.options.get("--workers", 1))
+
     def label(self, role):
         """A file as it is called, with its role where the name doesn't say it."""
         name = self.inputs.get(role, self.outputs.get(role))

@@ -7,7 +7,7 @@ from record_text import text_of
 from replays import Watching, asked_line, object_name
 from runs import Outline, failed
 
-from recording import SEATS, object_and_act
+from recording import object_and_act
 
 MOST_ROWS = 12
 MOST_FAILED = 8
@@ -154,16 +154,17 @@ def recorded(found, line):
     report, trace = found.command.label("report"), found.command.label("trace")
     lines = wrapped(f"{trace} and {report} are of one recording of the {counted(len(found.jobs), 'job')} of "
                     f"{found.command.label('requests')}.")
-    return lines + summary_of(found) + seats_advice(found)
+    return lines + summary_of(found) + workers_advice(found)
 
 
-def seats_advice(found):
+def workers_advice(found):
     """Where runs failed, that one request may not see what another one is to change."""
     is_failed = any(found.audit.members[number].fault for number in found.audit.requests)
-    if not is_failed or len(found.jobs) < 2 or "turns" in found.command.inputs:
+    workers = found.command.workers()
+    if not is_failed or len(found.jobs) < 2 or workers < 2:
         return []
-    return wrapped(f"(Up to {SEATS} jobs are open at once: one that comes behind another in the file may run before that one has changed "
-                   "anything. What is to be there from the start stands in the state; `--turns` says who runs when.)")
+    return wrapped(f"(Up to {workers} jobs are open at once: one that comes behind another in the file may run before that one has changed "
+                   "anything. What is to be there from the start stands in the state; without `--workers` they run one after the other.)")
 
 
 def summary_of(found):

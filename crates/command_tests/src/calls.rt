@@ -3,29 +3,35 @@
 use crate::runs::{THREE, shelf_of, sink, status_of};
 use outside::FixedClock;
 use std::alloc::{AllocError, Global};
+use std::sync::Wait;
+use std::thread::Threads;
 
 /// How often a check calls the shelf.
 const CALLS: u64 = 2;
 
 /// The status of a check in which this call of the shelf fails, where nothing is printed.
-fn status_without(alloc: Global, call: u64) -> Result<Option<u8>, AllocError> {
+fn status_without<R: Threads + Wait + Sync>(
+    rt: &R,
+    alloc: Global,
+    call: u64,
+) -> Result<Option<u8>, AllocError> {
     let mut shelf = shelf_of(alloc, &[("p", THREE)], [call].to_vec(alloc)?)?;
     let mut out = sink(alloc);
-    let status = status_of(alloc, "check p", &mut shelf, &mut out, &FixedClock(0))?;
+    let status = status_of(rt, alloc, "check p", &mut shelf, &mut out, &FixedClock(0))?;
     Ok(out.written().is_empty().then_some(status))
 }
 
 /// Whether each of the calls ends the check with status 4, where it fails.
-fn each_ends(alloc: Global) -> Result<bool, AllocError> {
+fn each_ends<R: Threads + Wait + Sync>(rt: &R, alloc: Global) -> Result<bool, AllocError> {
     for call in 0..CALLS {
-        if status_without(alloc, call)? != Some(4) {
+        if status_without(rt, alloc, call)? != Some(4) {
             return Ok(false);
         }
     }
-    Ok(status_without(alloc, CALLS)?.is_none())
+    Ok(status_without(rt, alloc, CALLS)?.is_none())
 }
 
 #[test]
 fn failing_shelf(rt: HostRuntime) {
-    assert!(rt; each_ends(rt.alloc()).unwrap_or(false));
+    assert!(rt; each_ends(&rt, rt.alloc()).unwrap_or(false));
 }

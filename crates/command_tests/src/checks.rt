@@ -2,6 +2,8 @@
 
 use crate::runs::ends;
 use std::alloc::{AllocError, Global};
+use std::sync::Wait;
+use std::thread::Threads;
 
 /// Programs that are checked, each with the line and the status of it.
 type Rows<'a> = &'a [(&'a [u8], u8, &'a [u8])];
@@ -24,9 +26,13 @@ const ROWS: Rows<'static> = &[
     ),
 ];
 
-fn all_end(alloc: Global, rows: Rows<'_>) -> Result<bool, AllocError> {
+fn all_end<R: Threads + Wait + Sync>(
+    rt: &R,
+    alloc: Global,
+    rows: Rows<'_>,
+) -> Result<bool, AllocError> {
     for (program, status, printed) in rows {
-        if !ends(alloc, "check p", &[("p", program)], *status, printed)? {
+        if !ends(rt, alloc, "check p", &[("p", program)], *status, printed)? {
             return Ok(false);
         }
     }
@@ -35,5 +41,5 @@ fn all_end(alloc: Global, rows: Rows<'_>) -> Result<bool, AllocError> {
 
 #[test]
 fn bytes_beyond_ascii(rt: HostRuntime) {
-    assert!(rt; all_end(rt.alloc(), ROWS).unwrap_or(false));
+    assert!(rt; all_end(&rt, rt.alloc(), ROWS).unwrap_or(false));
 }

@@ -3,7 +3,9 @@
 use crate::runs::{Files, ends, lack, shelf_of, sink, status_of};
 use outside::{Clock, MemShelf};
 use std::alloc::{AllocError, Global};
+use std::sync::Wait;
 use std::sync::atomic::{AtomicU64, Ordering};
+use std::thread::Threads;
 
 /// It reads 1 at first, and then one more each time.
 #[derive(Drop)]
@@ -60,13 +62,13 @@ fn are_written(shelf: &MemShelf) -> bool {
 }
 
 /// Whether each operation shows a reading of its own, and the clock is read at none but these.
-fn shows_each_reading(alloc: Global) -> Result<bool, AllocError> {
+fn shows_each_reading<R: Threads + Wait + Sync>(rt: &R, alloc: Global) -> Result<bool, AllocError> {
     let clock = SteppingClock {
         next: AtomicU64::new(1),
     };
     let mut shelf = shelf_of(alloc, FILES, Vec::new(alloc))?;
     let mut out = sink(alloc);
-    let status = status_of(alloc, LINE, &mut shelf, &mut out, &clock)?;
+    let status = status_of(rt, alloc, LINE, &mut shelf, &mut out, &clock)?;
     let is_recorded = status == 0
         && out.written() == b"recorded: requests 2, groups 1\n".as_slice();
     Ok(is_recorded && are_written(&shelf) && clock.now() == 5)
@@ -74,7 +76,7 @@ fn shows_each_reading(alloc: Global) -> Result<bool, AllocError> {
 
 #[test]
 fn each_operation_shows_its_own_reading(rt: HostRuntime) {
-    assert!(rt; shows_each_reading(rt.alloc()).unwrap_or(false));
+    assert!(rt; shows_each_reading(&rt, rt.alloc()).unwrap_or(false));
 }
 
 /// The first input that isn't there, in the order of the words and with the turns last, is told.
@@ -86,5 +88,5 @@ fn absent_inputs(rt: HostRuntime) {
         b"requests: absent\n",
         b"turns: absent\n",
     ];
-    assert!(rt; lack(rt.alloc(), LINE, FILES, &printed).unwrap_or(false));
+    assert!(rt; lack(&rt, rt.alloc(), LINE, FILES, &printed).unwrap_or(false));
 }

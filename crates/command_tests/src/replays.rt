@@ -2,6 +2,8 @@
 
 use crate::runs::{Files, THREE, THREE_SCHEDULE, THREE_TRACE, ends, lack};
 use std::alloc::{AllocError, Global};
+use std::sync::Wait;
+use std::thread::Threads;
 
 const LINE: &str = "replay p s t c";
 
@@ -14,7 +16,7 @@ const FILES: Files<'static> = &[
 
 #[test]
 fn agrees(rt: HostRuntime) {
-    assert!(rt; ends(rt.alloc(), LINE, FILES, 0, b"agrees: moments 2\n").unwrap_or(false));
+    assert!(rt; ends(&rt, rt.alloc(), LINE, FILES, 0, b"agrees: moments 2\n").unwrap_or(false));
 }
 
 /// The first input that isn't there, in the order of the words, is told.
@@ -26,15 +28,19 @@ fn absent_inputs(rt: HostRuntime) {
         b"trace: absent\n",
         b"schedule: absent\n",
     ];
-    assert!(rt; lack(rt.alloc(), LINE, FILES, &printed).unwrap_or(false));
+    assert!(rt; lack(&rt, rt.alloc(), LINE, FILES, &printed).unwrap_or(false));
 }
 
 /// Whether replays whose traces have so many bytes, and whose schedules aren't there, end so.
-fn cut_traces(alloc: Global, rows: &[(usize, &[u8])]) -> Result<bool, AllocError> {
+fn cut_traces<R: Threads + Wait + Sync>(
+    rt: &R,
+    alloc: Global,
+    rows: &[(usize, &[u8])],
+) -> Result<bool, AllocError> {
     for (len, printed) in rows {
         let trace = THREE_TRACE.get(..*len).unwrap_or(&[]);
         let files = [("p", THREE), ("s", b"{}"), ("t", trace)];
-        if !ends(alloc, LINE, &files, 3, printed)? {
+        if !ends(rt, alloc, LINE, &files, 3, printed)? {
             return Ok(false);
         }
     }
@@ -51,7 +57,7 @@ fn traces_that_end_early(rt: HostRuntime) {
         (38, b"trace: not balanced at request 0\n"),
         (53, b"trace: unreadable at 38\n"),
     ];
-    assert!(rt; cut_traces(rt.alloc(), &rows).unwrap_or(false));
+    assert!(rt; cut_traces(&rt, rt.alloc(), &rows).unwrap_or(false));
 }
 
 #[test]
@@ -64,7 +70,7 @@ fn a_schedule_that_ends_early(rt: HostRuntime) {
         ("c", schedule),
     ];
     let printed = b"differs 1: unreadable at 17\n";
-    assert!(rt; ends(rt.alloc(), LINE, &files, 1, printed).unwrap_or(false));
+    assert!(rt; ends(&rt, rt.alloc(), LINE, &files, 1, printed).unwrap_or(false));
 }
 
 /// So many of these bytes between a front and a back.
@@ -145,7 +151,8 @@ fn long_state(alloc: Global) -> Result<Vec<u8>, AllocError> {
 
 /// Whether a replay over files that have more bytes than are read at a time ends so. What tells stands
 /// after the first 65,536 of each.
-fn long_files_end(
+fn long_files_end<R: Threads + Wait + Sync>(
+    rt: &R,
     alloc: Global,
     more: &[u8],
     status: u8,
@@ -161,17 +168,17 @@ fn long_files_end(
         ("t", &trace),
         ("c", &schedule),
     ];
-    ends(alloc, LINE, &files, status, printed)
+    ends(rt, alloc, LINE, &files, status, printed)
 }
 
 #[test]
 fn long_files(rt: HostRuntime) {
     let printed = b"agrees: moments 8001\n";
-    assert!(rt; long_files_end(rt.alloc(), b"", 0, printed).unwrap_or(false));
+    assert!(rt; long_files_end(&rt, rt.alloc(), b"", 0, printed).unwrap_or(false));
 }
 
 #[test]
 fn a_long_schedule_with_a_byte_more(rt: HostRuntime) {
     let printed = b"differs 1: unreadable at 72018\n";
-    assert!(rt; long_files_end(rt.alloc(), b"\x00", 1, printed).unwrap_or(false));
+    assert!(rt; long_files_end(&rt, rt.alloc(), b"\x00", 1, printed).unwrap_or(false));
 }

@@ -4,6 +4,8 @@ use command_words::Words;
 use commands::run::run;
 use outside::{Clock, FixedClock, MemHouse, MemShelf, MemSink, OpenGate};
 use std::alloc::{AllocError, Global};
+use std::sync::Wait;
+use std::thread::Threads;
 
 /// Files, each with its name.
 pub type Files<'a> = &'a [(&'a str, &'a [u8])];
@@ -47,7 +49,8 @@ pub fn sink(alloc: Global) -> MemSink {
 }
 
 /// The status of a run of these words.
-pub fn status_of<C: Clock + Sync>(
+pub fn status_of<R: Threads + Wait + Sync, C: Clock + Sync>(
+    rt: &R,
     alloc: Global,
     line: &str,
     shelf: &mut MemShelf,
@@ -56,11 +59,12 @@ pub fn status_of<C: Clock + Sync>(
 ) -> Result<u8, AllocError> {
     let words = words_of(alloc, line)?;
     let mut house = MemHouse::new(alloc, Vec::new(alloc), Vec::new(alloc));
-    Ok(run(alloc, &words, shelf, out, &mut house, clock, &OpenGate))
+    Ok(run(rt, alloc, &words, shelf, out, &mut house, clock, &OpenGate))
 }
 
 /// Whether a run of these words over these files ends so, with this line.
-pub fn ends(
+pub fn ends<R: Threads + Wait + Sync>(
+    rt: &R,
     alloc: Global,
     line: &str,
     files: Files<'_>,
@@ -69,13 +73,14 @@ pub fn ends(
 ) -> Result<bool, AllocError> {
     let mut shelf = shelf_of(alloc, files, Vec::new(alloc))?;
     let mut out = sink(alloc);
-    let ended = status_of(alloc, line, &mut shelf, &mut out, &FixedClock(0))?;
+    let ended = status_of(rt, alloc, line, &mut shelf, &mut out, &FixedClock(0))?;
     Ok(ended == status && out.written() == printed)
 }
 
 /// Whether a run without the last files ends with each of these lines: over none of the files, over the
 /// first, and so on.
-pub fn lack(
+pub fn lack<R: Threads + Wait + Sync>(
+    rt: &R,
     alloc: Global,
     line: &str,
     files: Files<'_>,
@@ -83,7 +88,7 @@ pub fn lack(
 ) -> Result<bool, AllocError> {
     for (count, printed) in printed.iter().enumerate() {
         let files = files.get(..count).unwrap_or(&[]);
-        if !ends(alloc, line, files, 3, printed)? {
+        if !ends(rt, alloc, line, files, 3, printed)? {
             return Ok(false);
         }
     }

@@ -2,6 +2,8 @@
 
 use crate::runs::{Files, THREE, THREE_SCHEDULE, THREE_TRACE, ends};
 use std::alloc::{AllocError, Global};
+use std::sync::Wait;
+use std::thread::Threads;
 
 /// Lines that no command takes.
 const REFUSED: [&str; 16] = [
@@ -24,7 +26,8 @@ const REFUSED: [&str; 16] = [
 ];
 
 /// Whether each of these lines ends so over the files.
-fn all_end(
+fn all_end<R: Threads + Wait + Sync>(
+    rt: &R,
     alloc: Global,
     lines: &[&str],
     files: Files<'_>,
@@ -32,7 +35,7 @@ fn all_end(
     printed: &[u8],
 ) -> Result<bool, AllocError> {
     for line in lines {
-        if !ends(alloc, line, files, status, printed)? {
+        if !ends(rt, alloc, line, files, status, printed)? {
             return Ok(false);
         }
     }
@@ -41,7 +44,7 @@ fn all_end(
 
 #[test]
 fn refused_words(rt: HostRuntime) {
-    assert!(rt; all_end(rt.alloc(), &REFUSED, &[], 2, b"usage\n").unwrap_or(false));
+    assert!(rt; all_end(&rt, rt.alloc(), &REFUSED, &[], 2, b"usage\n").unwrap_or(false));
 }
 
 /// Lines with a name that is a dash, and with one that is empty.
@@ -61,14 +64,16 @@ const ODD_FILES: Files<'static> = &[
 
 #[test]
 fn odd_names(rt: HostRuntime) {
-    assert!(rt; all_end(rt.alloc(), &ODD, ODD_FILES, 0, b"agrees: moments 2\n").unwrap_or(false));
+    assert!(rt;
+        all_end(&rt, rt.alloc(), &ODD, ODD_FILES, 0, b"agrees: moments 2\n").unwrap_or(false)
+    );
 }
 
 #[test]
 fn a_name_with_a_dash(rt: HostRuntime) {
     let line = "replay -- -p -- t c";
     let files = [("-p", THREE)];
-    assert!(rt; ends(rt.alloc(), line, &files, 3, b"state: absent\n").unwrap_or(false));
+    assert!(rt; ends(&rt, rt.alloc(), line, &files, 3, b"state: absent\n").unwrap_or(false));
 }
 
 /// Lines that `record` takes.
@@ -111,16 +116,16 @@ const JOBS: Files<'static> = &[
 #[test]
 fn words_of_record(rt: HostRuntime) {
     let line = b"recorded: requests 2, groups 1\n";
-    assert!(rt; all_end(rt.alloc(), &RECORDED, JOBS, 0, line).unwrap_or(false));
+    assert!(rt; all_end(&rt, rt.alloc(), &RECORDED, JOBS, 0, line).unwrap_or(false));
 }
 
 #[test]
 fn odd_turns(rt: HostRuntime) {
     let line = b"turns: absent\n";
-    assert!(rt; all_end(rt.alloc(), &NO_TURNS, JOBS, 3, line).unwrap_or(false));
+    assert!(rt; all_end(&rt, rt.alloc(), &NO_TURNS, JOBS, 3, line).unwrap_or(false));
 }
 
 #[test]
 fn refused_words_of_record(rt: HostRuntime) {
-    assert!(rt; all_end(rt.alloc(), &NOT_RECORDED, JOBS, 2, b"usage\n").unwrap_or(false));
+    assert!(rt; all_end(&rt, rt.alloc(), &NOT_RECORDED, JOBS, 2, b"usage\n").unwrap_or(false));
 }

@@ -3,11 +3,11 @@ use Rattle.std.specs.Prelude.{ℕ, ◌+◌, ◌^◌, Bool, true, ◌&&◌, not, 
 use Rattle.std.specs.Fmt.{decimal}
 use Rattle.std.specs.Str.{bytes_eq}
 use Rattle.std.specs.Str.Parse.{digits_value}
+use Rattle.claims.specs.declared.workers.TheConstants.{MOST_WORKERS}
 use Rattle.basis.specs.Options.{◌>>=◌}
 use Rattle.clap.specs.Simple.{App, new_app, on_top, with_rule}
 use Rattle.clap.specs.Walk.{Rule}
 use Rattle.command_words.specs.WordsApp.{name_rule, option_rule, taken}
-use Rattle.command_words.specs.declared.record_words.TheConstants.{MOST_WORKERS}
 
 -- the names of the files, with that of the turns where there is one, how many workers there are, and the seed
 pub record RecordWords : Type 0 where

@@ -1,11 +1,11 @@
-ghost use Rattle.std.specs.Prelude.{◌≡◌, ◌∷◌, [], map, option_map, IfOk, Some, None, if◌then◌else◌, string_bytes};
+ghost use Rattle.std.specs.Prelude.{◌≡◌, ◌∷◌, [], map, option_map, IfOk, string_bytes};
 ghost use Rattle.clap.specs.Matches.{first_value, found_of};
 ghost use Rattle.clap.specs.Simple.{app_of};
 ghost use Rattle.command_words.specs.AuditWords.{audit_app, taken_words, words_in, words_of};
-ghost use Rattle.command_words.specs.RecordWords.{are_workers};
 ghost use Rattle.command_words.specs.NamesView.{audit_words_of};
 
-use crate::record_words::{are_workers, number_or};
+use crate::record_words::{number_or, workers_of};
+use claims::Workers;
 use clap::error::ErrorKind;
 use clap::{Arg, ArgMatches, Command};
 use std::alloc::{AllocError, Global};
@@ -19,7 +19,7 @@ pub struct AuditWords<'a> {
     pub trace: &'a str,
     pub report: &'a str,
     pub schedule: &'a str,
-    pub workers: u32,
+    pub workers: Workers,
 }
 
 /// What these words say behind `audit`, where they are its words.
@@ -64,17 +64,6 @@ fn sound_words<'a>(matches: &ArgMatches<'a>, workers: Option<u64>) -> Option<Aud
         schedule: matches.get_str("schedule")?,
         workers: workers_of(workers?)?,
     })
-}
-
-/// This number of workers, where there may be so many.
-fn workers_of(count: u64) -> Option<u32>
-    ensures { result ≡ (if are_workers count then Some count else None) }
-{
-    if are_workers(count) {
-        Some(count as u32)
-    } else {
-        None
-    }
 }
 
 /// The words behind `audit`.

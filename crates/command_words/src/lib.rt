@@ -6,5 +6,5 @@ mod record_words;
 mod words;
 
 pub use audit_words::AuditWords;
-pub use record_words::{MOST_WORKERS, RecordWords, workers_in_digits};
+pub use record_words::RecordWords;
 pub use words::{ReplayNames, Words};

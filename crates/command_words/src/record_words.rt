@@ -1,20 +1,13 @@
-ghost use Rattle.std.specs.Prelude.{◌≡◌, ◌∷◌, [], map, option_map, IfOk, string_bytes};
+ghost use Rattle.std.specs.Prelude.{◌≡◌, ◌∷◌, [], map, option_map, IfOk, Some, None, if◌then◌else◌, string_bytes};
 ghost use Rattle.clap.specs.Matches.{first_value, found_of};
 ghost use Rattle.clap.specs.Simple.{app_of};
 ghost use Rattle.command_words.specs.RecordWords.{are_workers, number_of, number_or, record_app, taken_words, words_in, words_of};
 ghost use Rattle.command_words.specs.NamesView.{record_words_of};
 
+use claims::Workers;
 use clap::error::ErrorKind;
 use clap::{Arg, ArgMatches, Command};
 use std::alloc::{AllocError, Global};
-
-/// How many workers there may be.
-pub const MOST_WORKERS: u64 = 16;
-
-/// That number in digits, as docs/formats.md has it.
-pub fn workers_in_digits()
-    ensures { MOST_WORKERS ≡ 16 }
-{}
 
 /// What `record` is asked: the names of its files, with that of the turns where there is one, how
 /// many workers run the jobs, and the seed of the dice.
@@ -26,7 +19,7 @@ pub struct RecordWords<'a> {
     pub trace: &'a str,
     pub report: &'a str,
     pub turns: Option<&'a str>,
-    pub workers: u64,
+    pub workers: Workers,
     pub seed: u64,
 }
 
@@ -76,28 +69,21 @@ fn sound_words<'a>(
         trace: matches.get_str("trace")?,
         report: matches.get_str("report")?,
         turns: matches.get_str("turns"),
-        workers: workers?,
+        workers: workers_of(workers?)?,
         seed: seed?,
     };
-    if words.is_sound() { Some(words) } else { None }
-}
-
-impl RecordWords<'_> {
-    ghost use Rattle.command_words.specs.RecordWords.{is_sound};
-
-    /// Whether the trace and the report have different names, and the workers are in their range.
-    fn is_sound(&self) -> bool
-        ensures { result ≡ is_sound (record_words_of self.now) }
-    {
-        self.trace != self.report && are_workers(self.workers)
+    if words.trace == words.report {
+        None
+    } else {
+        Some(words)
     }
 }
 
-/// Whether there may be so many workers.
-pub(crate) fn are_workers(count: u64) -> bool
-    ensures { result ≡ are_workers count }
+/// This number of workers, where there may be so many.
+pub(crate) fn workers_of(count: u64) -> Option<Workers>
+    ensures { result ≡ (if are_workers count then Some count else None) }
 {
-    0 < count && count <= MOST_WORKERS
+    Workers::new(u32::try_from(count).ok()?)
 }
 
 /// The number of an option, and this one where it isn't given.

@@ -1,5 +1,5 @@
 -- Words come to one outcome over the same files.
-use Rattle.std.proofs.Common.{◌≡◌, ◌∙◌, ℕ, List, [], Option, Some, None, Result, Ok, Err, inl, inr, ap, sym, subst}
+use Rattle.std.proofs.Common.{◌≡◌, ◌∙◌, ℕ, List, Option, Some, None, Result, Ok, Err, inl, inr, ap, sym, subst}
 use Rattle.std.specs.FinMap.{get}
 use Rattle.outside.specs.Files.{Files}
 use Rattle.wire.specs.declared.limits.TheConstants.{MOST_FILE_BYTES, MOST_SCHEDULE_BYTES}
@@ -22,11 +22,13 @@ use Rattle.command_words.specs.AuditWords.{AuditWords, audit_words}
 use Rattle.command_words.specs.RecordWords.{RecordWords, record_words}
 use Rattle.command_words.specs.Words.{ReplayNames, check_name, replay_names}
 use Rattle.commands.specs.Audits.{accepted, group_count, IsAudited, IsJudged, IsVerdict, AuditWithProgram, AuditWithTrace, AuditWithState}
-use Rattle.commands.specs.Laws.{IsOneOutcome, IsSettled}
-use Rattle.commands.specs.Outcome.{IsCheckedFile, IsCounted, IsFound, IsOfJobs, IsOutcomeOf, IsRecording, IsReplayed, RecordWithJobs, RecordWithProgram, ReplayWithProgram, RecordWithState, ReplayWithState, ReplayWithTrace, RecordWithTurns}
+use Rattle.commands.specs.Laws.{IsOneOutcome, IsSettled, IsSettledFor}
+use Rattle.commands.specs.Outcome.{IsCheckedFile, IsCounted, IsFound, IsOfJobs, IsOutcomeOf, IsRecording, IsReplayed, RecordWithJobs, RecordWithProgram, ReplayWithProgram, RecordWithState, ReplayWithState, ReplayWithTrace, RecordInWay}
 use Rattle.commands.specs.Outputs.{Outcome, says}
 use Rattle.commands.specs.WithInput.{WithInput}
 use Rattle.commands.specs.declared.answer.Answer.TheVariants as answer
+use Rattle.commands.specs.declared.recording.Way.{Way}
+use Rattle.commands.specs.declared.recording.Way.TheVariants.{ByTurns}
 use Rattle.commands.proofs.OneRecording.{one_recording}
 
 -- there is one outcome at most
@@ -88,22 +90,24 @@ module _ (one : AreReadOneWay) (files : Files) where
   one_check name =
       past_input (program_input MOST_FILE_BYTES) (get files name) IsCounted (one.programs MOST_FILE_BYTES) (λ program x y h k. h ∙ sym k)
 
-  one_with_turns : (name : Option (List ℕ)) (next : List ℕ → Outcome → Type 0)
-      → ((turns : List ℕ) → IsOne (next turns)) → IsOne (RecordWithTurns files name next)
-  one_with_turns None next each = each []
-  one_with_turns (Some name) next each = past_input (turns_input MOST_FILE_BYTES) (get files name) next (one.turns MOST_FILE_BYTES) each
+  one_by_turns : (name : Option (List ℕ)) (workers : ℕ) (next : Way → Outcome → Type 0) (turns_name : List ℕ) → name ≡ Some turns_name
+      → ((turns : List ℕ) → IsOne (next (ByTurns turns))) → IsOne (RecordInWay files name workers next)
+  one_by_turns None workers next turns_name named each = absurd cc
+  one_by_turns (Some name) workers next turns_name named each =
+      past_input (turns_input MOST_FILE_BYTES) (get files name) (λ turns. next (ByTurns turns)) (one.turns MOST_FILE_BYTES) each
 
-  one_record : RunsAreOne → (n : ℕ) (w : RecordWords) → IsOne (IsRecording (Some n) files w)
-  one_record runs n w =
+  one_record : RunsAreOne → (n : ℕ) (w : RecordWords) (turns_name : List ℕ) → w.turns ≡ Some turns_name → IsOne (IsRecording (Some n) files w)
+  one_record runs n w turns_name named =
       past_input (program_input MOST_FILE_BYTES) (get files w.program) (RecordWithProgram (Some n) files w) (one.programs MOST_FILE_BYTES)
       (λ program. past_input (state_input program MOST_FILE_BYTES) (get files w.state)
       (RecordWithState (Some n) files w program) (one.states program MOST_FILE_BYTES)
       (λ start. past_input (requests_input MOST_FILE_BYTES) (get files w.requests)
       (RecordWithJobs (Some n) files w program start) (one.requests MOST_FILE_BYTES)
-      (λ jobs. one_with_turns w.turns (IsOfJobs (Some n) w program start jobs) (one_recording runs n w program start jobs))))
+      (λ jobs. one_by_turns w.turns w.workers (IsOfJobs (Some n) w program start jobs) turns_name named (one_recording runs n w program start jobs))))
 
-  one_settled : RunsAreOne → (w : RecordWords) (reading : Option ℕ) → IsSettled (Some w) reading → IsOne (IsRecording reading files w)
-  one_settled runs w reading settled = subst (λ r. IsOne (IsRecording r files w)) (sym settled.1) (one_record runs settled.0 w)
+  one_settled : RunsAreOne → (w : RecordWords) (reading : Option ℕ) → IsSettledFor w reading → IsOne (IsRecording reading files w)
+  one_settled runs w reading settled =
+      subst (λ r. IsOne (IsRecording r files w)) (sym settled.stands_still) (one_record runs settled.shown w settled.turns_name settled.by_turns)
 
   by_words : RunsAreOne → (reading : Option ℕ) (names : Option ReplayNames) (name : Option (List ℕ)) (w : Option RecordWords) (a : Option AuditWords)
       → IsSettled w reading → IsOne (IsOutcomeOf reading files names name w a)

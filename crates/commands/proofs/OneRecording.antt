@@ -1,4 +1,4 @@
--- Jobs come to one outcome, where the clock stands still.
+-- Jobs that are run by turns come to one outcome, where the clock stands still.
 use Rattle.std.proofs.Common.{◌≡◌, ◌∙◌, ◌⊎◌, ℕ, List, [], ◌∷◌, length, Some, inl, inr, ap, sym, subst, arith}
 use Rattle.script_tree.specs.Objects.{Objects}
 use Rattle.script_tree.specs.Programs.{Program}
@@ -21,6 +21,7 @@ use Rattle.command_words.specs.RecordWords.{RecordWords}
 use Rattle.commands.specs.Outcome.{IsOfJobs, IsPastLimit, IsWritten, written}
 use Rattle.commands.specs.Outputs.{Outcome, says}
 use Rattle.commands.specs.declared.answer.Answer.TheVariants as answer
+use Rattle.commands.specs.declared.recording.Way.TheVariants.{ByTurns}
 
 -- a file within the limit isn't longer
 not_longer : {A : Type 0} (format : Format A) (items : List A) (bytes : List ℕ) → IsFileWithin format MOST_FILE_BYTES items bytes → IsTooLong format items → ⊥
@@ -55,7 +56,7 @@ module _ (g h : List Happening) (traces : trace_of g ≡ trace_of h) (reports : 
 
 -- there is one outcome of the jobs at most
 pub one_recording : RunsAreOne → (n : ℕ) (w : RecordWords) (program : Program) (start : Objects) (jobs : List Request) (turns : List ℕ) (x y : Outcome)
-    → IsOfJobs (Some n) w program start jobs turns x → IsOfJobs (Some n) w program start jobs turns y → x ≡ y
+    → IsOfJobs (Some n) w program start jobs (ByTurns turns) x → IsOfJobs (Some n) w program start jobs (ByTurns turns) y → x ≡ y
 unfolding trace_of report_of
 one_recording one n w program start jobs turns x y p q = by p.2 q.2
   where

@@ -1,5 +1,5 @@
 -- The inputs of a recording, one after another.
-use Rattle.std.proofs.Common.{◌≡◌, ℕ, List, Option, Some, None, Result, Ok, Err, sym, subst, inl, inr}
+use Rattle.std.proofs.Common.{◌≡◌, ℕ, List, Option, Some, None, Result, Ok, Err, IfOk, sym, subst, inl, inr}
 use Rattle.std.specs.FinMap.{get}
 use Rattle.std.specs.Result.{IsErrAnd}
 use Rattle.basis.specs.declared.or_memory.OrMemory.{OrMemory}
@@ -10,7 +10,7 @@ use Rattle.script_tree.specs.Programs.{Program}
 use Rattle.script_tree.specs.Requests.{Request}
 use Rattle.wire.specs.declared.limits.TheConstants.{MOST_FILE_BYTES}
 use Rattle.history.specs.declared.happening.Happening.{Happening}
-use Rattle.turns.specs.Run.{IsRunOf}
+use Rattle.turns.specs.Run.{KeepsRun}
 use Rattle.trace_and_report.specs.Recorded.{AreFilesOf, IsRecorded}
 use Rattle.trace_and_report.specs.declared.recorded.Recorded.{Recorded as TraceAndReport}
 use Rattle.trace_and_report.specs.declared.recorded.TooLong.{TooLong as Which}
@@ -20,8 +20,11 @@ use Rattle.command_inputs.specs.Requests.{requests_input}
 use Rattle.command_inputs.specs.State.{state_input}
 use Rattle.command_inputs.specs.declared.fault.InputError.{InputError}
 use Rattle.command_words.specs.RecordWords.{RecordWords}
-use Rattle.commands.specs.Outcome.{IfFound, IfTurns, IsOfJobs, IsRecording, RecordWithJobs, RecordWithProgram, RecordWithState, RecordWithTurns, written}
+use Rattle.commands.specs.Outcome.{IfFound, IfWay, IsOfJobs, IsRecording, RecordInWay, RecordWithJobs, RecordWithProgram, RecordWithState, written}
 use Rattle.commands.specs.Outputs.{Outcome, says}
+use Rattle.commands.specs.Ways.{IsRunBy, IsWayOf}
+use Rattle.commands.specs.declared.recording.Way.{Way}
+use Rattle.commands.specs.declared.recording.Way.TheVariants.{ByTurns, ByWorkers}
 use Rattle.commands.specs.declared.answer.Answer.TheVariants.{TooLong}
 use Rattle.commands.proofs.Steps.{goes_on, ends}
 
@@ -60,40 +63,51 @@ module _ (reading : Option ℕ) (files : Files) (w : RecordWords) (program : Pro
     past_jobs r h = past_state r (goes_on (λ o. o) _ _ jobs (RecordWithJobs reading files w program start) r spelled h)
 
     -- the turns weren't read
-    pub turns_fail : (e : InputError) (r : Result Outcome InputError) → IfTurns files w.turns (Err e) → IsErrAnd r (λ passed. passed ≡ e)
+    pub turns_fail : (e : InputError) (r : Result Outcome InputError) → IfWay files w.turns w.workers (Err e) → IsErrAnd r (λ passed. passed ≡ e)
         → IfFound (λ o. o) (IsRecording reading files w) r
     turns_fail e r read is = past_jobs r (by w.turns read)
       where
-        by : (name : Option (List ℕ)) → IfTurns files name (Err e) → IfFound (λ o. o) (RecordWithTurns files name (IsOfJobs reading w program start jobs)) r
+        by : (name : Option (List ℕ)) → IfWay files name w.workers (Err e) → IfFound (λ o. o) (RecordInWay files name w.workers (IsOfJobs reading w program start jobs)) r
         by None read = absurd read
-        by (Some name) read = ends (λ o. o) (λ (turns : List ℕ). turns) _ _ (IsOfJobs reading w program start jobs) e r read is
+        by (Some name) read = ends (λ o. o) (λ (turns : List ℕ). turns) _ _ (λ turns. IsOfJobs reading w program start jobs (ByTurns turns)) e r read is
 
     -- all of them were read, and this is the outcome
-    pub recorded : (turns : List ℕ) (outcome : Outcome) → IfTurns files w.turns (Ok turns) → IsOfJobs reading w program start jobs turns outcome
+    pub recorded : (way : Way) (outcome : Outcome) → IsWayOf files w.turns w.workers way → IsOfJobs reading w program start jobs way outcome
         → IsRecording reading files w outcome
-    recorded turns outcome read made = past_jobs (Ok outcome) (by w.turns read)
+    recorded way outcome read made = past_jobs (Ok outcome) (by w.turns read)
       where
-        by : (name : Option (List ℕ)) → IfTurns files name (Ok turns) → RecordWithTurns files name (IsOfJobs reading w program start jobs) outcome
-        by None none = subst (λ ts. IsOfJobs reading w program start jobs ts outcome) none made
-        by (Some name) read = inr (turns, read, made)
+        is_of : (other : Way) → way ≡ other → IsOfJobs reading w program start jobs other outcome
+        is_of other same = subst (λ it. IsOfJobs reading w program start jobs it outcome) same made
+
+        by : (name : Option (List ℕ)) → IsWayOf files name w.workers way → RecordInWay files name w.workers (IsOfJobs reading w program start jobs) outcome
+        by None is = is_of (ByWorkers w.workers) is
+        by (Some name) is = inr (is.0, is.1, is_of (ByTurns is.0) is.2)
+
+-- ---- what each way gives
+
+module _ {J E : Type 0} (keeps : List Happening → J → Type 0) (program : Program) (start : Objects) (jobs : List Request) (seed : ℕ) (reading : Option ℕ)
+    (way : Way) (result : Result J E) where
+  abbrev Keeps : Way → Type 0
+  Keeps it = IfOk result (KeepsRun keeps (IsRunBy it program start jobs seed reading))
+
+  pub by_turns : (turns slice : List ℕ) → way ≡ ByTurns turns → slice ≡ turns → Keeps (ByTurns slice) → Keeps way
+  by_turns turns slice is same kept = subst Keeps (sym is) (subst (λ ts. Keeps (ByTurns ts)) same kept)
+
+  pub by_workers : (workers : ℕ) → way ≡ ByWorkers workers → Keeps (ByWorkers workers) → Keeps way
+  by_workers workers is kept = subst Keeps (sym is) kept
 
 -- ---- what record_jobs gives
 
 pub of_files : (reading : Option ℕ) (w : RecordWords) (program : Program) (start : Objects) (jobs : List Request)
-    (turns : List ℕ) (files : TraceAndReport) (outcome : Outcome)
-    → (history : List Happening) × IsRunOf program start jobs turns w.seed reading history × AreFilesOf history files → outcome ≡ written w files
-    → IsOfJobs reading w program start jobs turns outcome
-of_files reading w program start jobs turns files outcome made is = (made.0, made.1, inl (files, made.2, is))
+    (way : Way) (files : TraceAndReport) (outcome : Outcome)
+    → (history : List Happening) × IsRunBy way program start jobs w.seed reading history × AreFilesOf history files → outcome ≡ written w files
+    → IsOfJobs reading w program start jobs way outcome
+of_files reading w program start jobs way files outcome made is = (made.0, made.1, inl (files, made.2, is))
 
 pub of_limit : (reading : Option ℕ) (w : RecordWords) (program : Program) (start : Objects) (jobs : List Request)
-    (turns : List ℕ) (e : OrMemory Which) (which : Which) (outcome : Outcome)
-    → e ≡ Other which → IsRecorded (IsRunOf program start jobs turns w.seed reading) (Err e) → outcome ≡ says (TooLong which)
-    → IsOfJobs reading w program start jobs turns outcome
-of_limit reading w program start jobs turns e which outcome same told is =
-    let made = subst (λ x. IsRecorded (IsRunOf program start jobs turns w.seed reading) (Err x)) same told in
+    (way : Way) (e : OrMemory Which) (which : Which) (outcome : Outcome)
+    → e ≡ Other which → IsRecorded (IsRunBy way program start jobs w.seed reading) (Err e) → outcome ≡ says (TooLong which)
+    → IsOfJobs reading w program start jobs way outcome
+of_limit reading w program start jobs way e which outcome same told is =
+    let made = subst (λ x. IsRecorded (IsRunBy way program start jobs w.seed reading) (Err x)) same told in
     (made.0, made.1, inr (which, made.2, is))
-
--- the turns as a slice of them
-pub by_slice : (reading : Option ℕ) (w : RecordWords) (program : Program) (start : Objects) (jobs : List Request) (turns slice : List ℕ) (outcome : Outcome)
-    → slice ≡ turns → IsOfJobs reading w program start jobs slice outcome → IsOfJobs reading w program start jobs turns outcome
-by_slice reading w program start jobs turns slice outcome same made = subst (λ ts. IsOfJobs reading w program start jobs ts outcome) same made

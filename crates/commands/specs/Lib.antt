@@ -8,4 +8,5 @@ pub mod Outputs
 pub mod Printing
 pub mod Recorded
 pub mod Runs
+pub mod Ways
 pub mod WithInput

@@ -31,10 +31,10 @@ use wire::limits::MOST_FILE_BYTES;
 pub fn audit_files<'w, F: Shelf, G: Gate + Sync>(
     alloc: Global,
     shelf: &mut F,
-    words: AuditWords<'w>,
+    words: &AuditWords<'w>,
     gate: &G,
 ) -> Result<Outcome<'w>, InputError>
-    ensures outcome { let words = audit_words_of words.entry in
+    ensures outcome { let words = audit_words_of words.now in
         ForSome (F.told shelf.old).files (λ files. IfAudited files words result) }
     ensures asked { IfOk result (λ outcome. MayAnswer an_audit outcome.answer) }
     ensures found { IfOk result (λ outcome. ¬ SaysAbsent outcome) }
@@ -50,7 +50,7 @@ pub fn audit_files<'w, F: Shelf, G: Gate + Sync>(
         &start,
         &trace,
         &report,
-        words.workers,
+        words.workers.count(),
         gate,
     )?;
     Ok(judged(alloc, words, &trace, &report, verdict)?)
@@ -81,12 +81,12 @@ fn verdict_on<G: Gate + Sync>(
 /// The outcome of a verdict on this report of this trace.
 fn judged<'w>(
     alloc: Global,
-    words: AuditWords<'w>,
+    words: &AuditWords<'w>,
     trace: &TraceFile,
     report: &Result<Report, u64>,
     verdict: Verdict,
 ) -> Result<Outcome<'w>, AllocError>
-    ensures { let words = audit_words_of words.entry in
+    ensures { let words = audit_words_of words.now in
         IfOk result (IsJudged words trace.now report.now verdict) }
 {
     match verdict {

@@ -3,31 +3,34 @@ ghost use Rattle.std.specs.Option.{ForSome};
 ghost use Rattle.command_inputs.specs.Faults.{UsesToRead};
 ghost use Rattle.command_words.specs.NamesView.{record_words_of};
 ghost use Rattle.commands.specs.Asked.{MayAnswer, a_recording};
-ghost use Rattle.commands.specs.Outcome.{IfRecorded, IfTurns, SaysAbsent, written};
+ghost use Rattle.commands.specs.Outcome.{IfRecorded, IfWay, SaysAbsent, written};
 
 use crate::answer::Answer;
 use crate::outcome::{Outcome, Output};
-use crate::recording::record_jobs;
+use crate::recording::{Way, record_jobs};
 use basis::OrMemory;
+use claims::Workers;
 use command_inputs::{Halt, InputError, read_program, read_requests, read_state, read_turns};
 use command_words::RecordWords;
-use outside::{Clock, Shelf};
+use outside::{Clock, Gate, Shelf};
 use script_check::program::Program;
 use std::alloc::{AllocError, Global};
-use std::sync::Arc;
+use std::sync::{Arc, Wait};
+use std::thread::Threads;
 use trace_and_report::Recorded;
 use wire::limits::MOST_FILE_BYTES;
-use workload::Turns;
 
-/// What comes of the jobs of these files: the trace and the report of them, on one thread. They are
-/// read in the order of the words, the turns last, up to the first one at fault.
-pub fn record_files<'w, F: Shelf, C: Clock>(
+/// What comes of the jobs of these files: the trace and the report of them. They are read in the order
+/// of the words, the turns last, up to the first one at fault.
+pub fn record_files<'w, R: Threads + Wait + Sync, F: Shelf, C: Clock + Sync, G: Gate + Sync>(
+    rt: &R,
     alloc: Global,
     shelf: &mut F,
-    words: RecordWords<'w>,
+    words: &RecordWords<'w>,
     clock: &C,
+    gate: &G,
 ) -> Result<Outcome<'w>, InputError>
-    ensures outcome { let words = record_words_of words.entry in
+    ensures outcome { let words = record_words_of words.now in
         ForSome (F.told shelf.old).files (λ files.
         IfRecorded (C.reading clock.now) files words result) }
     ensures asked { IfOk result (λ outcome. MayAnswer a_recording outcome.answer) }
@@ -38,9 +41,9 @@ pub fn record_files<'w, F: Shelf, C: Clock>(
     let program = shared(alloc, program)?;
     let start = read_state(alloc, shelf, words.state, MOST_FILE_BYTES, &program)?;
     let jobs = read_requests(alloc, shelf, words.requests, MOST_FILE_BYTES)?;
-    let turns = read_named_turns(alloc, shelf, words.turns)?;
-    let turns = turns.as_slice();
-    match record_jobs(alloc, &program, start, jobs, turns, words.seed, clock) {
+    let way = read_way(alloc, shelf, words.turns, words.workers)?;
+    let seed = words.seed;
+    match record_jobs(rt, alloc, &program, start, jobs, way, seed, clock, gate) {
         Ok(recorded) => Ok(written(alloc, words, recorded)?),
         Err(OrMemory::Memory) => Err(InputError::Halt(Halt::Memory)),
         Err(OrMemory::Other(which)) => Ok(Outcome::says(alloc, Answer::TooLong(which))),
@@ -54,29 +57,30 @@ fn shared(alloc: Global, program: Program) -> Result<Arc<Program>, AllocError>
     Ok(Arc::new(alloc, program)?)
 }
 
-/// The turns of the file of this name, and none where there is no name.
-fn read_named_turns<F: Shelf>(
+/// The way of the turns in the file of this name, and that of the workers where there is no name.
+fn read_way<F: Shelf>(
     alloc: Global,
     shelf: &mut F,
-    name: Option<&str>,
-) -> Result<Turns, InputError>
-    ensures turns { let name = option_map (λ n. n.now) name.entry in
-        ForSome (F.told shelf.old).files (λ files. IfTurns files name result) }
+    turns: Option<&str>,
+    workers: Workers,
+) -> Result<Way, InputError>
+    ensures way { let name = option_map (λ n. n.now) turns.entry in
+        ForSome (F.told shelf.old).files (λ files. IfWay files name workers result) }
     ensures used { UsesToRead (F.told shelf.old) (F.told shelf.new) result }
 {
-    match name {
-        Some(name) => read_turns(alloc, shelf, name, MOST_FILE_BYTES),
-        None => Ok(Turns::new(alloc)),
+    match turns {
+        Some(name) => Ok(Way::ByTurns(read_turns(alloc, shelf, name, MOST_FILE_BYTES)?)),
+        None => Ok(Way::ByWorkers(workers)),
     }
 }
 
 /// The outcome of what was recorded: the trace is written first.
 fn written<'w>(
     alloc: Global,
-    words: RecordWords<'w>,
+    words: &RecordWords<'w>,
     recorded: Recorded,
 ) -> Result<Outcome<'w>, AllocError>
-    ensures { let words = record_words_of words.entry in
+    ensures { let words = record_words_of words.now in
         IfOk result (λ outcome. outcome ≡ written words recorded) }
 {
     let answer = Answer::Recorded {

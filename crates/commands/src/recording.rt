@@ -1,42 +1,92 @@
+ghost use Rattle.std.specs.Prelude.{[], IfOk};
+ghost use Rattle.script_code.specs.Translated.{IsCodeOf};
 ghost use Rattle.object_set.specs.ObjectSets.{IsSetOf, objects_of};
-ghost use Rattle.turns.specs.Run.{IsRunOf};
 ghost use Rattle.trace_and_report.specs.Recorded.{IsRecorded};
+ghost use Rattle.turns.specs.Run.{KeepsRun};
+ghost use Rattle.commands.specs.Ways.{IsRunBy};
 
 use basis::OrMemory;
+use claims::Workers;
+use history::Journal;
 use object_set::ObjectSet;
-use outside::Clock;
+use outside::{Clock, Gate};
 use script_check::program::Program;
-use script_code::translate::translate;
-use std::alloc::Global;
-use std::sync::Arc;
+use script_code::translate::{Code, translate};
+use server_workers::serve_jobs;
+use std::alloc::{AllocError, Global};
+use std::sync::{Arc, Wait};
+use std::thread::Threads;
 use trace_and_report::{FileJournal, Recorded, TooLong};
 use turns::run_turns;
-use workload::{Requests, Turn};
+use workload::{Requests, Turns};
 
-/// The trace and the report of jobs that run by turns. Ids, counts and lengths that 32 bits don't
-/// hold are answered as want of memory.
-pub fn record_jobs<C: Clock>(
+/// How jobs are run: on one thread, with these turns first, or by so many workers at once.
+#[derive(Drop)]
+pub enum Way {
+    ByTurns(Turns),
+    ByWorkers(Workers),
+}
+
+/// The trace and the report of jobs that run in a way. Ids, counts and lengths that 32 bits don't hold
+/// are answered as want of memory.
+pub fn record_jobs<R: Threads + Wait + Sync, C: Clock + Sync, G: Gate + Sync>(
+    rt: &R,
     alloc: Global,
     program: &Arc<Program>,
     start: ObjectSet,
     jobs: Requests,
-    turns: &[Turn],
+    way: Way,
     seed: u64,
     clock: &C,
+    gate: &G,
 ) -> Result<Recorded, OrMemory<TooLong>>
     requires { IsSetOf program.now.value start }
     ensures { let objects = objects_of start in
-        let IsRun = IsRunOf program.now.value objects jobs turns.now seed (C.reading clock.now) in
+        let IsRun = IsRunBy way program.now.value objects jobs seed (C.reading clock.now) in
         IsRecorded IsRun result }
 {
     let code = translate(alloc, program)?;
     let journal = FileJournal::new(alloc)?;
-    let journal = run_turns(
-        alloc, program, &code, start, jobs, turns, seed, clock, journal,
+    let journal = run_jobs(
+        rt, alloc, program, code, start, jobs, way, seed, clock, gate, journal,
     )?;
     let recorded = journal.finish()?;
     match recorded.too_long() {
         Some(which) => Err(OrMemory::Other(which)),
         None => Ok(recorded),
+    }
+}
+
+/// Runs the jobs in a way, and gives what happens to the journal.
+fn run_jobs<R: Threads + Wait + Sync, C: Clock + Sync, G: Gate + Sync, J: Journal>(
+    rt: &R,
+    alloc: Global,
+    program: &Arc<Program>,
+    code: Code,
+    start: ObjectSet,
+    jobs: Requests,
+    way: Way,
+    seed: u64,
+    clock: &C,
+    gate: &G,
+    journal: J,
+) -> Result<J, AllocError>
+    requires code { IsCodeOf program.now.value code }
+    requires start { IsSetOf program.now.value start }
+    requires nothing_kept { J.keeps [] journal }
+    ensures { let objects = objects_of start in
+        let IsRun = IsRunBy way program.now.value objects jobs seed (C.reading clock.now) in
+        IfOk result (KeepsRun J.keeps IsRun) }
+{
+    match way {
+        Way::ByTurns(turns) => {
+            let turns = turns.as_slice();
+            run_turns(
+                alloc, program, &code, start, jobs, turns, seed, clock, journal,
+            )
+        }
+        Way::ByWorkers(workers) => serve_jobs(
+            rt, alloc, program, code, start, jobs, workers, seed, clock, gate, journal,
+        ),
     }
 }

@@ -26,10 +26,13 @@ use outside::{Clock, Gate, House, Shelf, Sink};
 use replayer::law::agreement;
 use schedule_limit::law::schedule_fits;
 use std::alloc::Global;
+use std::sync::Wait;
+use std::thread::Threads;
 
 /// What the words ask for, over the files of a shelf. It puts the files that it makes under their
 /// names, writes one line to `out`, or a front part of it where it can't, and answers the status.
-pub fn run<F: Shelf, O: Sink, H: House, C: Clock + Sync, G: Gate + Sync>(
+pub fn run<R: Threads + Wait + Sync, F: Shelf, O: Sink, H: House, C: Clock + Sync, G: Gate + Sync>(
+    rt: &R,
     alloc: Global,
     words: &Words,
     shelf: &mut F,
@@ -77,7 +80,7 @@ pub fn run<F: Shelf, O: Sink, H: House, C: Clock + Sync, G: Gate + Sync>(
     recorded_is_accepted();
     traces_are_balanced();
     one_way();
-    match outcome_of(alloc, words, shelf, clock, gate) {
+    match outcome_of(rt, alloc, words, shelf, clock, gate) {
         Ok(outcome) => carry_out(alloc, shelf, out, outcome),
         Err(halt) => halt.status(),
     }
@@ -106,7 +109,8 @@ fn carry_out<F: Shelf, O: Sink>(
 }
 
 /// The outcome of the words over the files. The fault of an input is an answer too.
-fn outcome_of<'w, F: Shelf, C: Clock, G: Gate + Sync>(
+fn outcome_of<'w, R: Threads + Wait + Sync, F: Shelf, C: Clock + Sync, G: Gate + Sync>(
+    rt: &R,
     alloc: Global,
     words: &'w Words,
     shelf: &mut F,
@@ -119,7 +123,7 @@ fn outcome_of<'w, F: Shelf, C: Clock, G: Gate + Sync>(
     ensures used { UsesShelf (F.told shelf.old) (F.told shelf.new) (result ≡ Err Failed)
         (IsOkAnd result SaysAbsent) }
 {
-    match found_by(alloc, words, shelf, clock, gate) {
+    match found_by(rt, alloc, words, shelf, clock, gate) {
         Ok(outcome) => Ok(outcome),
         Err(InputError::Fault(fault)) => Ok(Outcome::says(alloc, Answer::Input(fault))),
         Err(InputError::Halt(halt)) => Err(halt),
@@ -127,7 +131,8 @@ fn outcome_of<'w, F: Shelf, C: Clock, G: Gate + Sync>(
 }
 
 /// The outcome of the words over the files, where no input is at fault.
-fn found_by<'w, F: Shelf, C: Clock, G: Gate + Sync>(
+fn found_by<'w, R: Threads + Wait + Sync, F: Shelf, C: Clock + Sync, G: Gate + Sync>(
+    rt: &R,
     alloc: Global,
     words: &'w Words,
     shelf: &mut F,
@@ -149,11 +154,14 @@ fn found_by<'w, F: Shelf, C: Clock, G: Gate + Sync>(
         let counts = check_file(alloc, shelf, name)?;
         return Ok(Outcome::says(alloc, Answer::Checked(counts)));
     }
-    if let Some(words) = words.record_words(alloc)? {
-        return record_files(alloc, shelf, words, clock);
+    match words.record_words(alloc) {
+        Ok(Some(words)) => return record_files(rt, alloc, shelf, &words, clock, gate),
+        Ok(None) => {}
+        Err(error) => return Err(error.into()),
     }
-    if let Some(words) = words.audit_words(alloc)? {
-        return audit_files(alloc, shelf, words, gate);
+    match words.audit_words(alloc) {
+        Ok(Some(words)) => audit_files(alloc, shelf, &words, gate),
+        Ok(None) => Ok(Outcome::says(alloc, Answer::Usage)),
+        Err(error) => Err(error.into()),
     }
-    Ok(Outcome::says(alloc, Answer::Usage))
 }

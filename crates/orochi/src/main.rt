@@ -10,6 +10,7 @@ use outside::{MemHouse, OpenGate};
 use outside_os::{FileShelf, StdSink, SystemClock};
 use std::io::ErrorKind;
 use std::process::ExitCode;
+use std::sync::Wait;
 use std::thread::{Builder, Threads};
 use std::{env, io};
 
@@ -21,18 +22,19 @@ const NOT_BEGUN: u8 = 5;
 const STACK_BYTES: usize = 268_435_456;
 
 fn main(rt: HostRuntime) -> ExitCode {
-    ExitCode::from(match rt.clone() {
-        Ok(inner) => exit_status(on_large_stack(&rt, inner)),
-        Err(_) => NOT_BEGUN,
-    })
+    let on_large_stack = || -> io::Result<u8> {
+        let (threads, inner) = two_of(&rt)?;
+        let work = Builder::new()
+            .stack_size(STACK_BYTES)
+            .spawn(&rt, move || exit_status(status_of(&threads, inner)))?;
+        Ok(work.join(&rt))
+    };
+    ExitCode::from(exit_status(on_large_stack()))
 }
 
-/// The status of the program, which runs in a thread of its own.
-fn on_large_stack(rt: &impl Threads, inner: HostRuntime) -> io::Result<u8> {
-    let work = Builder::new()
-        .stack_size(STACK_BYTES)
-        .spawn(rt, move || exit_status(status_of(inner)))?;
-    Ok(work.join(rt))
+/// The runtime, once for threads and once for all else.
+fn two_of(rt: &HostRuntime) -> io::Result<(HostRuntime, HostRuntime)> {
+    Ok((rt.clone()?, rt.clone()?))
 }
 
 /// The status of the program, where what was asked ended so, or did not begin.
@@ -53,7 +55,7 @@ fn words_of(rt: &HostRuntime) -> io::Result<Words> {
 }
 
 /// The status of what the words ask, with the system's files, standard output and clock.
-fn status_of(rt: HostRuntime) -> io::Result<u8> {
+fn status_of<R: Threads + Wait + Sync>(threads: &R, rt: HostRuntime) -> io::Result<u8> {
     let alloc = rt.alloc();
     let words = words_of(&rt)?;
     let mut out = StdSink::new(rt.stdout());
@@ -61,6 +63,6 @@ fn status_of(rt: HostRuntime) -> io::Result<u8> {
     let mut shelf = FileShelf::new(rt);
     let mut house = MemHouse::new(alloc, Vec::new(alloc), Vec::new(alloc));
     Ok(run(
-        alloc, &words, &mut shelf, &mut out, &mut house, &clock, &OpenGate,
+        threads, alloc, &words, &mut shelf, &mut out, &mut house, &clock, &OpenGate,
     ))
 }

@@ -14,7 +14,7 @@ use Rattle.turns.specs.Offers.{AreRolled, rolls_at}
 use Rattle.server_workers.specs.Courses.{Course, IsSound, RecorderCall, SeatView}
 use Rattle.server_workers.specs.Jobs.{request_at}
 use Rattle.server_workers.specs.Openings.{open_after, open_at}
-use Rattle.server_workers.specs.Workers.{AreElsewhere, HaveServed, Settings}
+use Rattle.server_workers.specs.Workers.{AreElsewhere, ComeFrom, HaveServed, Settings}
 use Rattle.server_workers.proofs.Courses.{are_rolled, arrivals-append, no_calls, no_rolls, rolls-append}
 
 -- ---- one worker
@@ -23,7 +23,7 @@ use Rattle.server_workers.proofs.Courses.{are_rolled, arrivals-append, no_calls,
 abbrev Told : ℕ → ℕ → Type 0
 Told number seat = ((eqb number seat ≡ true) × (number ≡ seat)) ⊎ ((eqb number seat ≡ false) × (number ≢ seat))
 
-elsewhere : (number seat : ℕ) (calls : List RecorderCall) → number ≢ seat → All (λ c. c.seat ≡ number) calls → AreElsewhere seat calls
+pub elsewhere : (number seat : ℕ) (calls : List RecorderCall) → number ≢ seat → ComeFrom number calls → AreElsewhere seat calls
 elsewhere number seat calls ne own = λ k d below e. ne (sym (own k d below) ∙ e)
 
 module _ (s : Settings) (drawn : List ℕ) (v w : SeatView) (dice : ChaCha) (none : v.calls ≡ [])
@@ -31,11 +31,8 @@ module _ (s : Settings) (drawn : List ℕ) (v w : SeatView) (dice : ChaCha) (non
   calls_are : w.calls ≡ course.calls
   calls_are = course.made ∙ ap (λ l. l ++ course.calls) none
 
-  own : All (λ c. c.seat ≡ v.number) w.calls
-  own = subst (All (λ c. c.seat ≡ v.number)) (sym calls_are) course.own
-
-  pub own_others : (seat : ℕ) → seat ≢ v.number → AreElsewhere seat w.calls
-  own_others seat ne = elsewhere v.number seat w.calls (λ e. ne (sym e)) own
+  pub own : ComeFrom v.number w.calls
+  own = subst (ComeFrom v.number) (sym calls_are) course.own
 
   closed_at : (seat : ℕ) → Told v.number seat → open_after None (calls_by seat w.calls) ≡ None
   closed_at seat (inl (e, here)) = ap (λ n. open_after None (calls_by n w.calls)) (sym here ∙ sym course.same.number) ∙ empty

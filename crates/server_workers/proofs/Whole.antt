@@ -1,5 +1,5 @@
 -- From all that was called to what is told of the whole.
-use Rattle.std.proofs.Common.{◌≡◌, ◌∙◌, ℕ, List, [], ◌∷◌, map, length, cond, Bool, true, false, eqb, Option, Some, None, refl, ap, sym, subst}
+use Rattle.std.proofs.Common.{◌≡◌, ◌∙◌, ℕ, ◌+◌, ◌<◌, arith, List, [], ◌∷◌, map, length, cond, Bool, true, false, eqb, Option, Some, None, refl, ap, sym, subst}
 use Rattle.std.specs.Prelude.{All, ℤ, filter_map, IsPermutation}
 use Rattle.std.specs.List.{cons_option}
 use Rattle.std.proofs.lemmas.Bool.{eqb-false}
@@ -16,14 +16,16 @@ use Rattle.script_tree.specs.Requests.{Request, request_with}
 use Rattle.script_tree.specs.declared.operation.Act.{Act as Deed}
 use Rattle.script_tree.specs.declared.operation.Act.TheVariants.{Read, Write, Get, Put, Remove, Transact, Now, Roll}
 use Rattle.history.specs.Arrivals.{arrival_in, arrivals}
-use Rattle.history.specs.Histories.{RunsAreLegal, happening_in, history_of}
+use Rattle.history.specs.Histories.{RunsAreLegal, happening_by, happening_in, history_of}
 use Rattle.history.specs.Journals.{CanHappen}
 use Rattle.history.specs.Recordings.{Recorded, Takes, choice_of, happening_at, room_of}
 use Rattle.history.specs.Rooms.{Room, empty_room, onward, room_after}
 use Rattle.history.specs.declared.event.Event.{Event}
 use Rattle.history.specs.declared.event.Event.TheVariants as asks
+use Rattle.history.specs.declared.event.Reply.{Reply}
 use Rattle.history.specs.declared.happening.Happening.{Happening}
 use Rattle.history.proofs.Legal.{reply_tells}
+use Rattle.turns.specs.ByTurns.{seat_in}
 use Rattle.turns.specs.Drawn.{IsShown}
 use Rattle.turns.specs.Offers.{AreReadings, AreRolled, IsReading, IsReadingOf, roll_at, rolls_at}
 use Rattle.server_workers.specs.Courses.{IsOfClock, IsSound, RecorderCall}
@@ -58,6 +60,16 @@ each_once s drawn calls called same served once =
     IsPermutation-trans _ _ _ as_called
     (subst (λ l. IsPermutation l s.requests) (sym served.came)
     (subst (IsPermutation (map (request_at s.requests) drawn)) (sym (all_requests s.requests)) as_drawn))
+
+-- ---- seats
+
+seat_is : (seat : ℕ) (event : Event) (reply : Reply) → seat_in (happening_by seat event reply) ≡ seat
+seat_is seat (asks.Arrive request) reply = refl
+seat_is seat (asks.Act op offer) reply = refl
+seat_is seat (asks.Depart response path) reply = refl
+
+is_below : (workers : ℕ) (c : RecorderCall) → c.seat + 1 < 1 + workers → seat_in (happening_in c) < workers
+is_below workers c below = omega (arith, below, seat_is c.seat c.event c.reply)
 
 -- ---- rolls
 
@@ -119,6 +131,14 @@ module _ (s : Settings) (drawn : List ℕ) (calls called : List RecorderCall) (s
   pub can_happen : All CanHappen (history_of calls)
   can_happen = All-map CanHappen happening_in calls (λ k d below. (all_sound k d below).can)
 
+  all_seats : (workers : ℕ) → All (λ c. c.seat + 1 < 1 + workers) called → All (λ h. seat_in h < workers) (history_of calls)
+  all_seats workers below =
+      let of_calls : All (λ c. c.seat + 1 < 1 + workers) calls
+      = All-permutation (λ (c : RecorderCall). c.seat + 1 < 1 + workers) called calls
+      (IsPermutation-sym calls called (same_calls_permute calls called same)) below in
+      All-map (λ h. seat_in h < workers) happening_in calls
+      (λ k d within. is_below workers _ (of_calls k d within))
+
   module _ (legal : RunsAreLegal) (old new : Recorded) (start : Objects) (room : room_of old ≡ empty_room start) (runs : Runs Takes old calls new) where
     closed : (seat : ℕ) → (room_after (empty_room start) (history_of calls)).open_at seat ≡ None
     closed seat =
@@ -130,12 +150,14 @@ module _ (s : Settings) (drawn : List ℕ) (calls called : List RecorderCall) (s
         ∙ ap (open_after None) (same seat)
         ∙ served.closed seat
 
-    pub all_served : IsPermutation drawn (numbers_below (length s.requests))
-        → IsServed old.program start s.requests s.seed s.reading (history_of calls)
-    all_served once = record {
+    pub all_served : (workers : ℕ) → All (λ c. c.seat + 1 < 1 + workers) called
+        → IsPermutation drawn (numbers_below (length s.requests))
+        → IsServed old.program start s.requests workers s.seed s.reading (history_of calls)
+    all_served workers below once = record {
       legal = legal.histories old new start calls room runs;
       closed = closed;
       arrive = each_once s drawn calls called same served once;
+      seats = all_seats workers below;
       rolls = λ seat.
           subst (AreRolled (dice_of s.seed seat)) (sym (same_rolls seat calls called same)) (served.rolls seat);
       readings = λ n is.

@@ -1,6 +1,7 @@
 -- The way of a worker, and of all together.
 use Rattle.std.proofs.Common.{◌≡◌, ◌≢◌, ◌∙◌, ℕ, ◌+◌, ◌-◌, ◌<◌, [], ◌∷◌, ◌++◌, map, length, length-append}
 use Rattle.std.proofs.Common.{true, false, eqb, ◌||◌, None, ◌⊎◌, inl, inr, refl, ap, sym, subst, arith}
+use Rattle.std.specs.Prelude.{All}
 use Rattle.std.proofs.lemmas.Bool.Decides.{eqb_tells}
 use Rattle.std.proofs.lemmas.List.{map-append}
 use Rattle.std.proofs.lemmas.List.Elements.{All-append}
@@ -14,10 +15,10 @@ use Rattle.shared_desk.specs.Views.{new_view, seats, with_split}
 use Rattle.server_workers.specs.Courses.{Course, RecorderCall, SeatView}
 use Rattle.server_workers.specs.Jobs.{request_at}
 use Rattle.server_workers.specs.Openings.{open_after, open_at}
-use Rattle.server_workers.specs.Workers.{AreElsewhere, AreJoint, AreOwn, HaveServed, IsFresh, IsWhole, IsWorked, MaySplit, RecorderDesk, Settings}
+use Rattle.server_workers.specs.Workers.{AreElsewhere, AreJoint, AreOwn, ComeFrom, HaveServed, IsFresh, IsWhole, IsWorked, MaySplit, RecorderDesk, Settings}
 use Rattle.server_workers.specs.declared.worker.Seats.{Seats}
 use Rattle.server_workers.proofs.Courses.{and_then, no_course}
-use Rattle.server_workers.proofs.Served.{both_served, own_others, own_served}
+use Rattle.server_workers.proofs.Served.{both_served, elsewhere, own, own_served}
 
 -- ---- one worker
 
@@ -83,7 +84,9 @@ ends s claims desk number before now after dice fresh going is same =
     let drawn : after.claim.view.drawn ≡ now.claim.view.drawn = ap (λ (x : Seat). x.view.drawn) is in
     let served : HaveServed s now.claim.view.drawn (view now.desk).calls
     = own_served s now.claim.view.drawn (view before.desk) (view now.desk) dice fresh.no_call going.course going.empty in
-    let others = own_others s now.claim.view.drawn (view before.desk) (view now.desk) dice fresh.no_call going.course going.empty in
+    let from : ComeFrom number (view now.desk).calls
+    = subst (λ n. ComeFrom n (view now.desk).calls) fresh.number'
+    (own s now.claim.view.drawn (view before.desk) (view now.desk) dice fresh.no_call going.course going.empty) in
     record {
       none_left = ap (λ (x : Seat). x.view.none_left) is;
       parts = ap (λ (x : Seat). x.view.parts) is ∙ going.parts;
@@ -93,8 +96,7 @@ ends s claims desk number before now after dice fresh going is same =
       served =
           subst (λ ns. HaveServed s ns (view after.desk).calls) (sym drawn)
           (subst (λ (v : SeatView). HaveServed s now.claim.view.drawn v.calls) (sym at) served);
-      others = λ seat ne.
-          subst (λ (v : SeatView). AreElsewhere seat v.calls) (sym at) (others seat (λ e. ne (e ∙ fresh.number')));
+      own = subst (λ (v : SeatView). ComeFrom number v.calls) (sym at) from;
     }
 
 -- ---- the first worker, and another
@@ -130,12 +132,14 @@ split_more next workers after fewer before first other split may more is one_les
     let left : first.claim.view.parts ≡ before.claim.view.parts - 1 = ap (λ (x : Seat). x.view.parts) split.rest in
     record {
       next' = omega (arith, off, may.next', is);
+      some = omega (arith, more, one_less);
       room = omega (arith, may.room, is, one_less);
       parts = omega (arith, may.parts, left, one_less, more);
     }
 
-pub first_alone : (s : Settings) (next : ℕ) (before after : Seats) → IsFresh 0 before → IsWorked s 0 before after → IsWhole s next before after
-first_alone s next before after fresh worked =
+pub first_alone : (s : Settings) (next workers : ℕ) (before after : Seats) → IsFresh 0 before → MaySplit next workers before
+    → IsWorked s 0 before after → IsWhole s next workers before after
+first_alone s next workers before after fresh may worked =
     let one : seats (view after.desk) ≡ 1 = ap length worked.seats' ∙ fresh.one in
     record {
       none_left = worked.none_left;
@@ -143,11 +147,13 @@ first_alone s next before after fresh worked =
       seats' = omega (arith, one, worked.split_off);
       number' = worked.number';
       served = worked.served;
-      others = λ seat ne below. worked.others seat ne;
+      others = λ seat ne below. elsewhere 0 seat (view after.desk).calls (λ e. ne (sym e)) worked.own;
+      below = λ k d below. omega (arith, worked.own k d below, may.next', may.some);
     }
 
-module _ (s : Settings) (next workers after : ℕ) (before first other ours theirs both : Seats) (split : AreSplit before first other)
-    (may : MaySplit next workers before) (is : after ≡ next + 1) (rest : IsWhole s after first ours) (worked : IsWorked s next other theirs)
+module _ (s : Settings) (next workers after fewer : ℕ) (before first other ours theirs both : Seats) (split : AreSplit before first other)
+    (may : MaySplit next workers before) (is : after ≡ next + 1)
+    (more : 1 < workers) (one_less : fewer + 1 ≡ workers) (rest : IsWhole s after fewer first ours) (worked : IsWorked s next other theirs)
     (joint : AreJoint ours theirs both) where
   not_first : next ≢ 0
   not_first e = let n = may.next' in absurd (omega arith)
@@ -161,19 +167,25 @@ module _ (s : Settings) (next workers after : ℕ) (before first other ours thei
   are_apart : (seat : ℕ) → ((eqb next seat ≡ true) × (next ≡ seat)) ⊎ ((eqb next seat ≡ false) × (next ≢ seat))
       → AreElsewhere seat (view ours.desk).calls ⊎ AreElsewhere seat (view theirs.desk).calls
   are_apart seat (inl (e, here)) = inl (rest.others seat (λ z. not_first (here ∙ z)) (omega (arith, here, is)))
-  are_apart seat (inr (e, ne)) = inr (worked.others seat (λ z. ne (sym z)))
+  are_apart seat (inr (e, ne)) = inr (elsewhere next seat (view theirs.desk).calls ne worked.own)
 
   served : HaveServed s (ours.claim.view.drawn ++ theirs.claim.view.drawn) ((view ours.desk).calls ++ (view theirs.desk).calls)
   served =
       both_served s ours.claim.view.drawn theirs.claim.view.drawn (view ours.desk).calls (view theirs.desk).calls rest.served worked.served
       (λ seat. are_apart seat (eqb_tells next seat))
 
-  elsewhere : (seat : ℕ) → seat ≢ 0 → seat < next → AreElsewhere seat ((view ours.desk).calls ++ (view theirs.desk).calls)
-  elsewhere seat ne below =
+  none_elsewhere : (seat : ℕ) → seat ≢ 0 → seat < next → AreElsewhere seat ((view ours.desk).calls ++ (view theirs.desk).calls)
+  none_elsewhere seat ne below =
       All-append (λ (c : RecorderCall). c.seat ≢ seat) (view ours.desk).calls (view theirs.desk).calls
-      (rest.others seat ne (omega (arith, below, is))) (worked.others seat (λ e. absurd (omega (arith, below, e))))
+      (rest.others seat ne (omega (arith, below, is)))
+      (elsewhere next seat (view theirs.desk).calls (λ e. absurd (omega (arith, below, e))) worked.own)
 
-  pub together : IsFresh 0 before → IsWhole s next before both
+  all_below : All (λ c. c.seat + 1 < next + workers) ((view ours.desk).calls ++ (view theirs.desk).calls)
+  all_below =
+      All-append (λ (c : RecorderCall). c.seat + 1 < next + workers) (view ours.desk).calls (view theirs.desk).calls
+      (λ k d below. omega (arith, rest.below k d below, is, one_less)) (λ k d below. omega (arith, worked.own k d below, more))
+
+  pub together : IsFresh 0 before → IsWhole s next workers before both
   together fresh =
       let off : (view first.desk).split_off ≡ (view before.desk).split_off + 1 = ap (λ (v : SeatView). v.split_off) split.counted in
       let left : first.claim.view.parts ≡ before.claim.view.parts - 1 = ap (λ (x : Seat). x.view.parts) split.rest in
@@ -191,5 +203,6 @@ module _ (s : Settings) (next workers after : ℕ) (before first other ours thei
         served =
             subst (λ ns. HaveServed s ns (view both.desk).calls) (sym drawn_are)
             (subst (HaveServed s (ours.claim.view.drawn ++ theirs.claim.view.drawn)) (sym calls_are) served);
-        others = λ seat ne below. subst (AreElsewhere seat) (sym calls_are) (elsewhere seat ne below);
+        others = λ seat ne below. subst (AreElsewhere seat) (sym calls_are) (none_elsewhere seat ne below);
+        below = subst (All (λ c. c.seat + 1 < next + workers)) (sym calls_are) all_below;
       }

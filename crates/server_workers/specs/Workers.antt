@@ -2,6 +2,7 @@
 use Rattle.std.specs.Prelude.{◌≡◌, ◌≢◌, ℕ, ◌+◌, ◌<◌, ◌≤◌, true, All, List, [], length, map, Option, None}
 use Rattle.std.specs.declared.alloc.Global.{Global}
 use Rattle.std.specs.declared.sync.Arc.{Arc}
+use Rattle.claims.specs.declared.workers.TheConstants.{MOST_WORKERS}
 use Rattle.claims.specs.Seats.{Numbers, joint_seat, IsSeatOf as IsClaimOf}
 use Rattle.dice.specs.Rolls.{dice_of}
 use Rattle.desk.specs.Runs.{calls_by}
@@ -20,7 +21,6 @@ use Rattle.turns.specs.Offers.{AreRolled, rolls_at}
 use Rattle.server_workers.specs.Courses.{IsSound, RecorderCall}
 use Rattle.server_workers.specs.Jobs.{requests_of, request_at}
 use Rattle.server_workers.specs.Openings.{IsOpening, open_after}
-use Rattle.server_workers.specs.declared.serve.TheConstants.{MOST_WORKERS}
 use Rattle.server_workers.specs.declared.worker.Seats.{Seats}
 use Rattle.server_workers.specs.declared.worker.Worked.{Worked}
 
@@ -39,6 +39,10 @@ settings jobs seed reading = record { requests = requests_of jobs; seed = seed; 
 -- No call is from the seat.
 abbrev pub AreElsewhere : ℕ → List RecorderCall → Type 0
 AreElsewhere seat calls = All (λ c. c.seat ≢ seat) calls
+
+-- The calls are from this seat.
+abbrev pub ComeFrom : ℕ → List RecorderCall → Type 0
+ComeFrom seat calls = All (λ c. c.seat ≡ seat) calls
 
 -- The calls serve the jobs of these numbers: at each seat one after the other, with the seat's dice.
 pub record HaveServed (s : Settings) (drawn : List ℕ) (calls : List RecorderCall) : Type 0 where
@@ -74,6 +78,7 @@ pub record IsFresh (number : ℕ) (worker : Seats) : Type 0 where
 -- The first worker may split off so many more but one, the next of which has this number.
 pub record MaySplit (next workers : ℕ) (worker : Seats) : Type 0 where
   pub next' : (view worker.desk).split_off + 1 ≡ next
+  pub some : 0 < workers
   pub room : next + workers ≤ MOST_WORKERS + 1
   pub parts : workers < worker.claim.view.parts
 
@@ -100,16 +105,17 @@ pub record IsWorked (s : Settings) (number : ℕ) (before after : Seats) : Type 
   pub number' : (view after.desk).number ≡ number
   pub split_off : (view after.desk).split_off ≡ (view before.desk).split_off
   pub served : HaveServed s after.claim.view.drawn (view after.desk).calls
-  pub others : (seat : ℕ) → seat ≢ number → AreElsewhere seat (view after.desk).calls
+  pub own : ComeFrom number (view after.desk).calls
 
--- The same of the first worker and of all that it split off, from the next number on.
-pub record IsWhole (s : Settings) (next : ℕ) (before after : Seats) : Type 0 where
+-- The same of so many workers, the first one and those that it split off, from the next number on.
+pub record IsWhole (s : Settings) (next workers : ℕ) (before after : Seats) : Type 0 where
   pub none_left : after.claim.view.none_left ≡ true
   pub parts : after.claim.view.parts ≡ before.claim.view.parts
   pub seats' : seats (view after.desk) + (view before.desk).split_off ≡ 1 + (view after.desk).split_off
   pub number' : (view after.desk).number ≡ 0
   pub served : HaveServed s after.claim.view.drawn (view after.desk).calls
   pub others : (seat : ℕ) → seat ≢ 0 → seat < next → AreElsewhere seat (view after.desk).calls
+  pub below : All (λ c. c.seat + 1 < next + workers) (view after.desk).calls
 
 -- The worker of this number is back: where memory sufficed, its work is done.
 pub record IsBack (s : Settings) (claims : Numbers) (desk : RecorderDesk) (number : ℕ) (before : Seats) (worked : Worked)
@@ -117,8 +123,8 @@ pub record IsBack (s : Settings) (claims : Numbers) (desk : RecorderDesk) (numbe
   pub own : AreOwn claims desk worked.seats
   pub done : worked.is_whole ≡ true → IsWorked s number before worked.seats
 
--- The first worker is back, with all that it split off from the next number on.
-pub record AreAllBack (s : Settings) (claims : Numbers) (desk : RecorderDesk) (next : ℕ) (before : Seats) (worked : Worked)
+-- So many workers are back, the first one with those that it split off from the next number on.
+pub record AreAllBack (s : Settings) (claims : Numbers) (desk : RecorderDesk) (next workers : ℕ) (before : Seats) (worked : Worked)
     : Type 0 where
   pub own : AreOwn claims desk worked.seats
-  pub done : worked.is_whole ≡ true → IsWhole s next before worked.seats
+  pub done : worked.is_whole ≡ true → IsWhole s next workers before worked.seats

@@ -7,4 +7,4 @@ mod serve;
 mod service;
 mod worker;
 
-pub use serve::{MOST_WORKERS, serve_jobs};
+pub use serve::serve_jobs;

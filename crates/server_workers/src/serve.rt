@@ -1,4 +1,4 @@
-ghost use Rattle.std.specs.Prelude.{◌≡◌, ◌<◌, ◌≤◌, [], All, IfOk};
+ghost use Rattle.std.specs.Prelude.{◌≡◌, [], All, IfOk};
 ghost use Rattle.script_code.specs.Translated.{IsCodeOf};
 ghost use Rattle.object_set.specs.ObjectSets.{IsSetOf, objects_of};
 ghost use Rattle.history.specs.Histories.{happening_in, history_of};
@@ -9,7 +9,7 @@ ghost use Rattle.server_workers.specs.Served.{IsServed};
 
 use crate::service::Service;
 use crate::worker::{Seats, Worked, work_all};
-use claims::Claims;
+use claims::{Claims, Workers};
 use desk::Call;
 use history::law::runs_are_legal;
 use history::{Event, Happening, Journal, Recorder, Recording, Reply, happening_by};
@@ -24,14 +24,6 @@ use std::thread::Threads;
 use trace_format::packed::PackedRequest;
 use workload::Requests;
 
-/// How many workers there may be.
-pub const MOST_WORKERS: u32 = 16;
-
-/// The number of workers in digits, as docs/formats.md has it.
-pub fn workers_in_digits()
-    ensures { MOST_WORKERS ≡ 16 }
-{}
-
 /// Serves the jobs by so many workers, and gives what happened to the journal, in its order. A worker
 /// draws the next job, has it arrive at its seat, does what its request wants, and has it depart.
 /// Each has its dice, by the seed. Where one lacks memory the others go on, and the whole is answered
@@ -43,7 +35,7 @@ pub fn serve_jobs<R: Threads + Wait + Sync, C: Clock + Sync, G: Gate + Sync, J: 
     code: Code,
     start: ObjectSet,
     jobs: Requests,
-    workers: u32,
+    workers: Workers,
     seed: u64,
     clock: &C,
     gate: &G,
@@ -51,11 +43,9 @@ pub fn serve_jobs<R: Threads + Wait + Sync, C: Clock + Sync, G: Gate + Sync, J: 
 ) -> Result<J, AllocError>
     requires code { IsCodeOf program.now.value code }
     requires start { IsSetOf program.now.value start }
-    requires some { 0 < workers }
-    requires few { workers ≤ MOST_WORKERS }
     requires nothing_kept { J.keeps [] journal }
     ensures { let objects = objects_of start in let reading = C.reading clock.now in
-        let IsOne = IsServed program.now.value objects jobs seed reading in
+        let IsOne = IsServed program.now.value objects jobs workers seed reading in
         IfOk result (KeepsRun J.keeps IsOne) }
 {
     runs_are_legal();
@@ -76,7 +66,15 @@ pub fn serve_jobs<R: Threads + Wait + Sync, C: Clock + Sync, G: Gate + Sync, J: 
     };
     let first = Seats { claim, desk: seat };
     let Worked { seats, is_whole } = work_all(
-        rt, &service, &claims, &desk, clock, gate, first, 1, workers,
+        rt,
+        &service,
+        &claims,
+        &desk,
+        clock,
+        gate,
+        first,
+        1,
+        workers.count(),
     );
     if !is_whole {
         return Err(AllocError);

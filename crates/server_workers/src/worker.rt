@@ -44,7 +44,7 @@ pub(crate) fn work_all<R: Threads + Wait + Sync, C: Clock + Sync, G: Gate + Sync
     requires may { MayBeginAll claims.now desk.now next workers seats }
     ensures { let at = service.now in
         let s = settings at.jobs.items at.seed (C.reading clock.now) in
-        AreAllBack s claims.now desk.now next seats result }
+        AreAllBack s claims.now desk.now next workers seats result }
 {
     if workers <= 1 {
         return work(rt, service, claims, desk, clock, gate, seats, 0);
@@ -69,7 +69,8 @@ pub(crate) fn work_all<R: Threads + Wait + Sync, C: Clock + Sync, G: Gate + Sync
                 × AreOpenFor service.now.code service.now.jobs.items claims.now desk.now
                 × MayBeginAll claims.now desk.now after fewer seats }
             ensures { AreAllBack (settings service.entry.now.jobs.items service.entry.now.seed
-                (C.reading clock.entry.now)) claims.entry.now desk.entry.now after seats result }
+                (C.reading clock.entry.now)) claims.entry.now desk.entry.now after fewer
+                seats result }
         { work_all(rt, service, claims, desk, clock, gate, seats, after, fewer) },
     );
     joined(claims, desk, ours, theirs)

@@ -14,12 +14,20 @@ use std::alloc::{AllocError, Global};
 use std::hint;
 use std::snapshot::Snapshot;
 use std::sync::Wait;
+use std::thread::Parker;
+use std::time::Duration;
 
 /// How many seats a desk may have.
 pub const MOST_SEATS: u64 = 4_294_967_296;
 
-/// How often a seat looks for its turn before it sleeps.
+/// How often a seat looks for its turn, or for a desk where nobody is, before it sleeps.
 const LOOKS_AWAKE: u32 = 64;
+
+/// How often a seat naps before it draws its ticket though others are at the desk.
+const MOST_NAPS: u32 = 16;
+
+/// How long a nap is, in microseconds: long beside a turn, so that it pays to sleep.
+const NAP: u64 = 100;
 
 // The words of the table.
 const NEXT: usize = 0;
@@ -200,13 +208,14 @@ impl<B: Bench> Desk<B> {
         held
     }
 
-    // Draws a ticket, and waits until it is served.
+    // Draws a ticket, most often where nobody is at the desk, and waits until it is served.
     fn take_turn<R: Wait>(&self, rt: &R, seat: &mut SeatOf<B>)
         requires own { IsAtDesk self.now seat.old }
         requires rests { Rests seat.old.me }
         ensures own { IsAtDesk self.now seat.new }
         ensures turn { HasTurn B.steps (start_of self.now) seat.old.me.0 seat.new.me }
     {
+        self.wait_for_quiet(rt);
         let ticket = self.table.shared.fetch_add::<DrawsTicket>(seat, NEXT, 1);
         let mut looks: u32 = 0;
         for _ in rt.forever() {
@@ -224,6 +233,29 @@ impl<B: Bench> Desk<B> {
             }
         }
         unreachable!()
+    }
+
+    // Waits a while for a desk where nobody is. Where a thread sleeps with a ticket, all behind it wait until it wakes;
+    // so one that calls often goes on alone while the others nap.
+    fn wait_for_quiet<R: Wait>(&self, rt: &R) {
+        for _ in 0..MOST_NAPS {
+            if self.is_quiet_soon() {
+                return;
+            }
+            Parker::new().park_timeout(rt, Duration::from_micros(NAP));
+        }
+    }
+
+    // Whether nobody was at the desk at one of some looks.
+    fn is_quiet_soon(&self) -> bool {
+        for _ in 0..LOOKS_AWAKE {
+            let served = self.table.shared.peek(SERVED);
+            if self.table.shared.peek(NEXT) == served {
+                return true;
+            }
+            hint::spin_loop();
+        }
+        false
     }
 
     // Counts the call that the value has behind what was seen, and ends the turn.
@@ -264,14 +296,16 @@ impl<B: Bench> Desk<B> {
         self.end_turn(seat);
     }
 
-    // Serves the next ticket; the slot goes home.
+    // Serves the next ticket; the slot goes home. A seat that draws that ticket later sees by itself that it is served.
     fn end_turn(&self, seat: &mut SeatOf<B>)
         requires own { IsAtDesk self.now seat.old }
         requires slot { HasFullSlot B.steps (start_of self.now) seat.old.me }
         ensures own { IsAtDesk self.now seat.new }
         ensures end { seat.new.me ≡ (with_ticket seat.old.me.0 None, []) }
     {
-        self.table.shared.fetch_add::<EndsTurn>(seat, SERVED, 1);
-        self.table.shared.wake_all(SERVED);
+        let ended = self.table.shared.fetch_add::<EndsTurn>(seat, SERVED, 1);
+        if self.table.shared.peek(NEXT) != ended.wrapping_add(1) {
+            self.table.shared.wake_all(SERVED);
+        }
     }
 }

@@ -1,6 +1,7 @@
 //! The jobs of a page that counts, served by some workers.
 
 use crate::programs::{hit, jobs};
+use claims::Workers;
 use history::History;
 use object_set::ObjectSet;
 use outside::{FixedClock, Gate, OpenGate};
@@ -27,9 +28,7 @@ pub(crate) fn history<R: Threads + Wait + Sync, G: Gate + Sync>(
     let jobs = jobs(alloc, file)?;
     let clock = FixedClock(5);
     let history = History::new(alloc);
-    if workers == 0 || workers > 16 {
-        return Err(AllocError);
-    }
+    let workers = Workers::new(workers).ok_or(AllocError)?;
     serve_jobs(
         rt, alloc, &program, code, objects, jobs, workers, 7, &clock, gate, history,
     )

@@ -4,13 +4,16 @@ use crate::runs::{Kind, Run, outputs_of, shelf_of};
 use outside::{MemShelf, MemSink};
 use std::io::{self, ErrorKind};
 use std::num::NonZeroUsize;
+use std::sync::Wait;
+use std::thread::Threads;
 
 /// The status of a run in which a call fails.
 const FAILED: u8 = 4;
 
 /// A row that is run again and again, over its inputs each time.
 #[derive(Drop)]
-struct Trial<'a> {
+struct Trial<'a, R> {
+    threads: &'a R,
     rt: &'a HostRuntime,
     kind: Kind,
     row: Row<'a>,
@@ -18,9 +21,20 @@ struct Trial<'a> {
 }
 
 /// Which call doesn't end the run as it should, where the row says that each is to fail in turn.
-pub fn wrong_call(rt: &HostRuntime, kind: Kind, row: Row<'_>) -> io::Result<Option<String>> {
+pub fn wrong_call<R: Threads + Wait + Sync>(
+    threads: &R,
+    rt: &HostRuntime,
+    kind: Kind,
+    row: Row<'_>,
+) -> io::Result<Option<String>> {
     let run = Run::of_row(rt.alloc(), kind, row)?;
-    let trial = Trial { rt, kind, row, run };
+    let trial = Trial {
+        threads,
+        rt,
+        kind,
+        row,
+        run,
+    };
     if let Some(calls) = row.field("shelf")
         && let Some(call) = trial.wrong_call(number_of(calls)? as usize)?
     {
@@ -34,12 +48,13 @@ pub fn wrong_call(rt: &HostRuntime, kind: Kind, row: Row<'_>) -> io::Result<Opti
     Ok(None)
 }
 
-impl Trial<'_> {
+impl<R: Threads + Wait + Sync> Trial<'_, R> {
     /// The status with which the run ends where these calls of the shelf fail, and the files that it
     /// leaves.
     fn end(&self, failing: Vec<u64>, out: &mut MemSink) -> io::Result<(u8, MemShelf)> {
         let mut shelf = shelf_of(self.rt, self.kind, self.row, failing)?;
-        let status = self.run.status(self.rt.alloc(), &mut shelf, out);
+        let alloc = self.rt.alloc();
+        let status = self.run.status(self.threads, alloc, &mut shelf, out);
         Ok((status, shelf))
     }
 

@@ -14,6 +14,8 @@ use crate::runs::{Kind, checked, ended};
 use crate::tally::{Tally, told};
 use std::fs;
 use std::io::{self, ErrorKind};
+use std::sync::Wait;
+use std::thread::Threads;
 
 /// The files of rows.
 const CHECKS: &str = "checks.txt";
@@ -25,21 +27,25 @@ const RECORDS: &str = "records.txt";
 const AUDITS: &str = "audits.txt";
 
 fn main(rt: HostRuntime) -> io::Result<()> {
-    run_checks(&rt, &fs::read_to_string(&rt, CHECKS)?)?;
-    run_rows(&rt, REPLAYS, Kind::Replay)?;
-    run_rows(&rt, RECORDS, Kind::Record)?;
-    run_rows(&rt, AUDITS, Kind::Audit)
+    run_checks(&rt, &rt, &fs::read_to_string(&rt, CHECKS)?)?;
+    run_rows(&rt, &rt, REPLAYS, Kind::Replay)?;
+    run_rows(&rt, &rt, RECORDS, Kind::Record)?;
+    run_rows(&rt, &rt, AUDITS, Kind::Audit)
 }
 
 /// Runs the programs that are checked: a line each, with its end before the program.
-fn run_checks(rt: &HostRuntime, text: &str) -> io::Result<()> {
+fn run_checks<R: Threads + Wait + Sync>(
+    threads: &R,
+    rt: &HostRuntime,
+    text: &str,
+) -> io::Result<()> {
     let mut tally = Tally::new();
     for line in text.lines() {
         if let Some((ends, program)) = line.split_once(" |")
             && !line.starts_with('#')
         {
             let program = program.strip_prefix(' ').unwrap_or(program);
-            let ended = told(rt.alloc(), checked(rt.alloc(), program))?;
+            let ended = told(rt.alloc(), checked(threads, rt.alloc(), program))?;
             tally.count(rt, program, ends, ended.as_str())?;
         }
     }
@@ -47,13 +53,18 @@ fn run_checks(rt: &HostRuntime, text: &str) -> io::Result<()> {
 }
 
 /// Runs the rows of a file: a paragraph each.
-fn run_rows(rt: &HostRuntime, file: &str, kind: Kind) -> io::Result<()> {
+fn run_rows<R: Threads + Wait + Sync>(
+    threads: &R,
+    rt: &HostRuntime,
+    file: &str,
+    kind: Kind,
+) -> io::Result<()> {
     let text = fs::read_to_string(rt, file)?;
     let mut tally = Tally::new();
     for paragraph in text.as_str().split("\n\n") {
         let row = read_row(rt, paragraph)?;
         if let Some(name) = row.field("row") {
-            let ended = row_told(rt, kind, row)?;
+            let ended = row_told(threads, rt, kind, row)?;
             tally.count(rt, name, row.said("ends"), ended.as_str())?;
         }
     }
@@ -71,14 +82,24 @@ fn read_row<'a>(rt: &HostRuntime, paragraph: &'a str) -> io::Result<Row<'a>> {
 }
 
 /// What a row comes to.
-fn row_told(rt: &HostRuntime, kind: Kind, row: Row<'_>) -> io::Result<String> {
-    Ok(told(rt.alloc(), row_ended(rt, kind, row))?)
+fn row_told<R: Threads + Wait + Sync>(
+    threads: &R,
+    rt: &HostRuntime,
+    kind: Kind,
+    row: Row<'_>,
+) -> io::Result<String> {
+    Ok(told(rt.alloc(), row_ended(threads, rt, kind, row))?)
 }
 
 /// How it ends, and which call, where it fails, doesn't end it as it should.
-fn row_ended(rt: &HostRuntime, kind: Kind, row: Row<'_>) -> io::Result<String> {
-    let ended = ended(rt, kind, row)?;
-    match wrong_call(rt, kind, row)? {
+fn row_ended<R: Threads + Wait + Sync>(
+    threads: &R,
+    rt: &HostRuntime,
+    kind: Kind,
+    row: Row<'_>,
+) -> io::Result<String> {
+    let ended = ended(threads, rt, kind, row)?;
+    match wrong_call(threads, rt, kind, row)? {
         Some(call) => Ok(format!(in rt.alloc(); "{ended}, and another end at {call}")?),
         None => Ok(ended),
     }

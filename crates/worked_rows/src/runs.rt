@@ -1,5 +1,5 @@
 //! The run of a row.
-use crate::row::{Row, text_of};
+use crate::row::{Row, number_of, text_of};
 use crate::spelled::{bytes_of, schedule_of, trace_of};
 use command_words::Words;
 use commands::run::run;
@@ -7,6 +7,8 @@ use outside::{FixedClock, MemHouse, MemShelf, MemSink, OpenGate};
 use std::alloc::{AllocError, Global};
 use std::fs;
 use std::io::{self, ErrorKind};
+use std::sync::Wait;
+use std::thread::Threads;
 
 /// The names of the files of a run.
 const PROGRAM: &str = "program";
@@ -22,6 +24,15 @@ const REQUESTS: &str = "requests";
 const TURNS: &str = "turns";
 
 const REPORT: &str = "report";
+
+/// The folder of a row's inputs.
+const FILES: &str = "files";
+
+/// How many workers a row's recording has.
+const WORKERS: &str = "workers";
+
+/// How often a row is run.
+const TIMES: &str = "times";
 
 /// The inputs of a recording, with the names of their files in a folder.
 const INPUTS: [(&str, &str); 4] = [
@@ -85,19 +96,32 @@ impl Run {
         let seed = row.field("seed").unwrap_or("0");
         let clock = row.field("clock").unwrap_or("0").parse();
         let clock = clock.ok().ok_or(ErrorKind::InvalidData)?;
+        let (option, value) = match row.field(WORKERS) {
+            Some(workers) => ("--workers", workers),
+            None => ("--turns", TURNS),
+        };
         let words = [
-            "record", PROGRAM, STATE, REQUESTS, TRACE, REPORT, "--seed", seed, "--turns", TURNS,
+            "record", PROGRAM, STATE, REQUESTS, TRACE, REPORT, "--seed", seed, option, value,
         ];
-        let has_turns = row.field(TURNS).is_some() || row.field("files").is_some();
-        let used = if has_turns { 10 } else { 8 };
+        let has_option = [WORKERS, TURNS, FILES]
+            .iter()
+            .any(|key| row.field(key).is_some());
+        let used = if has_option { 10 } else { 8 };
         Ok(Run::new(alloc, &words[..used], clock)?)
     }
 
     /// The status with which it ends over these files.
-    pub fn status(&self, alloc: Global, shelf: &mut MemShelf, out: &mut MemSink) -> u8 {
+    pub fn status<R: Threads + Wait + Sync>(
+        &self,
+        threads: &R,
+        alloc: Global,
+        shelf: &mut MemShelf,
+        out: &mut MemSink,
+    ) -> u8 {
         let mut house = MemHouse::new(alloc, Vec::new(alloc), Vec::new(alloc));
         let clock = FixedClock(self.clock);
         run(
+            threads,
             alloc,
             &self.words,
             shelf,
@@ -109,9 +133,14 @@ impl Run {
     }
 
     /// The status and the line with which it ends over these files.
-    fn ended(&self, alloc: Global, shelf: &mut MemShelf) -> Result<String, AllocError> {
+    fn ended<R: Threads + Wait + Sync>(
+        &self,
+        threads: &R,
+        alloc: Global,
+        shelf: &mut MemShelf,
+    ) -> Result<String, AllocError> {
         let mut out = MemSink::new(alloc, Vec::new(alloc), None);
-        let status = self.status(alloc, shelf, &mut out);
+        let status = self.status(threads, alloc, shelf, &mut out);
         line_of(alloc, status, out.written())
     }
 }
@@ -152,7 +181,7 @@ fn put_start(alloc: Global, shelf: &mut MemShelf, row: Row<'_>) -> io::Result<()
 
 /// Puts the inputs of a recording.
 fn put_inputs(rt: &HostRuntime, shelf: &mut MemShelf, row: Row<'_>) -> io::Result<()> {
-    if let Some(folder) = row.field("files") {
+    if let Some(folder) = row.field(FILES) {
         for (name, file) in INPUTS {
             put_file(rt, shelf, name, folder, file)?;
         }
@@ -196,44 +225,89 @@ pub fn shelf_of(
 }
 
 /// How the check of a program ends.
-pub fn checked(alloc: Global, program: &str) -> io::Result<String> {
+pub fn checked<R: Threads + Wait + Sync>(
+    threads: &R,
+    alloc: Global,
+    program: &str,
+) -> io::Result<String> {
     let mut shelf = MemShelf::new(alloc, Vec::new(alloc));
     put(alloc, &mut shelf, PROGRAM, program)?;
-    Ok(Run::new(alloc, &["check", PROGRAM], 0)?.ended(alloc, &mut shelf)?)
+    Ok(Run::new(alloc, &["check", PROGRAM], 0)?.ended(threads, alloc, &mut shelf)?)
 }
 
 /// How a row ends, and whether it writes other files than it should.
-pub fn ended(rt: &HostRuntime, kind: Kind, row: Row<'_>) -> io::Result<String> {
+pub fn ended<R: Threads + Wait + Sync>(
+    threads: &R,
+    rt: &HostRuntime,
+    kind: Kind,
+    row: Row<'_>,
+) -> io::Result<String> {
     let mut shelf = shelf_of(rt, kind, row, Vec::new(rt.alloc()))?;
     match kind {
-        Kind::Replay => Ok(Run::new(rt.alloc(), &REPLAYING, 0)?.ended(rt.alloc(), &mut shelf)?),
-        Kind::Record => recorded(rt.alloc(), &mut shelf, row),
-        Kind::Audit => audited(rt.alloc(), &mut shelf, row),
+        Kind::Replay => {
+            let replay = Run::new(rt.alloc(), &REPLAYING, 0)?;
+            Ok(replay.ended(threads, rt.alloc(), &mut shelf)?)
+        }
+        Kind::Record => match row.field(TIMES) {
+            Some(times) => recorded_often(threads, rt.alloc(), &mut shelf, row, number_of(times)?),
+            None => recorded(threads, rt.alloc(), &mut shelf, row),
+        },
+        Kind::Audit => audited(threads, rt.alloc(), &mut shelf, row),
     }
 }
 
 /// How a recording over a row's inputs ends. The files of one that ends well are audited.
-fn recorded(alloc: Global, shelf: &mut MemShelf, row: Row<'_>) -> io::Result<String> {
+fn recorded<R: Threads + Wait + Sync>(
+    threads: &R,
+    alloc: Global,
+    shelf: &mut MemShelf,
+    row: Row<'_>,
+) -> io::Result<String> {
     let recording = Run::recording(alloc, row)?;
-    let ended = recording.ended(alloc, shelf)?;
+    let ended = recording.ended(threads, alloc, shelf)?;
     let ended = with_others(alloc, shelf, row, ended)?;
     if !ended.as_str().starts_with("0 ") {
         return Ok(ended);
     }
-    let audit = audited(alloc, shelf, row)?;
+    let audit = audited(threads, alloc, shelf, row)?;
     followed(alloc, ended, "0 accepted", audit.as_str())
 }
 
+/// What the row says, where a recording over its inputs ends so each time, but for a number behind it;
+/// else the first other end.
+fn recorded_often<R: Threads + Wait + Sync>(
+    threads: &R,
+    alloc: Global,
+    shelf: &mut MemShelf,
+    row: Row<'_>,
+    times: u32,
+) -> io::Result<String> {
+    let wanted = row.said("ends");
+    for _ in 0..times {
+        let ended = recorded(threads, alloc, shelf, row)?;
+        let behind = ended.as_str().strip_prefix(wanted);
+        if !behind.is_some_and(|groups| groups.trim_start().parse::<u32>().is_ok()) {
+            return Ok(ended);
+        }
+    }
+    Ok(format!(in alloc; "{wanted}")?)
+}
+
 /// How an audit over these files ends. The schedule of an accepted report is replayed.
-fn audited(alloc: Global, shelf: &mut MemShelf, row: Row<'_>) -> io::Result<String> {
-    let audit = Run::new(alloc, &AUDITING, 0)?.ended(alloc, shelf)?;
+fn audited<R: Threads + Wait + Sync>(
+    threads: &R,
+    alloc: Global,
+    shelf: &mut MemShelf,
+    row: Row<'_>,
+) -> io::Result<String> {
+    let audit = Run::new(alloc, &AUDITING, 0)?.ended(threads, alloc, shelf)?;
     if has_other_schedule(alloc, shelf, row, audit.as_str())? {
         return Ok(format!(in alloc; "{audit}, with another schedule")?);
     }
     if !audit.as_str().starts_with("0 ") {
         return Ok(audit);
     }
-    let replay = Run::new(alloc, &REPLAYING, 0)?.ended(alloc, shelf)?;
+    let replay = Run::new(alloc, &REPLAYING, 0)?.ended(threads, alloc, shelf)?;
     followed(alloc, audit, "0 agrees", replay.as_str())
 }
 

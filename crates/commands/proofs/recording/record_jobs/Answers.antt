@@ -16,8 +16,8 @@ returns-in-Some g c =
           (subst (TellsTooLong c.in_ok-recorded.recorded) c.in-Some.is c.too_long.ensures),
     )
 
-pub returns : goal.returns
-returns g c =
+pub returns-in-None : goal.returns-in-None
+returns-in-None g c =
     let run = c.in_ok-journal-2.ensures in
     let files = c.in_ok-recorded.ensures run.0 run.2 in
     (run.0, run.1, are_files run.0 c.in_ok-recorded.recorded files (subst (TellsTooLong c.in_ok-recorded.recorded) c.in-None.is c.too_long.ensures))

@@ -1,5 +1,5 @@
-use Rattle.std.proofs.Common.{◌≡◌, ◌∙◌, length, Result, Ok, Err, ap, sym, subst}
-use Rattle.std.specs.Prelude.{IfOk, IsPermutation}
+use Rattle.std.proofs.Common.{◌≡◌, ◌∙◌, ◌+◌, ◌<◌, length, Result, Ok, Err, ap, sym, subst}
+use Rattle.std.specs.Prelude.{All, IfOk, IsPermutation}
 use Rattle.std.proofs.lemmas.List.{length-map}
 use Rattle.claims.specs.Lists.{numbers_below}
 use Rattle.script_code.specs.Translated.{IsCodeOf}
@@ -61,9 +61,11 @@ returns g c =
     = c.close.ensures.all whole.none_left ∙ limit ∙ sym (length-map c.in_ok-jobs.jobs.items _) in
     let once : IsPermutation seats.claim.view.drawn (numbers_below (length s.requests))
     = subst (λ n. IsPermutation seats.claim.view.drawn (numbers_below n)) all c.close.ensures.once in
+    let below : All (λ k. k.seat + 1 < 1 + c.args.workers) (view seats.desk).calls
+    = subst (λ n. All (λ k. k.seat + 1 < 1 + n) (view seats.desk).calls) c.count.ensures.count whole.below in
     let served = all_served s seats.claim.view.drawn calls (view seats.desk).calls c.close-2.ensures.calls whole.served
-    c.runs_are_legal.ensures first c.close-2.result.state (objects_of c.args.start) room c.close-2.ensures.runs once in
-    let so : IsServed c.args.program.now.value (objects_of c.args.start) c.args.jobs c.args.seed reading (history_of calls)
-    = subst (λ js. IsServed c.args.program.now.value (objects_of c.args.start) js c.args.seed reading (history_of calls)) jobs
-    (subst (λ p. IsServed p (objects_of c.args.start) s.requests c.args.seed reading (history_of calls)) program served) in
+    c.runs_are_legal.ensures first c.close-2.result.state (objects_of c.args.start) room c.close-2.ensures.runs c.args.workers below once in
+    let so : IsServed c.args.program.now.value (objects_of c.args.start) c.args.jobs c.args.workers c.args.seed reading (history_of calls)
+    = subst (λ js. IsServed c.args.program.now.value (objects_of c.args.start) js c.args.workers c.args.seed reading (history_of calls)) jobs
+    (subst (λ p. IsServed p (objects_of c.args.start) s.requests c.args.workers c.args.seed reading (history_of calls)) program served) in
     if_ok _ _ c.keep.result (λ journal kept. (history_of calls, so, kept)) c.keep.ensures

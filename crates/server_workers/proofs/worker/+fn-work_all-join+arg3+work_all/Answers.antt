@@ -1,6 +1,6 @@
 use denote.Exit.{no}
 use denote.Param.Send.{IsSync, arg_send, param_send}
-use Rattle.std.proofs.Common.{rules, ◌+◌, refl}
+use Rattle.std.proofs.Common.{rules, ◌+◌, ◌-◌, ◌<◌, refl, arith}
 use Rattle.server_workers.specs.Workers.{settings}
 use Rattle.server_workers.specs.declared.worker.Seats.{Seats}
 use Rattle.server_workers.proofs.Sends.{sends, work_send}
@@ -35,11 +35,12 @@ returns g t c =
       counted = c.split-2.ensures.counted;
       new = c.split-2.ensures.new;
     } in
+    let more : 1 < c.args.workers = omega (arith, c.if-workers-le1.false) in
     record {
       own = c.joined.ensures.own;
       done = λ whole.
           let both = c.joined.ensures.whole whole in
-          together s c.args.next c.args.workers (c.args.next + 1) before first other c.join-theirs.result.1.seats c.join-theirs.result.0.seats
-          c.joined.result.seats split c.requires.may.split refl (c.join-theirs.ensures.second.done both.0)
+          together s c.args.next c.args.workers (c.args.next + 1) (c.args.workers - 1) before first other c.join-theirs.result.1.seats
+          c.join-theirs.result.0.seats c.joined.result.seats split c.requires.may.split refl more (omega (arith, more)) (c.join-theirs.ensures.second.done both.0)
           (c.join-theirs.ensures.first.done both.1) c.joined.ensures.joined c.requires.may.begins.fresh;
     }

@@ -1,5 +1,4 @@
 ghost use Rattle.std.specs.Prelude.{[], IfOk};
-ghost use Rattle.script_code.specs.Translated.{IsCodeOf};
 ghost use Rattle.object_set.specs.ObjectSets.{IsSetOf, objects_of};
 ghost use Rattle.trace_and_report.specs.Recorded.{IsRecorded};
 ghost use Rattle.turns.specs.Run.{KeepsRun};
@@ -11,7 +10,7 @@ use history::Journal;
 use object_set::ObjectSet;
 use outside::{Clock, Gate};
 use script_check::program::Program;
-use script_code::translate::{Code, translate};
+use script_code::translate::translate;
 use server_workers::serve_jobs;
 use std::alloc::{AllocError, Global};
 use std::sync::{Arc, Wait};
@@ -45,10 +44,9 @@ pub fn record_jobs<R: Threads + Wait + Sync, C: Clock + Sync, G: Gate + Sync>(
         let IsRun = IsRunBy way program.now.value objects jobs seed (C.reading clock.now) in
         IsRecorded IsRun result }
 {
-    let code = translate(alloc, program)?;
     let journal = FileJournal::new(alloc)?;
     let journal = run_jobs(
-        rt, alloc, program, code, start, jobs, way, seed, clock, gate, journal,
+        rt, alloc, program, start, jobs, way, seed, clock, gate, journal,
     )?;
     let recorded = journal.finish()?;
     match recorded.too_long() {
@@ -58,11 +56,10 @@ pub fn record_jobs<R: Threads + Wait + Sync, C: Clock + Sync, G: Gate + Sync>(
 }
 
 /// Runs the jobs in a way, and gives what happens to the journal.
-fn run_jobs<R: Threads + Wait + Sync, C: Clock + Sync, G: Gate + Sync, J: Journal>(
+fn run_jobs<R: Threads + Wait + Sync, C: Clock + Sync, G: Gate + Sync, J: Journal + Send>(
     rt: &R,
     alloc: Global,
     program: &Arc<Program>,
-    code: Code,
     start: ObjectSet,
     jobs: Requests,
     way: Way,
@@ -71,7 +68,6 @@ fn run_jobs<R: Threads + Wait + Sync, C: Clock + Sync, G: Gate + Sync, J: Journa
     gate: &G,
     journal: J,
 ) -> Result<J, AllocError>
-    requires code { IsCodeOf program.now.value code }
     requires start { IsSetOf program.now.value start }
     requires nothing_kept { J.keeps [] journal }
     ensures { let objects = objects_of start in
@@ -81,12 +77,13 @@ fn run_jobs<R: Threads + Wait + Sync, C: Clock + Sync, G: Gate + Sync, J: Journa
     match way {
         Way::ByTurns(turns) => {
             let turns = turns.as_slice();
+            let code = translate(alloc, program)?;
             run_turns(
                 alloc, program, &code, start, jobs, turns, seed, clock, journal,
             )
         }
         Way::ByWorkers(workers) => serve_jobs(
-            rt, alloc, program, code, start, jobs, workers, seed, clock, gate, journal,
+            rt, alloc, program, start, jobs, workers, seed, clock, gate, journal,
         ),
     }
 }

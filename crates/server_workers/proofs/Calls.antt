@@ -34,7 +34,7 @@ use Rattle.turns.specs.Offers.{roll_at}
 use Rattle.turns.specs.Seated.{IsSeated, WaitsFor}
 use Rattle.turns.specs.Turned.{Moves}
 use Rattle.turns.proofs.Steps.{acts, arrives, departs}
-use Rattle.server_workers.specs.Courses.{IsOfClock, IsSound, RecorderCall, RollOn, SeatView}
+use Rattle.server_workers.specs.Courses.{IsOfClock, IsOffered, RecorderCall, RollOn, SeatView}
 use Rattle.server_workers.specs.Goes.{Goes}
 use Rattle.server_workers.specs.Openings.{IsBlank, open_after, open_at, open_next}
 use Rattle.server_workers.proofs.Visits.{open_after-append, own_next, program_stays, visit_after}
@@ -104,9 +104,7 @@ module _ (start : Recorded) (blank : IsBlank start) where
       calls = call v.number event reply ∷ [];
       made = ap (λ (x : SeatView). x.calls) called.left;
       own = All-cons (IsFrom v.number) (call v.number event reply) [] refl (All-nil (IsFrom v.number));
-      sound =
-          All-cons (IsSound reading) (call v.number event reply) [] (record { can = moves.can; offered = offered })
-          (All-nil (IsSound reading));
+      offered = All-cons (IsOffered reading) (call v.number event reply) [] offered (All-nil (IsOffered reading));
       came' = moves.came';
       rolls = roll_on (roll_at v.number (happening_in (call v.number event reply))) before after moves.rolls;
     };

@@ -5,17 +5,17 @@ use denote.RattleType.{RattleType}
 use denote.Ref.{NamedLft}
 use denote.Hole.{as_row}
 use denote.Param.{param}
-use denote.Param.Send.{IsSend, IsSync, param_sync, sendable, shr_send}
+use denote.Param.Send.{IsSend, IsSync, sendable, shr_send}
 use denote.Param.SendFields.{as_row_send, declared_send, declared_sync, variants_send}
 use denote.Struct.Field.{row_field, shr_ref_field, u32-field}
 use denote.Struct.Tuple.{TupleAt, type_at}
 use Rattle.std.proofs.Crossing.{crosses}
 use Rattle.std.proofs.MapsCrossing as maps
 use Rattle.basis.proofs.items.Items.TheSendSync as items
+use Rattle.history.specs.declared.journal.Journal.{Ghosts}
 use Rattle.claims.proofs.claims.Claims.TheSendSync as claimed
 use Rattle.claims.proofs.claims.ClaimSeat.TheSendSync as claim_seats
-use Rattle.shared_desk.proofs.shared.Desk.TheSendSync as desks
-use Rattle.shared_desk.proofs.shared.DeskSeat.TheSendSync as desk_seats
+use Rattle.shared_desk.proofs.Sends as shared_desks
 use Rattle.script_tree.proofs.value.Members.TheLaws.TheKnot as values
 use Rattle.script_tree.proofs.syntax.expression.Expression.TheLaws.TheKnot as expressions
 use Rattle.script_tree.proofs.syntax.statement.Statement.TheLaws.TheKnot as statements
@@ -46,6 +46,8 @@ use Rattle.history.specs.contracts.recorder.Recorder
 use Rattle.history.specs.contracts.recorder.RecorderBench.TheImpl as bench
 use Rattle.shared_desk.specs.contracts.shared.Desk
 use Rattle.shared_desk.specs.contracts.shared.DeskSeat
+use Rattle.server_workers.specs.contracts.journal.HistoryJournal
+use Rattle.server_workers.specs.contracts.journal.HistoryJournalCallJournalEventReply.TheImpl as keeping
 use Rattle.server_workers.specs.contracts.service.Service
 use Rattle.server_workers.specs.contracts.worker.Seats
 use Rattle.server_workers.specs.contracts.worker.Worked
@@ -56,10 +58,10 @@ value_send = search (crosses, values.crosses, sendable) depth 60 fits 20000
 value_sync : IsSync Value.the_row
 value_sync = search (crosses, values.crosses, sendable) depth 60 fits 20000
 
-path_send : IsSend Path.the_row
+pub path_send : IsSend Path.the_row
 path_send = search (crosses, values.crosses, sendable) depth 60 fits 20000
 
-response_send : IsSend Response.the_row
+pub response_send : IsSend Response.the_row
 response_send = search (crosses, values.crosses, sendable) depth 60 fits 20000
 
 pub packed_send : IsSend PackedRequest.the_row
@@ -107,7 +109,7 @@ shape_sync = search (crosses, sendable) depth 60 fits 20000
 instruction_sync : IsSync Instruction.the_row
 instruction_sync = search (crosses, value_sync, shape_sync, items.the_sync, sendable) depth 60 fits 20000
 
-pub code_sync : IsSync Code.the_row
+code_sync : IsSync Code.the_row
 code_sync = search (crosses, maps.crosses, instruction_sync, sendable) depth 60 fits 20000
 
 cells_send : IsSend Cells.the_row
@@ -140,55 +142,79 @@ recording_send = search (crosses, program_send, program_sync, objects_send, pack
 claim_seat_send : IsSend ClaimSeat.the_row
 claim_seat_send = search (crosses, claim_seats.the_send, sendable) depth 60 fits 20000
 
-pub claims_sync : IsSync Claims.the_row
+claims_sync : IsSync Claims.the_row
 claims_sync = search (crosses, claimed.the_sync, sendable) depth 60 fits 20000
 
-seat_send : IsSend (as_row (DeskSeat.the_field Recorder.the_row Recording.the_row Event.the_row Reply.the_row bench.ghosts))
-seat_send = search (crosses, desk_seats.the_send, recording_send, event_send, reply_send, sendable) depth 60 fits 20000
-
-pub seats_send : IsSend Seats.the_row
-seats_send = declared_send Seats.the_type (as_row_send ClaimSeat.the_field claim_seat_send, (seat_send, tt))
-
-pub worked_send : IsSend Worked.the_row
-worked_send = declared_send Worked.the_type (seats_send, (search sendable depth 20, tt))
-
-pub service_sync : IsSync Service.the_row
+service_sync : IsSync Service.the_row
 service_sync =
     declared_sync Service.the_type (
       search (crosses, sendable) depth 20,
-      (code_sync, (search (crosses, packed_send, packed_sync, sendable) depth 60 fits 20000, (search sendable depth 20, tt))),
+      (
+        code_sync,
+        (
+          search (crosses, code_sync, sendable) depth 60 fits 20000,
+          (search (crosses, packed_send, packed_sync, sendable) depth 60 fits 20000, (search sendable depth 20, tt)),
+        ),
+      ),
     )
 
-pub desk_sync : IsSync (Desk.the_row Recorder.the_row Recording.the_row Event.the_row Reply.the_row bench.ghosts)
-desk_sync = search (crosses, desks.the_sync, recording_send, event_send, reply_send, sendable) depth 60 fits 20000
+-- ---- what holds a journal
 
--- what workers share, and what they take and bring back
-pub ruleset sends = (service_sync, claims_sync, desk_sync, seats_send, worked_send, sendable)
+journal_send : (J : RattleType) → IsSend J → IsSend (HistoryJournal.the_row J)
+journal_send J s = declared_send (HistoryJournal.the_type J) (as_row_send (row_field J) s, tt)
+
+seats_send : (J : RattleType) → IsSend J → IsSend (Seats.the_row J)
+seats_send J s = declared_send (Seats.the_type J) (
+  as_row_send ClaimSeat.the_field claim_seat_send,
+  (
+    shared_desks.seat_send Recorder.the_row (HistoryJournal.the_row J) Recording.the_row Event.the_row Reply.the_row bench.ghosts recording_send
+        (journal_send J s),
+    tt,
+  ),
+)
+
+pub worked_send : (J : RattleType) → IsSend J → IsSend (Worked.the_row J)
+worked_send J s = declared_send (Worked.the_type J) (seats_send J s, (search sendable depth 20, tt))
+
+-- the desk of a recorder, with a journal of this type
+abbrev pub DeskRow : (J : RattleType) → Ghosts J.Denot → RattleType
+DeskRow J k =
+    Desk.the_row Recorder.the_row (HistoryJournal.the_row J) Recording.the_row Event.the_row Reply.the_row bench.ghosts
+    (keeping.ghosts J k keeping.no_dict keeping.no_dict)
+
+desk_sync : (J : RattleType) (k : Ghosts J.Denot) → IsSend J → IsSync (DeskRow J k)
+desk_sync J k s =
+    shared_desks.desk_sync Recorder.the_row (HistoryJournal.the_row J) Recording.the_row Event.the_row Reply.the_row bench.ghosts
+    (keeping.ghosts J k keeping.no_dict keeping.no_dict) recording_send (journal_send J s)
 
 -- a reference to what may be shared
-ref_send : (a : NamedLft) (i : ℕ) (R : RattleType) → IsSync R → IsSend (as_row (row_field (shr_ref_field a (param i R) tt).row))
-ref_send a i R shared = as_row_send (row_field (shr_ref_field a (param i R) tt).row) (shr_send a.mir a.lft (param i R) (param_sync i R shared))
+ref_send : (a : NamedLft) (i : ℕ) (R : RattleType) → IsSync (param i R) → IsSend (as_row (row_field (shr_ref_field a (param i R) tt).row))
+ref_send a i R shared = as_row_send (row_field (shr_ref_field a (param i R) tt).row) (shr_send a.mir a.lft (param i R) shared)
 
 -- what the closure of a worker takes along
-abbrev pub captures : (R C G : RattleType) (i j k l m n o : NamedLft) → List RattleType
-captures R C G i j k l m n o =
+abbrev pub captures : (R C G J : RattleType) → Ghosts J.Denot → (i j k l m n o : NamedLft) → List RattleType
+captures R C G J g i j k l m n o =
     (shr_ref_field i (param 0 R) tt).row ∷ (shr_ref_field j Service.the_row tt).row ∷ (shr_ref_field k Claims.the_row tt).row
-    ∷ (shr_ref_field l (Desk.the_row Recorder.the_row Recording.the_row Event.the_row Reply.the_row bench.ghosts) tt).row
-    ∷ (shr_ref_field m (param 1 C) tt).row ∷ (shr_ref_field n (param 2 G) tt).row ∷ Seats.the_row
+    ∷ (shr_ref_field l (DeskRow (param 3 J) g) tt).row
+    ∷ (shr_ref_field m (param 1 C) tt).row ∷ (shr_ref_field n (param 2 G) tt).row ∷ Seats.the_row (param 3 J)
     ∷ (shr_ref_field o u32-field.row tt).row ∷ []
 
-module _ (R C G : RattleType) (r : IsSync R) (c : IsSync C) (h : IsSync G) (name : List ℕ) (i j k l m n o : NamedLft) where
-  pub work_send : IsSend (TupleAt name (captures R C G i j k l m n o))
+module _ (R C G J : RattleType) (g : Ghosts J.Denot) (r : IsSync (param 0 R)) (c : IsSync (param 1 C)) (h : IsSync (param 2 G))
+    (s : IsSend (param 3 J)) (name : List ℕ) (i j k l m n o : NamedLft) where
+  pub work_send : IsSend (TupleAt name (captures R C G J g i j k l m n o))
   work_send =
-      declared_send (type_at name (captures R C G i j k l m n o)) (
+      declared_send (type_at name (captures R C G J g i j k l m n o)) (
         ref_send i 0 R r,
         (
           search (service_sync, sendable) depth 30,
           (
             search (claims_sync, sendable) depth 30,
             (
-              search (desk_sync, sendable) depth 30,
-              (ref_send m 1 C c, (ref_send n 2 G h, (search (seats_send, sendable) depth 30, (search sendable depth 30, tt)))),
+              search (desk_sync (param 3 J) g s, sendable) depth 30,
+              (
+                ref_send m 1 C c,
+                (ref_send n 2 G h, (search (seats_send (param 3 J) s, sendable) depth 30, (search sendable depth 30, tt))),
+              ),
             ),
           ),
         ),

@@ -7,14 +7,14 @@ ghost use Rattle.server_workers.specs.Goes.{Goes};
 ghost use Rattle.server_workers.specs.Jobs.{job_at};
 ghost use Rattle.server_workers.specs.Openings.{IsBlank, IsOpening, open_at};
 
+use crate::journal::{RecorderDesk, RecorderSeat};
 use crate::service::Service;
 use dice::Dice;
-use history::{Event, Recorder, Reply};
+use history::{Event, Journal, Reply};
 use machine::{Machine, MachineStep};
 use outside::{Clock, Gate};
 use script_code::translate::Code;
 use script_tree::operation::Op;
-use shared_desk::{Desk, DeskSeat};
 use std::alloc::{AllocError, Global};
 use std::sync::{Arc, Wait};
 use trace_format::packed::PackedRequest;
@@ -27,18 +27,19 @@ const ARRIVED: u8 = 0;
 const DEPARTED: u8 = 2;
 
 /// Serves the job of a number at a seat, from its arrival to its departure.
-pub(crate) fn serve_one<R: Wait, C: Clock, G: Gate>(
+pub(crate) fn serve_one<R: Wait, C: Clock, G: Gate, J: Journal>(
     rt: &R,
     service: &Service,
-    desk: &Desk<Recorder>,
-    seat: &mut DeskSeat<Recorder>,
+    code: &Code,
+    desk: &RecorderDesk<J>,
+    seat: &mut RecorderSeat<J>,
     dice: &mut Dice,
     clock: &C,
     gate: &G,
     number: u64,
 ) -> Result<(), AllocError>
     requires own { IsSeatOf desk.now seat.old }
-    requires opening { IsOpening service.now.code (start_of desk.now) }
+    requires opening { IsOpening code.now (start_of desk.now) }
     requires below { number < length service.now.jobs.items }
     requires empty { open_at (view seat.old) ≡ None }
     ensures own { IsSeatOf desk.now seat.new }
@@ -48,7 +49,7 @@ pub(crate) fn serve_one<R: Wait, C: Clock, G: Gate>(
     ensures empty { OnOk result (open_at (view seat.new) ≡ None) }
 {
     let job = &service.jobs[number as usize];
-    let mut machine = arrive(rt, service.alloc, &service.code, desk, seat, job)?;
+    let mut machine = arrive(rt, service.alloc, code, desk, seat, job)?;
     gate.pass(number, ARRIVED);
     for _ in rt.forever() {
         match go_on(rt, desk, seat, machine, dice, clock)? {
@@ -63,12 +64,12 @@ pub(crate) fn serve_one<R: Wait, C: Clock, G: Gate>(
 }
 
 /// A request arrives at a seat, and has a machine.
-fn arrive<'c, R: Wait>(
+fn arrive<'c, R: Wait, J: Journal>(
     rt: &R,
     alloc: Global,
     code: &'c Code,
-    desk: &Desk<Recorder>,
-    seat: &mut DeskSeat<Recorder>,
+    desk: &RecorderDesk<J>,
+    seat: &mut RecorderSeat<J>,
     job: &Arc<PackedRequest>,
 ) -> Result<Machine<'c>, AllocError>
     requires own { IsSeatOf desk.now seat.old }
@@ -87,10 +88,10 @@ fn arrive<'c, R: Wait>(
 
 /// The open request of a machine does the operation that it wants, or departs. Gives the machine back
 /// where it goes on.
-fn go_on<'c, R: Wait, C: Clock>(
+fn go_on<'c, R: Wait, C: Clock, J: Journal>(
     rt: &R,
-    desk: &Desk<Recorder>,
-    seat: &mut DeskSeat<Recorder>,
+    desk: &RecorderDesk<J>,
+    seat: &mut RecorderSeat<J>,
     mut machine: Machine<'c>,
     dice: &mut Dice,
     clock: &C,
@@ -113,10 +114,10 @@ fn go_on<'c, R: Wait, C: Clock>(
 }
 
 /// The open request of a machine does this operation, and the machine takes the answer.
-fn act<'c, R: Wait, C: Clock>(
+fn act<'c, R: Wait, C: Clock, J: Journal>(
     rt: &R,
-    desk: &Desk<Recorder>,
-    seat: &mut DeskSeat<Recorder>,
+    desk: &RecorderDesk<J>,
+    seat: &mut RecorderSeat<J>,
     op: Op,
     mut machine: Machine<'c>,
     dice: &mut Dice,

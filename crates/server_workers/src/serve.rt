@@ -1,23 +1,21 @@
 ghost use Rattle.std.specs.Prelude.{◌≡◌, [], All, IfOk};
 ghost use Rattle.script_code.specs.Translated.{IsCodeOf};
 ghost use Rattle.object_set.specs.ObjectSets.{IsSetOf, objects_of};
-ghost use Rattle.history.specs.Histories.{happening_in, history_of};
-ghost use Rattle.history.specs.Journals.{CanHappen};
 ghost use Rattle.turns.specs.Run.{KeepsRun};
 ghost use Rattle.server_workers.specs.Jobs.{requests_of};
 ghost use Rattle.server_workers.specs.Served.{IsServed};
 
+use crate::journal::{HistoryJournal, RecorderDesk};
 use crate::service::Service;
 use crate::worker::{Seats, Worked, work_all};
 use claims::{Claims, Workers};
-use desk::Call;
 use history::law::runs_are_legal;
-use history::{Event, Happening, Journal, Recorder, Recording, Reply, happening_by};
+use history::{Journal, Recording};
 use object_set::ObjectSet;
 use outside::{Clock, Gate};
 use script_check::program::Program;
-use script_code::translate::Code;
-use shared_desk::Desk;
+use script_code::translate::{Code, translate};
+use shared_desk::Kept;
 use std::alloc::{AllocError, Global};
 use std::sync::{Arc, Wait};
 use std::thread::Threads;
@@ -28,11 +26,10 @@ use workload::Requests;
 /// draws the next job, has it arrive at its seat, does what its request wants, and has it depart.
 /// Each has its dice, by the seed. Where one lacks memory the others go on, and the whole is answered
 /// as want of memory.
-pub fn serve_jobs<R: Threads + Wait + Sync, C: Clock + Sync, G: Gate + Sync, J: Journal>(
+pub fn serve_jobs<R: Threads + Wait + Sync, C: Clock + Sync, G: Gate + Sync, J: Journal + Send>(
     rt: &R,
     alloc: Global,
     program: &Arc<Program>,
-    code: Code,
     start: ObjectSet,
     jobs: Requests,
     workers: Workers,
@@ -41,7 +38,6 @@ pub fn serve_jobs<R: Threads + Wait + Sync, C: Clock + Sync, G: Gate + Sync, J: 
     gate: &G,
     journal: J,
 ) -> Result<J, AllocError>
-    requires code { IsCodeOf program.now.value code }
     requires start { IsSetOf program.now.value start }
     requires nothing_kept { J.keeps [] journal }
     ensures { let objects = objects_of start in let reading = C.reading clock.now in
@@ -55,12 +51,15 @@ pub fn serve_jobs<R: Threads + Wait + Sync, C: Clock + Sync, G: Gate + Sync, J: 
     let Ok(limit) = u32::try_from(jobs.len()) else {
         return Err(AllocError);
     };
+    let code = translate(alloc, program)?;
+    let others = codes(alloc, program, workers.count() - 1)?;
     let recording = Recording::new(alloc, program.clone()?, start);
     let (claims, claim) = Claims::new(alloc, u64::from(limit))?;
-    let (desk, seat) = Desk::<Recorder>::new(alloc, recording)?;
+    let (desk, seat) = RecorderDesk::<J>::new(alloc, recording, HistoryJournal { journal })?;
     let service = Service {
         alloc,
         code,
+        others,
         jobs,
         seed,
     };
@@ -81,7 +80,27 @@ pub fn serve_jobs<R: Threads + Wait + Sync, C: Clock + Sync, G: Gate + Sync, J: 
     }
     let Seats { claim, desk: seat } = seats;
     claims.close(claim);
-    keep(desk.close(seat).calls, journal)
+    let Kept {
+        calls: _,
+        state: _,
+        journal,
+    } = desk.close(seat);
+    match journal {
+        Some(HistoryJournal { journal }) => Ok(journal),
+        None => Err(AllocError),
+    }
+}
+
+/// So many codes of a program. They are made before the threads are, since to go through a deep program takes more
+/// stack than a thread may have.
+fn codes(alloc: Global, program: &Program, count: u32) -> Result<Vec<Code>, AllocError>
+    ensures { IfOk result (λ codes. All (IsCodeOf program.now) codes.items) }
+{
+    let mut codes = Vec::new(alloc);
+    for _ in 0..count {
+        codes.push(translate(alloc, program)?)?;
+    }
+    Ok(codes)
 }
 
 /// Requests that many may hold.
@@ -94,24 +113,4 @@ fn shared(alloc: Global, requests: Requests) -> Result<Vec<Arc<PackedRequest>>, 
         jobs.push(Arc::new(alloc, request)?)?;
     }
     Ok(jobs)
-}
-
-/// Gives what happened by the calls to the journal.
-fn keep<J: Journal>(calls: Vec<Call<Event, Reply>>, mut journal: J) -> Result<J, AllocError>
-    requires can { All CanHappen (history_of calls.items) }
-    requires nothing_kept { J.keeps [] journal }
-    ensures { IfOk result (J.keeps (history_of calls.items)) }
-{
-    for call in calls {
-        journal.take(happening_in(call))?;
-    }
-    Ok(journal)
-}
-
-/// What happened by a call.
-fn happening_in(call: Call<Event, Reply>) -> Happening
-    ensures { result ≡ happening_in call }
-{
-    let Call { seat, event, reply } = call;
-    happening_by(seat, event, &reply)
 }

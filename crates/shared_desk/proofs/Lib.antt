@@ -4,4 +4,5 @@ pub mod Parts
 pub mod Turning
 pub mod Seating
 pub mod Told
+pub mod Sends
 pub mod Permuted

@@ -10,7 +10,8 @@ use lib.ListN.{get_elem?}
 use Rattle.atomic_table.specs.Table.{opening, Splits, Joins, Final, Seen}
 use Rattle.atomic_table.proofs.Lists.{set_else}
 use Rattle.desk.specs.declared.bench.Call.{Call}
-use Rattle.desk.specs.declared.held.Held.{Held}
+use Rattle.shared_desk.specs.declared.kept.Kept.{Kept}
+use Rattle.shared_desk.specs.Kept.{calls_of, KeepsCalls}
 use Rattle.desk.specs.Runs.{Runs, calls_by, StartsWith}
 use Rattle.shared_desk.specs.declared.rule.View.{View}
 use Rattle.shared_desk.specs.declared.shared.TheConstants.{MOST_SEATS}
@@ -23,13 +24,14 @@ use Rattle.shared_desk.proofs.Sums.{once_below-one, once_below-le, once_below-in
 use Rattle.shared_desk.proofs.Sums.{each_set, each_end, sum_by-set, sum_by-two, sum_by-alone}
 use Rattle.shared_desk.proofs.Parts.{none_some, false_true, numbered_set, numbered_end, line_set, line_end, turn_idle, turn_end, called_set}
 
-module _ {S E R : Type 0} (steps : S → ℕ → E → R → S → Type 0) (start : S) where
+module _ {S E R J : Type 0} (steps : S → ℕ → E → R → S → Type 0) (start : S) (keeps : List (Call E R) → J → Type 0) where
   -- a fact of the one view that a desk opens with
   only : (P : ℕ → View S E R → Type 0) → P 0 (first_view start) → (j : ℕ) (v : View S E R) → get_elem? (first_view start ∷ []) j ≡ some v → P j v
   only P here j v at = each_end P [] (first_view start) here (λ j v at. absurd (some-ne-none v (sym at))) j v at
 
-  opens : (h : Held S E R) → h.calls.items ≡ [] → h.state ≡ start → IsInOrder steps start (opening (0 ∷ 0 ∷ 0 ∷ []) (Some h ∷ []) (first_view start))
-  opens h empty same = record {
+  opens : (h : Kept S E R J) → calls_of h ≡ [] → h.state ≡ start → KeepsCalls keeps h
+      → IsInOrder steps start keeps (opening (0 ∷ 0 ∷ 0 ∷ []) (Some h ∷ []) (first_view start))
+  opens h empty same journal = record {
     history = [];
     served = 0;
     next = 0;
@@ -50,20 +52,20 @@ module _ {S E R : Type 0} (steps : S → ℕ → E → R → S → Type 0) (star
     known = only (λ j v. 0 < seats v → KnowsHistory start [] 1 j v)
         (λ live. record { opened = refl; numbered = refl; own = refl; counted = λ e. refl; seen = ([], refl) });
     kept = record {
-      home = λ e. (h, refl, record { calls = empty; runs = sym same });
+      home = λ e. (h, refl, record { calls = empty; runs = sym same; journal = journal });
       away = λ j e. absurd (none_some j e);
     };
   }
 
-  pub opens_with : (xs : List (DeskSlot S E R)) (h : Held S E R) → xs ≡ Some h ∷ [] → h.calls.items ≡ [] → h.state ≡ start
-      → IsInOrder steps start (opening (0 ∷ 0 ∷ 0 ∷ []) xs (first_view start))
-  opens_with xs h is empty same =
-      subst (λ (l : List (DeskSlot S E R)). IsInOrder steps start (opening (0 ∷ 0 ∷ 0 ∷ []) l (first_view start))) (sym is) (opens h empty same)
+  pub opens_with : (xs : List (DeskSlot S E R J)) (h : Kept S E R J) → xs ≡ Some h ∷ [] → calls_of h ≡ [] → h.state ≡ start → KeepsCalls keeps h
+      → IsInOrder steps start keeps (opening (0 ∷ 0 ∷ 0 ∷ []) xs (first_view start))
+  opens_with xs h is empty same journal =
+      subst (λ (l : List (DeskSlot S E R J)). IsInOrder steps start keeps (opening (0 ∷ 0 ∷ 0 ∷ []) l (first_view start))) (sym is) (opens h empty same journal)
 
-module _ {S E R : Type 0} (steps : S → ℕ → E → R → S → Type 0) (start : S) (id : ℕ) (v : View S E R) where
+module _ {S E R J : Type 0} (steps : S → ℕ → E → R → S → Type 0) (start : S) (keeps : List (Call E R) → J → Type 0) (id : ℕ) (v : View S E R) where
   -- a seat is split off by the first
   pub splits_on : v.number ≡ 0 → 0 < seats v → v.turn ≡ false → v.split_off + 1 < MOST_SEATS
-      → Splits (IsInOrder steps start) id v (with_split v) (new_view v)
+      → Splits (IsInOrder steps start keeps) id v (with_split v) (new_view v)
   splits_on first live no_turn few s r at =
       let left = with_split v in let right = new_view v in
       let views = set s.views id left in
@@ -142,7 +144,7 @@ module _ {S E R : Type 0} (steps : S → ℕ → E → R → S → Type 0) (star
 
   -- a seat takes in another
   pub joins_on : (other : ℕ) (w : View S E R) → 0 < seats v → 0 < seats w → v.turn ≡ false → w.turn ≡ false → w.ticket ≡ None
-      → Joins (IsInOrder steps start) id v other w (with_joined v w) spent_view
+      → Joins (IsInOrder steps start keeps) id v other w (with_joined v w) spent_view
   joins_on other w live live' no_turn no_turn' no_ticket' s r at ne at' =
       let both = with_joined v w in
       let views = set s.views id both in
@@ -184,14 +186,16 @@ module _ {S E R : Type 0} (steps : S → ℕ → E → R → S → Type 0) (star
       }
 
 -- what the slot holds at the end, where one seat has taken in all others
-pub record IsClosed {S E R : Type 0} (steps : S → ℕ → E → R → S → Type 0) (start : S) (v : View S E R) (h : Held S E R) : Type 0 where
-  pub runs : Runs steps start h.calls.items h.state
-  pub calls : HaveSameCalls h.calls.items v.calls
-  pub seen : StartsWith h.calls.items v.seen
+pub record IsClosed {S E R J : Type 0} (steps : S → ℕ → E → R → S → Type 0) (start : S) (keeps : List (Call E R) → J → Type 0) (v : View S E R)
+    (h : Kept S E R J) : Type 0 where
+  pub runs : Runs steps start (calls_of h) h.state
+  pub calls : HaveSameCalls (calls_of h) v.calls
+  pub seen : StartsWith (calls_of h) v.seen
+  pub journal : KeepsCalls keeps h
 
-module _ {S E R : Type 0} (steps : S → ℕ → E → R → S → Type 0) (start : S) (id : ℕ) (v : View S E R) where
+module _ {S E R J : Type 0} (steps : S → ℕ → E → R → S → Type 0) (start : S) (keeps : List (Call E R) → J → Type 0) (id : ℕ) (v : View S E R) where
   -- nobody has the turn but a seat that isn't spent
-  no_turn_left : (s : DeskState S E R) (r : IsInOrder steps start s) → get_elem? s.views id ≡ some v → v.turn ≡ false
+  no_turn_left : (s : DeskState S E R J) (r : IsInOrder steps start keeps s) → get_elem? s.views id ≡ some v → v.turn ≡ false
       → sum_by seats s.views ≡ seats v → (who : Option ℕ) → r.who ≡ who → r.who ≡ None
   no_turn_left s r at no_turn mine None e = e
   no_turn_left s r at no_turn mine (Some j) e =
@@ -212,8 +216,8 @@ module _ {S E R : Type 0} (steps : S → ℕ → E → R → S → Type 0) (star
       (λ (near : ¬ (made ≤ p)). has.held p (n ∙ once_below-in p made (omega arith)))
 
   -- the slot is at home, with all calls
-  closed_at : (s : DeskState S E R) (r : IsInOrder steps start s) → get_elem? s.views id ≡ some v → v.number ≡ 0 → 0 < seats v → v.turn ≡ false → HasAllSeats v
-      → (h : Held S E R) × (s.homes ≡ some (Some h) ∷ []) × IsClosed steps start v h
+  closed_at : (s : DeskState S E R J) (r : IsInOrder steps start keeps s) → get_elem? s.views id ≡ some v → v.number ≡ 0 → 0 < seats v → v.turn ≡ false → HasAllSeats v
+      → (h : Kept S E R J) × (s.homes ≡ some (Some h) ∷ []) × IsClosed steps start keeps v h
   closed_at s r at first live no_turn all =
       let k = r.known id v at live in
       let all_made : v.split_off + 1 ≡ r.made = k.counted (sym k.numbered ∙ first) in
@@ -230,11 +234,12 @@ module _ {S E R : Type 0} (steps : S → ℕ → E → R → S → Type 0) (star
               ap (calls_by p) after.calls ∙ sym {A = List (Call E R)} (all_calls r.history r.made p (r.called.own id v at) (r.called.unmade p)
               (sym alone ∙ r.numbered.once p));
           seen = subst (λ (l : List (Call E R)). StartsWith l v.seen) (sym {A = List (Call E R)} after.calls) k.seen;
+          journal = after.journal;
         },
       )
 
-  pub closes : (ws : List ℕ) (xs : List (DeskSlot S E R)) → v.number ≡ 0 → 0 < seats v → v.turn ≡ false → HasAllSeats v
-      → Final (Seen (IsInOrder steps start) id v) ws xs → (h : Held S E R) × (get_elem? xs 0 ≡ some (Some h)) × IsClosed steps start v h
+  pub closes : (ws : List ℕ) (xs : List (DeskSlot S E R J)) → v.number ≡ 0 → 0 < seats v → v.turn ≡ false → HasAllSeats v
+      → Final (Seen (IsInOrder steps start keeps) id v) ws xs → (h : Kept S E R J) × (get_elem? xs 0 ≡ some (Some h)) × IsClosed steps start keeps v h
   closes ws xs first live no_turn all final =
       let c = closed_at final.0 final.1.0 final.1.1 first live no_turn all in
-      (c.0, final.4 0 (Some c.0) (ap (λ (hs : List (May (DeskSlot S E R))). get_elem? hs 0) c.1), c.2)
+      (c.0, final.4 0 (Some c.0) (ap (λ (hs : List (May (DeskSlot S E R J))). get_elem? hs 0) c.1), c.2)

@@ -7,7 +7,8 @@ use lib.ListN.{get_elem?}
 use Rattle.atomic_table.specs.Table.{Act, Valid, step, keeps, takes, gives, stepped, carried_after, Allows}
 use Rattle.atomic_table.proofs.Lists.{set_again, one_turn}
 use Rattle.desk.specs.declared.bench.Call.{Call}
-use Rattle.desk.specs.declared.held.Held.{Held}
+use Rattle.shared_desk.specs.declared.kept.Kept.{Kept}
+use Rattle.shared_desk.specs.Kept.{calls_of, KeepsCalls}
 use Rattle.desk.specs.Runs.{Runs, calls_by, StartsWith}
 use Rattle.shared_desk.specs.declared.rule.View.{View}
 use Rattle.shared_desk.specs.Views.{seats}
@@ -20,9 +21,10 @@ use Rattle.shared_desk.proofs.Sums.{once_below-le, place_below, same_at, each_se
 use Rattle.shared_desk.proofs.Parts.{some_same, none_some, first_slot, false_true, ticket_count-le, numbered_set, line_set, line_drawn, line_served}
 use Rattle.shared_desk.proofs.Parts.{turn_idle, turn_taken, turn_kept, turn_ended, called_set}
 
-module _ {S E R : Type 0} (steps : S → ℕ → E → R → S → Type 0) (start : S) (slots id : ℕ) (v : View S E R) where
+module _ {S E R J : Type 0} (steps : S → ℕ → E → R → S → Type 0) (start : S) (keep : List (Call E R) → J → Type 0) (slots id : ℕ)
+    (v : View S E R) where
   pub draws_on : v.ticket ≡ None → v.turn ≡ false
-      → Allows (IsInOrder steps start) slots id (v, []) 0 (λ x. (x + 1) % 2 ^ 64) (TicketIsDrawn (step slots 0 1 0 none) (v, []))
+      → Allows (IsInOrder steps start keep) slots id (v, []) 0 (λ x. (x + 1) % 2 ^ 64) (TicketIsDrawn (step slots 0 1 0 none) (v, []))
   draws_on no_ticket no_turn s r _ at _ =
       let w = with_ticket v (Some r.next) in
       let found : slice_index s.words 0 ≡ r.next % 2 ^ 64 = ap (λ (ws : List ℕ). slice_index ws 0) r.words_are in
@@ -52,14 +54,14 @@ module _ {S E R : Type 0} (steps : S → ℕ → E → R → S → Type 0) (star
       )
 
   -- nothing changes
-  unmoved : (s : DeskState S E R) (r : IsInOrder steps start s) (word : ℕ) → slice_set s.words word (slice_index s.words word) ≡ s.words
+  unmoved : (s : DeskState S E R J) (r : IsInOrder steps start keep s) (word : ℕ) → slice_set s.words word (slice_index s.words word) ≡ s.words
       → get_elem? s.views id ≡ some v
-      → IsInOrder steps start (stepped s word (slice_index s.words word) id [] v keeps)
+      → IsInOrder steps start keep (stepped s word (slice_index s.words word) id [] v keeps)
   unmoved s r word same at =
-      subst (IsInOrder steps start) (λ i. record { words = sym same i; homes = s.homes; views = sym (set_again s.views id v at) i }) r
+      subst (IsInOrder steps start keep) (λ i. record { words = sym same i; homes = s.homes; views = sym (set_again s.views id v at) i }) r
 
   -- who has a ticket that is served, and not the turn: then nobody has the turn
-  no_turn_yet : (s : DeskState S E R) (r : IsInOrder steps start s) → get_elem? s.views id ≡ some v → v.ticket ≡ Some r.served → v.turn ≡ false
+  no_turn_yet : (s : DeskState S E R J) (r : IsInOrder steps start keep s) → get_elem? s.views id ≡ some v → v.ticket ≡ Some r.served → v.turn ≡ false
       → (who : Option ℕ) → r.who ≡ who → r.who ≡ None
   no_turn_yet s r at ticket no_turn None e = e
   no_turn_yet s r at ticket no_turn (Some j) e =
@@ -70,17 +72,17 @@ module _ {S E R : Type 0} (steps : S → ℕ → E → R → S → Type 0) (star
       absurd (false_true v.turn no_turn (sym (ap (λ (z : View S E R). z.turn) same) ∙ t.2))
 
   -- the seat's ticket is served, and the slot is at home
-  turn_begins : (s : DeskState S E R) (r : IsInOrder steps start s) → get_elem? s.views id ≡ some v → 0 < seats v → v.ticket ≡ Some r.served
-      → r.who ≡ None → (h : Held S E R) → s.homes ≡ some (Some h) ∷ [] → IsAfter steps start r.history h
-      → (w : View S E R) × (a : Act (DeskSlot S E R)) × Valid s.homes [] a × IsInOrder steps start (stepped s 1 (slice_index s.words 1) id [] w a)
-      × IsTurned steps (v, []) (w, carried_after [] a)
+  turn_begins : (s : DeskState S E R J) (r : IsInOrder steps start keep s) → get_elem? s.views id ≡ some v → 0 < seats v → v.ticket ≡ Some r.served
+      → r.who ≡ None → (h : Kept S E R J) → s.homes ≡ some (Some h) ∷ [] → IsAfter steps start keep r.history h
+      → (w : View S E R) × (a : Act (DeskSlot S E R J)) × Valid s.homes [] a × IsInOrder steps start keep (stepped s 1 (slice_index s.words 1) id [] w a)
+      × IsTurned steps keep (v, []) (w, carried_after [] a)
   turn_begins s r at live ticket free h home after =
-      let w = with_turn v h.calls.items in
+      let w = with_turn v (calls_of h) in
       let k = r.known id v at live in
       let has = r.called.own id v at in (
         w,
         takes 0 (Some h),
-        ap (λ (hs : List (May (DeskSlot S E R))). get_elem? hs 0) home,
+        ap (λ (hs : List (May (DeskSlot S E R J))). get_elem? hs 0) home,
         record {
           history = r.history;
           served = r.served;
@@ -99,12 +101,12 @@ module _ {S E R : Type 0} (steps : S → ℕ → E → R → S → Type 0) (star
                 numbered = k.numbered;
                 own = k.own;
                 counted = k.counted;
-                seen = starts_with_all r.history h.calls.items after.calls;
+                seen = starts_with_all r.history (calls_of h) after.calls;
               })
               (λ j u ne e. r.known j u e);
           kept = record {
             home = λ e. absurd (none_some id (sym e));
-            away = λ j e. ap (λ (hs : List (May (DeskSlot S E R))). slice_set hs 0 none) home;
+            away = λ j e. ap (λ (hs : List (May (DeskSlot S E R J))). slice_set hs 0 none) home;
           };
         },
         record {
@@ -117,11 +119,12 @@ module _ {S E R : Type 0} (steps : S → ℕ → E → R → S → Type 0) (star
                 own = subst (λ (z : ℕ × List (Call E R)). calls_by z.0 z.1 ≡ calls_by z.0 v.calls) (λ i. (sym k.numbered i, sym after.calls i))
                     (sym (has.held id k.own));
               };
+          journal = after.journal;
         },
       )
 
   -- the word shows the seat's ticket, hence it is the one that is served
-  served_now : (s : DeskState S E R) (r : IsInOrder steps start s) (k : ℕ) → get_elem? s.views id ≡ some v → v.ticket ≡ Some k
+  served_now : (s : DeskState S E R J) (r : IsInOrder steps start keep s) (k : ℕ) → get_elem? s.views id ≡ some v → v.ticket ≡ Some k
       → slice_index s.words 1 ≡ k % 2 ^ 64 → r.served ≡ k
   served_now s r k at ticket found =
       let shown : r.served % 2 ^ 64 ≡ k % 2 ^ 64 = sym (ap (λ (ws : List ℕ). slice_index ws 1) r.words_are) ∙ found in
@@ -131,18 +134,18 @@ module _ {S E R : Type 0} (steps : S → ℕ → E → R → S → Type 0) (star
       one_turn r.served k (2 ^ 64) between.0 (omega arith) shown
 
   pub looks_on : (k : ℕ) → 0 < seats v → v.ticket ≡ Some k → v.turn ≡ false
-      → Allows (IsInOrder steps start) slots id (v, []) 1 (λ x. x) (TurnIsSeen steps (step slots 1 0 0 none) (v, []))
+      → Allows (IsInOrder steps start keep) slots id (v, []) 1 (λ x. x) (TurnIsSeen steps keep (step slots 1 0 0 none) (v, []))
   looks_on k live ticket no_turn s r _ at _ = go (eqb (slice_index s.words 1) (k % 2 ^ 64)) refl
     where
-      Told : Bool → Hand S E R → Type 0
-      Told b n = MatchBool b (IsTurned steps (v, []) n) (n ≡ (v, []))
+      Told : Bool → Hand S E R J → Type 0
+      Told b n = MatchBool b (IsTurned steps keep (v, []) n) (n ≡ (v, []))
 
       same_test : eqb (slice_index s.words 1) (unwrap_or v.ticket 0 % 2 ^ 64) ≡ eqb (slice_index s.words 1) (k % 2 ^ 64)
       same_test = ap (λ (o : Option ℕ). eqb (slice_index s.words 1) (unwrap_or o 0 % 2 ^ 64)) ticket
 
       go : (b : Bool) → eqb (slice_index s.words 1) (k % 2 ^ 64) ≡ b
-          → (w : View S E R) × (a : Act (DeskSlot S E R)) × Valid s.homes [] a × IsInOrder steps start (stepped s 1 (slice_index s.words 1) id [] w a)
-          × TurnIsSeen steps (step slots 1 0 0 none) (v, []) (slice_index s.words 1) (w, carried_after [] a)
+          → (w : View S E R) × (a : Act (DeskSlot S E R J)) × Valid s.homes [] a × IsInOrder steps start keep (stepped s 1 (slice_index s.words 1) id [] w a)
+          × TurnIsSeen steps keep (step slots 1 0 0 none) (v, []) (slice_index s.words 1) (w, carried_after [] a)
       go true e =
           let now = served_now s r k at ticket (eqb-true (slice_index s.words 1) (k % 2 ^ 64) e) in
           let served = ticket ∙ ap Some (sym now) in
@@ -159,9 +162,9 @@ module _ {S E R : Type 0} (steps : S → ℕ → E → R → S → Type 0) (star
       )
 
   -- the call is counted: the history grows by it
-  pub counts_on : (c : Call E R) (h : Held S E R) → v.turn ≡ true → c.seat ≡ v.number → h.calls.items ≡ v.seen ++ c ∷ []
-      → length h.calls.items < 2 ^ 64
-      → Allows (IsInOrder steps start) slots id (v, (0, Some h) ∷ []) 2 (λ x. (x + 1) % 2 ^ 64)
+  pub counts_on : (c : Call E R) (h : Kept S E R J) → v.turn ≡ true → c.seat ≡ v.number → calls_of h ≡ v.seen ++ c ∷ []
+      → length (calls_of h) < 2 ^ 64
+      → Allows (IsInOrder steps start keep) slots id (v, (0, Some h) ∷ []) 2 (λ x. (x + 1) % 2 ^ 64)
       (CallIsCounted (step slots 2 1 0 none) (v, (0, Some h) ∷ []))
   counts_on c h turn by_seat grown small s r _ at _ =
       let w = with_call v c in
@@ -172,7 +175,7 @@ module _ {S E R : Type 0} (steps : S → ℕ → E → R → S → Type 0) (star
       let seen_all : v.seen ++ c ∷ [] ≡ more = ap (λ l. l ++ c ∷ []) its.seen_is in
       let mine : c.seat ≡ id = by_seat ∙ k.numbered in
       let n_more : length more ≡ length r.history + 1 = length-append r.history (c ∷ []) in
-      let n_held : length h.calls.items ≡ length more = ap length (grown ∙ seen_all) in
+      let n_held : length (calls_of h) ≡ length more = ap length (grown ∙ seen_all) in
       let n : (length r.history + 1) % 2 ^ 64 ≡ length more = omega arith in (
         w,
         keeps,
@@ -235,12 +238,12 @@ module _ {S E R : Type 0} (steps : S → ℕ → E → R → S → Type 0) (star
 
       same_call : (d : Call E R) → HoldsCall (v, (0, Some h) ∷ []) d → c ≡ d
       same_call d holds =
-          let same = ap (λ (z : Held S E R). z.calls.items) (some_same h holds.held (first_slot (Some h) (Some holds.held) [] [] holds.slot)) in
+          let same = ap (λ (z : Kept S E R J). calls_of z) (some_same h holds.held (first_slot (Some h) (Some holds.held) [] [] holds.slot)) in
           last_call v.seen c d (sym grown ∙ (same ∙ holds.calls))
 
   -- the turn is ended, and the slot goes home
-  pub ends_on : (h : Held S E R) → v.turn ≡ true → IsAfter steps start v.seen h
-      → Allows (IsInOrder steps start) slots id (v, (0, Some h) ∷ []) 1 (λ x. (x + 1) % 2 ^ 64)
+  pub ends_on : (h : Kept S E R J) → v.turn ≡ true → IsAfter steps start keep v.seen h
+      → Allows (IsInOrder steps start keep) slots id (v, (0, Some h) ∷ []) 1 (λ x. (x + 1) % 2 ^ 64)
       (TurnIsEnded (step slots 1 1 0 none) (v, (0, Some h) ∷ []))
   ends_on h turn after s r _ at _ =
       let w = with_ticket v None in
@@ -269,8 +272,8 @@ module _ {S E R : Type 0} (steps : S → ℕ → E → R → S → Type 0) (star
           kept = record {
             home = λ e. (
               h,
-              ap (λ (hs : List (May (DeskSlot S E R))). slice_set hs 0 (some (Some h))) (r.kept.away id its.who_is),
-              subst (λ (l : List (Call E R)). IsAfter steps start l h) its.seen_is after,
+              ap (λ (hs : List (May (DeskSlot S E R J))). slice_set hs 0 (some (Some h))) (r.kept.away id its.who_is),
+              subst (λ (l : List (Call E R)). IsAfter steps start keep l h) its.seen_is after,
             );
             away = λ j e. absurd (none_some j e);
           };

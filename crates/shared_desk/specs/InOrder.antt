@@ -5,19 +5,20 @@ use mathlib.Core.Option.{some, none, Option as May}
 use lib.ListN.{get_elem?}
 use Rattle.atomic_table.specs.Table.{State}
 use Rattle.desk.specs.declared.bench.Call.{Call}
-use Rattle.desk.specs.declared.held.Held.{Held}
+use Rattle.shared_desk.specs.declared.kept.Kept.{Kept}
+use Rattle.shared_desk.specs.Kept.{calls_of, KeepsCalls}
 use Rattle.desk.specs.Runs.{Runs, calls_by, StartsWith}
 use Rattle.shared_desk.specs.declared.rule.View.{View}
 use Rattle.shared_desk.specs.declared.shared.TheConstants.{MOST_SEATS}
 use Rattle.shared_desk.specs.Views.{seats}
 
--- what the slot holds: the calls and the state after them, or nothing where a seat took them out
-abbrev pub DeskSlot : Type 0 → Type 0 → Type 0 → Type 0
-DeskSlot S E R = Option (Held S E R)
+-- what the slot holds: the state and the journal after the calls so far, or nothing where a seat took it out
+abbrev pub DeskSlot : Type 0 → Type 0 → Type 0 → Type 0 → Type 0
+DeskSlot S E R J = Option (Kept S E R J)
 
 -- a desk's table at one time
-abbrev pub DeskState : Type 0 → Type 0 → Type 0 → Type 0
-DeskState S E R = State (DeskSlot S E R) (View S E R)
+abbrev pub DeskState : Type 0 → Type 0 → Type 0 → Type 0 → Type 0
+DeskState S E R J = State (DeskSlot S E R J) (View S E R)
 
 -- one for a ticket
 abbrev pub ticket_count : Option ℕ → ℕ
@@ -82,19 +83,20 @@ module _ {S E R : Type 0} where
     pub own : (place : ℕ) (v : View S E R) → get_elem? views place ≡ some v → HasItsCalls history v
     pub unmade : (number : ℕ) → made ≤ number → calls_by number history ≡ []
 
-module _ {S E R : Type 0} (steps : S → ℕ → E → R → S → Type 0) (start : S) where
-  -- These are the calls of the history, and the state after it.
-  pub record IsAfter (history : List (Call E R)) (h : Held S E R) : Type 0 where
-    pub calls : h.calls.items ≡ history
+module _ {S E R J : Type 0} (steps : S → ℕ → E → R → S → Type 0) (start : S) (keeps : List (Call E R) → J → Type 0) where
+  -- These are the calls of the history, the state after it, and its journal.
+  pub record IsAfter (history : List (Call E R)) (h : Kept S E R J) : Type 0 where
+    pub calls : calls_of h ≡ history
     pub runs : Runs steps start history h.state
+    pub journal : KeepsCalls keeps h
 
   -- The slot has the history and its state, or is with who has the turn.
-  pub record IsKept (history : List (Call E R)) (who : Option ℕ) (homes : List (May (DeskSlot S E R))) : Type 0 where
-    pub home : who ≡ None → (h : Held S E R) × (homes ≡ some (Some h) ∷ []) × IsAfter history h
+  pub record IsKept (history : List (Call E R)) (who : Option ℕ) (homes : List (May (DeskSlot S E R J))) : Type 0 where
+    pub home : who ≡ None → (h : Kept S E R J) × (homes ≡ some (Some h) ∷ []) × IsAfter history h
     pub away : (place : ℕ) → who ≡ Some place → homes ≡ none ∷ []
 
   -- There is one history. Seats take turns at it, in the order of their tickets.
-  pub record IsInOrder (s : DeskState S E R) : Type 0 where
+  pub record IsInOrder (s : DeskState S E R J) : Type 0 where
     pub history : List (Call E R)
     pub served : ℕ
     pub next : ℕ

@@ -1,7 +1,7 @@
 //! The rule that desks keep, what a seat knows by it, and what each step tells. No value of these types is made.
+use crate::kept::{CallJournal, Kept, KeptOf};
 use atomic_table::{Join, Play, Split, TableRule};
 use desk::bench::{Bench, Call};
-use desk::held::{Held, HeldOf};
 use std::collections::LinkedList;
 use std::marker::PhantomData;
 use std::snapshot::Snapshot;
@@ -27,15 +27,20 @@ pub struct View<S, E, R> {
 pub type ViewOf<B> = View<<B as Bench>::State, <B as Bench>::Event, <B as Bench>::Reply>;
 
 /// The rule of a desk.
-pub struct OneHistory<B> {
+pub struct OneHistory<B, J> {
     bench: PhantomData<B>,
+    journal: PhantomData<J>,
 }
 
-impl<B: Bench> TableRule<Option<HeldOf<B>>, ViewOf<B>, Snapshot<B::State>> for OneHistory<B> {
+impl<B: Bench, J: CallJournal<B::Event, B::Reply>> TableRule<
+    Option<KeptOf<B, J>>,
+    ViewOf<B>,
+    Snapshot<B::State>,
+> for OneHistory<B, J> {
     ghost use Rattle.shared_desk.specs.InOrder.{IsInOrder};
     ghost use Rattle.shared_desk.specs.Views.{first_view};
 
-    ghost holds = { λ k. IsInOrder B.steps k.value };
+    ghost holds = { λ k. IsInOrder B.steps k.value J.keeps };
 
     ghost first = { λ k. first_view k.value };
 }
@@ -43,27 +48,29 @@ impl<B: Bench> TableRule<Option<HeldOf<B>>, ViewOf<B>, Snapshot<B::State>> for O
 /// A ticket is drawn.
 pub(crate) struct DrawsTicket;
 
-impl<S, E, R> Play<Option<Held<S, E, R>>, View<S, E, R>> for DrawsTicket {
+impl<S, E, R, J> Play<Option<Kept<S, E, R, J>>, View<S, E, R>> for DrawsTicket {
     ghost use Rattle.shared_desk.specs.Steps.{TicketIsDrawn};
 
     ghost then = { TicketIsDrawn };
 }
 
 /// It is seen which ticket is served.
-pub(crate) struct LooksForTurn<B> {
+pub(crate) struct LooksForTurn<B, J> {
     bench: PhantomData<B>,
+    journal: PhantomData<J>,
 }
 
-impl<B: Bench> Play<Option<HeldOf<B>>, ViewOf<B>> for LooksForTurn<B> {
+impl<B: Bench, J: CallJournal<B::Event, B::Reply>> Play<Option<KeptOf<B, J>>, ViewOf<B>>
+    for LooksForTurn<B, J> {
     ghost use Rattle.shared_desk.specs.Steps.{TurnIsSeen};
 
-    ghost then = { TurnIsSeen B.steps };
+    ghost then = { TurnIsSeen B.steps J.keeps };
 }
 
 /// A call is counted, and the history has it.
 pub(crate) struct CountsCall;
 
-impl<S, E, R> Play<Option<Held<S, E, R>>, View<S, E, R>> for CountsCall {
+impl<S, E, R, J> Play<Option<Kept<S, E, R, J>>, View<S, E, R>> for CountsCall {
     ghost use Rattle.shared_desk.specs.Steps.{CallIsCounted};
 
     ghost then = { CallIsCounted };
@@ -72,7 +79,7 @@ impl<S, E, R> Play<Option<Held<S, E, R>>, View<S, E, R>> for CountsCall {
 /// The turn is ended.
 pub(crate) struct EndsTurn;
 
-impl<S, E, R> Play<Option<Held<S, E, R>>, View<S, E, R>> for EndsTurn {
+impl<S, E, R, J> Play<Option<Kept<S, E, R, J>>, View<S, E, R>> for EndsTurn {
     ghost use Rattle.shared_desk.specs.Steps.{TurnIsEnded};
 
     ghost then = { TurnIsEnded };

@@ -2,7 +2,7 @@
 ghost use Rattle.desk.specs.Runs.{Runs};
 ghost use Rattle.shared_desk.specs.Seats.{IsSeatOf};
 
-use desk::bench::Bench;
+use desk::bench::{Bench, Call};
 use shared_desk::{Desk, DeskSeat};
 use std::alloc::{AllocError, Global};
 use std::sync::Wait;
@@ -33,8 +33,15 @@ impl Bench for Counter {
     }
 }
 
+/// Its calls.
+type Counts = Vec<Call<(), u64>>;
+
 /// The sum of the replies to 500 calls from a seat.
-fn sum_of_calls<R: Wait>(rt: &R, desk: &Desk<Counter>, mut seat: DeskSeat<Counter>) -> u64
+fn sum_of_calls<R: Wait>(
+    rt: &R,
+    desk: &Desk<Counter, Counts>,
+    mut seat: DeskSeat<Counter, Counts>,
+) -> u64
     requires own { IsSeatOf desk.now seat }
 {
     let mut sum: u64 = 0;
@@ -48,7 +55,7 @@ fn sum_of_calls<R: Wait>(rt: &R, desk: &Desk<Counter>, mut seat: DeskSeat<Counte
 
 /// The sum of the replies to a thousand calls of two threads.
 fn sum_of_all<R: Threads + Wait + Sync>(rt: &R, alloc: Global) -> Result<u64, AllocError> {
-    let (desk, mut first) = Desk::<Counter>::new(alloc, 0)?;
+    let (desk, mut first) = Desk::<Counter, Counts>::new(alloc, 0, Vec::new(alloc))?;
     let second = desk.split(&mut first);
     let (ours, theirs) = join(
         rt,

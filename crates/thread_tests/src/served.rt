@@ -5,7 +5,6 @@ use claims::Workers;
 use history::History;
 use object_set::ObjectSet;
 use outside::{FixedClock, Gate, OpenGate};
-use script_code::translate::translate;
 use server_workers::serve_jobs;
 use std::alloc::{AllocError, Global};
 use std::sync::Wait;
@@ -23,14 +22,13 @@ pub(crate) fn history<R: Threads + Wait + Sync, G: Gate + Sync>(
     gate: &G,
 ) -> Result<History, AllocError> {
     let program = hit(alloc)?;
-    let code = translate(alloc, &program)?;
     let objects = ObjectSet::new(alloc, program.declarations())?;
     let jobs = jobs(alloc, file)?;
     let clock = FixedClock(5);
     let history = History::new(alloc);
     let workers = Workers::new(workers).ok_or(AllocError)?;
     serve_jobs(
-        rt, alloc, &program, code, objects, jobs, workers, 7, &clock, gate, history,
+        rt, alloc, &program, objects, jobs, workers, 7, &clock, gate, history,
     )
 }
 

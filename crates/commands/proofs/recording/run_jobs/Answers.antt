@@ -2,8 +2,8 @@ use Rattle.object_set.specs.ObjectSets.{objects_of}
 use Rattle.commands.proofs.RecordSteps.{by_turns, by_workers}
 use Rattle.commands.proofs.recording.run_jobs.Goals as goal
 
-pub returns-in-ByTurns : goal.returns-in-ByTurns
-returns-in-ByTurns g c =
+pub returns-in_ok-code-in-ByTurns : goal.returns-in_ok-code-in-ByTurns
+returns-in_ok-code-in-ByTurns g c =
     let reading = g.C.Clock.reading c.args.clock.now in
     by_turns g.J.Journal.keeps c.args.program.now.value (objects_of c.args.start) c.args.jobs c.args.seed reading c.args.way c.run_turns.result
     c.in-ByTurns.turns c.as_slice-turns.result.now c.in-ByTurns.is c.as_slice-turns.ensures c.run_turns.ensures

@@ -3,7 +3,7 @@ use Rattle.history.specs.Recordings.{Takes}
 use Rattle.history.specs.declared.event.Event.TheVariants as asks
 use Rattle.shared_desk.specs.Calls.{HasCalled}
 use Rattle.shared_desk.specs.Seats.{start_of, view}
-use Rattle.turns.proofs.Steps.{has_bound}
+use Rattle.turns.proofs.Steps.{fits_program, has_bound}
 use Rattle.server_workers.specs.Openings.{open_at}
 use Rattle.server_workers.proofs.Calls.{goes_on, may_call}
 use Rattle.server_workers.proofs.request.act.Goals as goal
@@ -17,6 +17,11 @@ call-requires-clause-may g c =
     let waits = c.requires.waits in
     may_call (start_of c.args.desk.now) c.requires.opening (view c.args.seat.now) _
     ((waits.visit, waits.here', waits.wants), c.offer_for-offer.ensures.offer)
+
+pub call-requires-clause-take : goal.call-requires-clause-take
+call-requires-clause-take g c = λ reply.
+    let program = (start_of c.args.desk.now).program in
+    (program, fits_program program (open_at (view c.args.seat.now)) c.args.op c.args.machine c.requires.opening.valid c.requires.waits)
 
 pub returns-clause-goes : goal.returns-clause-goes
 returns-clause-goes g c =

@@ -1,21 +1,21 @@
 use denote.Exit.{no}
-use denote.Param.Send.{IsSync, arg_send, param_send}
+use denote.Param.{param}
+use denote.Param.Send.{arg_send, param_send}
 use Rattle.std.proofs.Common.{rules, ◌+◌, ◌-◌, ◌<◌, refl, arith}
 use Rattle.server_workers.specs.Workers.{settings}
 use Rattle.server_workers.specs.declared.worker.Seats.{Seats}
-use Rattle.server_workers.proofs.Sends.{sends, work_send}
+use Rattle.server_workers.proofs.Sends.{work_send, worked_send}
 use Rattle.server_workers.proofs.Working.{AreSplit, together}
 use Rattle.server_workers.proofs.worker.+fn-work_all-join+arg3+work_all.Goals as goal
 
 pub join-theirs-requires-send-F : goal.join-theirs-requires-send-F
 join-theirs-requires-send-F g t c κs within =
-    let r : IsSync g.row.R = search (rules, c.requires.sync) parts 8 in
-    let d : IsSync g.row.C = search (rules, c.requires.sync) parts 8 in
-    let e : IsSync g.row.G = search (rules, c.requires.sync) parts 8 in
-    param_send 1 _ (arg_send _ no _ (work_send g.row.R g.row.C g.row.G r d e _ _ _ _ _ _ _ _))
+    let s = c.requires.sync in
+    param_send 1 _ (arg_send _ no _ (work_send g.row.R g.row.C g.row.G g.row.J g.J.Journal s.0 s.1 s.2 s.3 _ _ _ _ _ _ _ _))
 
 pub join-theirs-requires-send-A : goal.join-theirs-requires-send-A
-join-theirs-requires-send-A g t c κs within = search sends depth 60 fits 20000
+join-theirs-requires-send-A g t c κs within =
+    param_send 3 _ (arg_send _ no _ (worked_send (param 3 g.row.J) c.requires.sync.3))
 
 pub joined-requires-clause-own : goal.joined-requires-clause-own
 joined-requires-clause-own g t c = c.join-theirs.ensures.second.own
@@ -27,8 +27,8 @@ pub returns : goal.returns
 returns g t c =
     let s = settings c.args.service.now.jobs.items c.args.service.now.seed (g.C.Clock.reading c.args.clock.now) in
     let before = c.args.seats in
-    let first : Seats = record { claim = c.split.new.seat; desk = c.split-2.new.seat } in
-    let other : Seats = record { claim = c.split.result; desk = c.split-2.result } in
+    let first : Seats _ = record { claim = c.split.new.seat; desk = c.split-2.new.seat } in
+    let other : Seats _ = record { claim = c.split.result; desk = c.split-2.result } in
     let split : AreSplit before first other = record {
       rest = c.split.ensures.rest;
       part = c.split.ensures.part;

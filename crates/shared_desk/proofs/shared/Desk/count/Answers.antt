@@ -1,19 +1,20 @@
 use Rattle.std.proofs.Common.{rules, arith, ap, ◌∙◌}
 use mathlib.Core.Option.{none}
 use Rattle.atomic_table.specs.Table.{step}
-use Rattle.shared_desk.proofs.Told.{put_in, counts_at, counted_is}
+use Rattle.shared_desk.proofs.Told.{calls_of-length, put_in, counts_at, counted_is}
 use Rattle.shared_desk.proofs.shared.Desk.count.Goals as goal
 
 pub fetch_add-requires : goal.fetch_add-requires
 fetch_add-requires g c =
     let steps = g.B.Bench.steps in
+    let keeps = g.J.CallJournal.keeps in
     let start = c.args.self.now.table.shared.key.value in
     let seat = c.args.seat.now in
     let is = put_in seat.me c.exchange.new.seat.me c.args.held c.requires.slot c.exchange.ensures.3 in
     let n = c.len.ensures in let o = c.args.held.calls.ok.0 in let t = c.len.type_inv in (
       search rules,
       search rules,
-      counts_at steps start _ _ c.exchange.new.seat.me seat.me.0 c.args.held is c.requires.slot.turn c.requires.call (omega arith),
+      counts_at steps start keeps _ _ c.exchange.new.seat.me seat.me.0 c.args.held is c.requires.slot.turn c.requires.call (omega (arith, calls_of-length c.args.held)),
     )
 
 pub returns-clause-call : goal.returns-clause-call

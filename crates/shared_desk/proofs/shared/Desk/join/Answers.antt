@@ -12,6 +12,6 @@ join_seat-requires g c =
       search rules,
       no_slot_left other.seat.me.1 other.no_slot,
       search rules,
-      joins_on g.B.Bench.steps c.args.self.now.table.shared.key.value seat.seat.id seat.seat.me.0 other.seat.id other.seat.me.0
+      joins_on g.B.Bench.steps c.args.self.now.table.shared.key.value g.J.CallJournal.keeps seat.seat.id seat.seat.me.0 other.seat.id other.seat.me.0
           seat.live other.live seat.no_turn other.no_turn no_ticket,
     )

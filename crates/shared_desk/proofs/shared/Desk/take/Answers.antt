@@ -11,12 +11,14 @@ exchange-requires g c =
 pub unreachable-requires : goal.unreachable-requires
 unreachable-requires g c =
     let steps = g.B.Bench.steps in
+    let keeps = g.J.CallJournal.keeps in
     let start = c.args.self.now.table.shared.key.value in
-    took_none steps start c.args.seat.now.me.0 c.take_turn.new.seat.me c.exchange.result c.take_turn.ensures.turn c.exchange.ensures.2 c.in_default.is
+    took_none steps start keeps c.args.seat.now.me.0 c.take_turn.new.seat.me c.exchange.result c.take_turn.ensures.turn c.exchange.ensures.2 c.in_default.is
 
 pub returns-clause-taken : goal.returns-clause-taken
 returns-clause-taken g c =
     let steps = g.B.Bench.steps in
+    let keeps = g.J.CallJournal.keeps in
     let start = c.args.self.now.table.shared.key.value in
-    took_told steps start c.args.seat.now.me.0 c.take_turn.new.seat.me c.exchange.new.seat.me c.exchange.result c.in-Some.held
+    took_told steps start keeps c.args.seat.now.me.0 c.take_turn.new.seat.me c.exchange.new.seat.me c.exchange.result c.in-Some.held
     c.take_turn.ensures.turn c.exchange.ensures.2 c.exchange.ensures.3 c.in-Some.is

@@ -1,5 +1,4 @@
-ghost use Rattle.std.specs.Prelude.{◌≡◌, ◌++◌, ◌∷◌, [], ℕ, map, IfOk, OnOk};
-ghost use Rattle.script_tree.specs.Datum.{text as texted};
+ghost use Rattle.std.specs.Prelude.{◌≡◌, ◌++◌, ◌∷◌, [], ℕ, map, OnOk};
 ghost use Rattle.script_tree.specs.ExpressionView.{expression_of, query_of};
 ghost use Rattle.script_tree.specs.ExpressionView.{condition_of, assignment_of};
 ghost use Rattle.script_tree.specs.SyntaxLists.{expressions_of, queries_of};
@@ -36,13 +35,6 @@ impl Emitter<'_> {
         self.expression_node(code, scope, e.at, &e.node)
     }
 
-    // A text of the code's own, beside the tree's: so threads with codes of their own count no references of one text.
-    fn own_text(&self, text: &Text) -> Result<Value, AllocError>
-        ensures { IfOk result (λ value. value ≡ texted text.now) }
-    {
-        Value::text(self.alloc, text.clone()?)
-    }
-
     #[cycle(emit)]
     fn expression_node(
         &self,
@@ -56,7 +48,9 @@ impl Emitter<'_> {
     {
         match node {
             ExpressionNode::Number(n) => put(code, Instruction::Push(Value::number(*n))),
-            ExpressionNode::Text(text) => put(code, Instruction::Push(self.own_text(text)?)),
+            ExpressionNode::Text(text) => {
+                put(code, Instruction::Push(Value::shared_text(text.clone()?)))
+            }
             ExpressionNode::Bool(b) => put(code, Instruction::Push(Value::bool(*b))),
             ExpressionNode::Null => put(code, Instruction::Push(Value::null())),
             ExpressionNode::Bracket(e) => self.expression(code, scope, e),

@@ -89,7 +89,7 @@ pub enum Shape {
 }
 
 /// A test of a `where` without its value.
-#[derive(Drop)]
+#[derive(Clone, Copy)]
 pub struct TestShape {
     pub column: u32,
     pub comparison: Comparison,

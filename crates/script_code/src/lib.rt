@@ -2,6 +2,7 @@
 #![tactic(auto)]
 
 mod callee;
+mod copying;
 mod declarations;
 mod emitter;
 mod expressions;

@@ -151,10 +151,7 @@ service_sync =
       search (crosses, sendable) depth 20,
       (
         code_sync,
-        (
-          search (crosses, code_sync, sendable) depth 60 fits 20000,
-          (search (crosses, packed_send, packed_sync, sendable) depth 60 fits 20000, (search sendable depth 20, tt)),
-        ),
+        (search (crosses, packed_send, packed_sync, sendable) depth 60 fits 20000, (search sendable depth 20, tt)),
       ),
     )
 

@@ -1,5 +1,4 @@
-ghost use Rattle.std.specs.Prelude.{◌≡◌, [], All, IfOk};
-ghost use Rattle.script_code.specs.Translated.{IsCodeOf};
+ghost use Rattle.std.specs.Prelude.{◌≡◌, [], IfOk};
 ghost use Rattle.object_set.specs.ObjectSets.{IsSetOf, objects_of};
 ghost use Rattle.turns.specs.Run.{KeepsRun};
 ghost use Rattle.server_workers.specs.Jobs.{requests_of};
@@ -14,7 +13,7 @@ use history::{Journal, Recording};
 use object_set::ObjectSet;
 use outside::{Clock, Gate};
 use script_check::program::Program;
-use script_code::translate::{Code, translate};
+use script_code::translate::translate;
 use shared_desk::Kept;
 use std::alloc::{AllocError, Global};
 use std::sync::{Arc, Wait};
@@ -52,14 +51,12 @@ pub fn serve_jobs<R: Threads + Wait + Sync, C: Clock + Sync, G: Gate + Sync, J: 
         return Err(AllocError);
     };
     let code = translate(alloc, program)?;
-    let others = codes(alloc, program, workers.count() - 1)?;
     let recording = Recording::new(alloc, program.clone()?, start);
     let (claims, claim) = Claims::new(alloc, u64::from(limit))?;
     let (desk, seat) = RecorderDesk::<J>::new(alloc, recording, HistoryJournal { journal })?;
     let service = Service {
         alloc,
         code,
-        others,
         jobs,
         seed,
     };
@@ -89,18 +86,6 @@ pub fn serve_jobs<R: Threads + Wait + Sync, C: Clock + Sync, G: Gate + Sync, J: 
         Some(HistoryJournal { journal }) => Ok(journal),
         None => Err(AllocError),
     }
-}
-
-/// So many codes of a program. They are made before the threads are, since to go through a deep program takes more
-/// stack than a thread may have.
-fn codes(alloc: Global, program: &Program, count: u32) -> Result<Vec<Code>, AllocError>
-    ensures { IfOk result (λ codes. All (IsCodeOf program.now) codes.items) }
-{
-    let mut codes = Vec::new(alloc);
-    for _ in 0..count {
-        codes.push(translate(alloc, program)?)?;
-    }
-    Ok(codes)
 }
 
 /// Requests that many may hold.

@@ -23,8 +23,6 @@ work_all-seats-requires-clause-open g c κs within =
     let program = ap (λ (r : Recorded). r.program) start ∙ c.new-recording.ensures.program ∙ c.in_ok-clone.ensures.cases in
     record {
       code' = subst (λ p. IsCodeOf p c.in_ok-code.code) (sym program) (subst (λ p. IsCodeOf p c.in_ok-code.code) c.deref-2.ensures c.in_ok-code.ensures);
-      others = subst (λ p. All (IsCodeOf p) c.in_ok-others.others.items) (sym program)
-          (subst (λ p. All (IsCodeOf p) c.in_ok-others.others.items) c.deref-3.ensures c.in_ok-others.ensures);
       blank = record {
         valid = subst IsValid (c.deref.ensures ∙ sym program) c.declarations.ensures.valid;
         empty = λ seat.
@@ -52,7 +50,7 @@ returns-in-Some g c =
     let once : IsPermutation seats.claim.view.drawn (numbers_below (length s.requests))
     = subst (λ n. IsPermutation seats.claim.view.drawn (numbers_below n)) all c.close.ensures.once in
     let below : All (λ k. k.seat + 1 < 1 + c.args.workers) (view seats.desk).calls
-    = subst (λ n. All (λ k. k.seat + 1 < 1 + n) (view seats.desk).calls) c.count-2.ensures.count whole.below in
+    = subst (λ n. All (λ k. k.seat + 1 < 1 + n) (view seats.desk).calls) c.count.ensures.count whole.below in
     let served = all_served s seats.claim.view.drawn calls (view seats.desk).calls c.close-journal.ensures.calls whole.served
     c.runs_are_legal.ensures first c.close-journal.result.state (objects_of c.args.start) room c.close-journal.ensures.runs c.args.workers below once in
     let so : IsServed c.args.program.now.value (objects_of c.args.start) c.args.jobs c.args.workers c.args.seed reading (history_of calls)

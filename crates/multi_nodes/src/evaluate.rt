@@ -147,7 +147,8 @@ fn values<L: Ledger>(
         → answer_at group.now primitive.entry operands.now i
         ≡ Ok (called.Value (member_value m i))) }
     ensures counts { OnOk result (evaluations.new + 1 ≡ evaluations.old + length group.now) }
-    ensures no_fault { IsApart result }
+    ensures apart { IsApart (length group.now)
+        (answer_at group.now primitive.entry operands.now) result }
 {
     let members = group.requests().len();
     let mut values = Vec::with_capacity(alloc, members)?;
@@ -155,7 +156,8 @@ fn values<L: Ledger>(
     for member in 1..members {
         match of_member(alloc, primitive, operands, group, member, own, evaluations) {
             Ok(Called::Value(value)) => values.push(value)?,
-            Ok(Called::Operation(_)) | Err(OrMemory::Other(_)) => return Err(Apart::Differ),
+            Ok(Called::Operation(_op)) => return Err(Apart::Differ),
+            Err(OrMemory::Other(_fault)) => return Err(Apart::Differ),
             Err(OrMemory::Memory) => return Err(Apart::Memory),
         }
     }
@@ -179,7 +181,8 @@ fn operations<L: Ledger>(
         → answer_at group.now primitive.entry operands.now i
         ≡ Ok (called.Operation (get_or ops i nothing))) }
     ensures counts { OnOk result (evaluations.new + 1 ≡ evaluations.old + length group.now) }
-    ensures no_fault { IsApart result }
+    ensures apart { IsApart (length group.now)
+        (answer_at group.now primitive.entry operands.now) result }
 {
     let members = group.requests().len();
     let mut ops = Vec::with_capacity(alloc, members)?;
@@ -187,7 +190,8 @@ fn operations<L: Ledger>(
     for member in 1..members {
         match of_member(alloc, primitive, operands, group, member, own, evaluations) {
             Ok(Called::Operation(op)) => ops.push(op)?,
-            Ok(Called::Value(_)) | Err(OrMemory::Other(_)) => return Err(Apart::Differ),
+            Ok(Called::Value(_value)) => return Err(Apart::Differ),
+            Err(OrMemory::Other(_fault)) => return Err(Apart::Differ),
             Err(OrMemory::Memory) => return Err(Apart::Memory),
         }
     }
@@ -208,7 +212,8 @@ fn faults<L: Ledger>(
     ensures have { OnOk result ((i : ℕ) → i < length group.now
         → answer_at group.now primitive.entry operands.now i ≡ Err fault) }
     ensures counts { OnOk result (evaluations.new + 1 ≡ evaluations.old + length group.now) }
-    ensures no_fault { IsApart result }
+    ensures apart { IsApart (length group.now)
+        (answer_at group.now primitive.entry operands.now) result }
 {
     let members = group.requests().len();
     for member in 1..members {

@@ -1,8 +1,9 @@
-use Rattle.std.proofs.Common.{rules, ◌≡◌, ◌∙◌, ◌+◌, Err, ap, arith, subst, below_more}
+use Rattle.std.proofs.Common.{rules, ◌≡◌, ◌∙◌, ◌+◌, Err, ap, arith, subst, below_more, length}
 use Rattle.basis.specs.UnlessMemory.{Answers, UnlessMemory}
 use Rattle.script_tree.specs.declared.fault.ScriptFault.{ScriptFault}
 use Rattle.script_values.specs.declared.builtins.Called.{Called}
 use Rattle.multi_nodes.specs.Members.{answer_at}
+use Rattle.multi_nodes.proofs.Parting.{fails_otherwise, goes_alone}
 use Rattle.multi_nodes.proofs.evaluate.faults.Goals as goal
 
 pub loop-member-init : goal.loop-member-init
@@ -24,3 +25,15 @@ loop-member-preserved g c =
           ≡ Err c.args.fault) c.loop-member.member c.loop-member.invariant.got (told ∙ ap Err same);
       cost = omega (arith, c.loop-member.invariant.cost, counted);
     }
+
+pub returns-in-Ok-clause-apart : goal.returns-in-Ok-clause-apart
+returns-in-Ok-clause-apart g c =
+    let f = answer_at c.args.group.now c.args.primitive c.args.operands.now in
+    goes_alone (length c.args.group.now) f c.loop-member.member (search rules) c.in-Ok._called c.args.fault c.requires c.in-Ok.ensures.answers
+
+pub returns-then-ne-clause-apart : goal.returns-then-ne-clause-apart
+returns-then-ne-clause-apart g c =
+    let f = answer_at c.args.group.now c.args.primitive c.args.operands.now in
+    let i = c.loop-member.member in
+    let told = subst (λ e. Answers (λ x. x) (f i) (Err e)) c.in-Err-Other.field-0-is c.in-Err-Other.ensures.answers in
+    fails_otherwise (length c.args.group.now) f i (search rules) c.in-Err-Other.other c.args.fault c.requires told (search rules)

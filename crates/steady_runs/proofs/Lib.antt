@@ -1,0 +1,4 @@
+pub mod Growth
+pub mod Instructions
+pub mod NodesPart
+pub mod Parting

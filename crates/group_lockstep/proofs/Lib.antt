@@ -1,4 +1,6 @@
 mod AllGroups
 mod Each
 mod Members
+mod Plainly
 mod Steps
+mod Unsound

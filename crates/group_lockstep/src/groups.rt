@@ -4,7 +4,7 @@ ghost use Rattle.script_code.specs.Translated.{IsCodeOf};
 ghost use Rattle.log_checker.specs.Faults.{IsFaultOr};
 ghost use Rattle.period.specs.Groups.{IsSome};
 ghost use Rattle.group_runner.specs.Told.{fault_of, unsound_in};
-ghost use Rattle.group_lockstep.specs.Costs.{IsSpentBy, IsSpentInAll};
+ghost use Rattle.group_lockstep.specs.Costs.{IsSpentBy, IsSpentInAll, IsSpentPlainly};
 
 use crate::lockstep::Lockstep;
 use crate::spent::Spent;
@@ -41,11 +41,8 @@ fn run_group(
     };
     match lockstep.spent()? {
         Some(spent) => Ok(spent),
-        None => {
-            run_one_by_one(alloc, code, evidence, number, rids)?;
-            // Members of whom none does anything wrong go the same way.
-            Err(OrMemory::Memory)
-        }
+        // Something is wrong with the group: the plain form tells what.
+        None => run_plainly(alloc, code, evidence, number, rids),
     }
 }
 
@@ -64,6 +61,22 @@ fn run_alone(
         (IsSpentBy program evidence.now rids.now) result }
 {
     one_member_costs_its_steps();
+    run_plainly(alloc, code, evidence, number, rids)
+}
+
+/// The same of any group, one member after the other, with each node evaluated for each member.
+fn run_plainly(
+    alloc: Global,
+    code: &Code,
+    evidence: &Evidence<'_>,
+    number: u32,
+    rids: &[u32],
+) -> Result<Spent, OrMemory<Reason>>
+    requires { IsSome rids.now }
+    ensures { (program : AnyProgram) → IsCodeOf program code.now
+        → IsFaultOr (fault_of program evidence.now number rids.now)
+        (IsSpentPlainly program evidence.now rids.now) result }
+{
     let steps = run_one_by_one(alloc, code, evidence, number, rids)?;
     Ok(Spent {
         evaluated: steps,

@@ -1,10 +1,36 @@
-ghost use Rattle.std.specs.Prelude.{◌≡◌, ◌<◌, ◌*◌, ℕ, true, length, IfOk, IfSome, IsTrue};
+ghost use Rattle.std.specs.Prelude.{
+  ◌≡◌,
+  ◌≢◌,
+  ◌<◌,
+  ◌*◌,
+  ◌==◌,
+  ℕ,
+  None,
+  true,
+  false,
+  length,
+  IfOk,
+  MatchBool,
+  MatchOption,
+};
+ghost use Rattle.std.specs.List.{list_all};
 ghost use Rattle.script_tree.specs.Programs.{Program as AnyProgram};
-ghost use Rattle.period.specs.Traces.{response_of};
+ghost use Rattle.period.specs.Groups.{IsSome};
+ghost use Rattle.period.specs.Traces.{request_of};
+ghost use Rattle.audit_meaning.specs.Spots.{count_of};
 ghost use Rattle.script_code.specs.Translated.{IsCodeOf};
-ghost use Rattle.group_runner.specs.Told.{gives_response};
-ghost use Rattle.group_lockstep.specs.Lockstep.{AllCount, AreAsked, AreAnswers, AllGive, EndsWell};
-ghost use Rattle.group_lockstep.specs.Costs.{IsSoundGroup};
+ghost use Rattle.group_lockstep.specs.Lockstep.{
+  AllGive,
+  AreAnswers,
+  AreAsked,
+  EndsWell,
+  FirstCounts,
+  IsGiven,
+  SomeAbsent,
+  SomeGiveNot,
+  SomeUnanswered,
+};
+ghost use Rattle.group_lockstep.specs.Costs.{IsSoundGroup, IsUnsound};
 
 use crate::spent::Spent;
 use basis::Items;
@@ -14,7 +40,7 @@ use multi_nodes::{Evaluations, Group};
 use multivalue::Multi;
 use multivalue::law::members_keep_their_values;
 use script_code::translate::Code;
-use script_tree::operation::Op;
+use script_tree::operation::{Act, Object, Op};
 use script_tree::request::{Request, Response};
 use script_tree::value::Values;
 use std::alloc::{AllocError, Global};
@@ -32,23 +58,21 @@ pub(crate) struct Lockstep<'a> {
 }
 
 impl<'a> Lockstep<'a> {
-    /// How many operations each member counts, where all count equally many.
-    fn count(&self) -> Option<u32>
-        ensures { IfSome result (AllCount self.now.evidence.now self.now.rids.now) }
+    /// Whether each member counts so many operations.
+    fn all_count(&self, count: u32) -> bool
+        ensures { result
+            ≡ list_all (λ r. count_of self.now.evidence.now.report r == count) self.now.rids.now }
     {
-        let first = self.evidence.count(*self.rids.first()?);
-        let all = |rid: &u32| self.evidence.count(*rid) == first;
-        if self.rids.iter().all(all) {
-            Some(first)
-        } else {
-            None
-        }
+        self.rids
+            .iter()
+            .all(|rid| self.evidence.count(*rid) == count)
     }
 
     /// The requests of the members, where all of them are in the trace.
     fn requests(&self) -> Result<Option<Items<Request>>, AllocError>
-        ensures { IfOk result (λ asked.
-            IfSome asked (AreAsked self.now.evidence.now self.now.rids.now)) }
+        ensures { IfOk result (λ asked. MatchOption asked
+            (SomeAbsent self.now.evidence.now self.now.rids.now)
+            (AreAsked self.now.evidence.now self.now.rids.now)) }
     {
         let trace = self.evidence.trace();
         let mut requests = Vec::with_capacity(self.alloc, self.rids.len())?;
@@ -63,14 +87,17 @@ impl<'a> Lockstep<'a> {
 
     /// The answers to the members' operations of this number, where these are what the report has.
     fn answers(&self, number: u32, ops: &[Op]) -> Result<Option<Multi>, AllocError>
-        ensures { IfOk result (λ answers. IfSome answers
+        ensures { IfOk result (λ answers. MatchOption answers
+            (SomeUnanswered self.now.evidence.now self.now.rids.now number ops.now)
             (AreAnswers self.now.evidence.now self.now.rids.now number ops.now)) }
     {
+        let absent = Op {
+            object: Object::Clock,
+            act: Act::Now,
+        };
         let mut values = Vec::with_capacity(self.alloc, self.rids.len())?;
         for member in 0..self.rids.len() {
-            let Some(op) = ops.get(member) else {
-                return Ok(None);
-            };
+            let op = ops.get(member).unwrap_or(&absent);
             let Some(value) = self.evidence.answer(self.rids[member], number, op)? else {
                 return Ok(None);
             };
@@ -81,18 +108,22 @@ impl<'a> Lockstep<'a> {
     }
 
     /// Runs the members of this group as long as they go the same way, each through so many
-    /// operations, which the report has, to its end.
+    /// operations, which the report has, to its end. So many are what the first member counts.
     fn run<L: Ledger>(
         &self,
         group: Group,
         count: u32,
         evaluations: &mut Evaluations<L>,
     ) -> Result<Option<Ended>, AllocError>
-        requires { evaluations.old ≡ 0 }
+        requires nothing { evaluations.old ≡ 0 }
+        requires members { IsSome self.now.rids.now }
         ensures { (program : AnyProgram) → IsCodeOf program self.now.code.now
             → AreAsked self.now.evidence.now self.now.rids.now group
-            → IfOk result (λ ended. IfSome ended (EndsWell self.now.evidence.now
-            self.now.rids.now program group count evaluations.new)) }
+            → FirstCounts self.now.evidence.now self.now.rids.now count
+            → IfOk result (λ ended. MatchOption ended
+            (IsUnsound program self.now.evidence.now self.now.rids.now)
+            (EndsWell self.now.evidence.now self.now.rids.now program group count
+            evaluations.new)) }
     {
         let mut step = start(self.alloc, self.code, group, evaluations)?;
         for done in 0..count {
@@ -104,16 +135,17 @@ impl<'a> Lockstep<'a> {
             };
             step = waiting.answer(answers, evaluations)?;
         }
-        match step {
-            GroupStep::Ends(ended) => Ok(Some(ended)),
-            GroupStep::Wants(_) | GroupStep::Differ => Ok(None),
-        }
+        let GroupStep::Ends(ended) = step else {
+            return Ok(None);
+        };
+        Ok(Some(ended))
     }
 
     /// Whether each member's run ends with the response of the trace.
     fn gives(&self, ended: &Ended) -> Result<bool, AllocError>
-        ensures { IfOk result (λ given. IsTrue given
-            → AllGive self.now.evidence.now self.now.rids.now ended.now) }
+        ensures { IfOk result (λ given. MatchBool given
+            (AllGive self.now.evidence.now self.now.rids.now ended.now)
+            (SomeGiveNot self.now.evidence.now self.now.rids.now ended.now)) }
     {
         for member in 0..self.rids.len() {
             let response = ended.response(self.alloc, member)?;
@@ -126,8 +158,10 @@ impl<'a> Lockstep<'a> {
 
     /// Whether the trace has this response to the request of an id.
     fn is_traced(&self, rid: u32, response: &Response) -> Result<bool, AllocError>
-        ensures { IfOk result (λ traced. IsTrue traced
-            → gives_response response.now (response_of self.now.evidence.now.trace rid) ≡ true) }
+        ensures { IfOk result (λ traced. MatchBool traced
+            (IsGiven self.now.evidence.now rid response.now true)
+            (request_of self.now.evidence.now.trace rid ≢ None
+            → IsGiven self.now.evidence.now rid response.now false)) }
     {
         let trace = self.evidence.trace();
         let Some(place) = trace.place(rid) else {
@@ -137,10 +171,12 @@ impl<'a> Lockstep<'a> {
         Ok(is_same_response(response, &traced))
     }
 
-    /// What the members spend, where nothing is wrong with the group and all go the same way.
+    /// What the members spend, where nothing is wrong with the group: then all go the same way.
     pub(crate) fn spent(&self) -> Result<Option<Spent>, AllocError>
+        requires { IsSome self.now.rids.now }
         ensures { (program : AnyProgram) → IsCodeOf program self.now.code.now
-            → IfOk result (λ spent. IfSome spent
+            → IfOk result (λ spent. MatchOption spent
+            (IsUnsound program self.now.evidence.now self.now.rids.now)
             (IsSoundGroup program self.now.evidence.now self.now.rids.now)) }
     {
         self.spent_in::<Brand>(Blank::new(1))
@@ -151,23 +187,26 @@ impl<'a> Lockstep<'a> {
         requires name { blank.name ≡ L.name }
         requires parts { blank.parts ≡ L.parts }
         requires some { 0 < blank.parts }
+        requires members { IsSome self.now.rids.now }
         ensures { (program : AnyProgram) → IsCodeOf program self.now.code.now
-            → IfOk result (λ spent. IfSome spent
+            → IfOk result (λ spent. MatchOption spent
+            (IsUnsound program self.now.evidence.now self.now.rids.now)
             (IsSoundGroup program self.now.evidence.now self.now.rids.now)) }
     {
-        let Some(count) = self.count() else {
-            return Ok(None);
-        };
+        let count = self.evidence.count(self.rids[0]);
         let Some(requests) = self.requests()? else {
             return Ok(None);
         };
         let Some(group) = Group::new(requests) else {
-            return Ok(None);
+            unreachable!()
         };
         let mut evaluations = Evaluations::<L>::new(blank);
         let Some(ended) = self.run(group, count, &mut evaluations)? else {
             return Ok(None);
         };
+        if !self.all_count(count) {
+            return Ok(None);
+        }
         if !self.gives(&ended)? {
             return Ok(None);
         }

@@ -10,8 +10,8 @@ use Rattle.script_meaning.specs.Run.{Progress, goes, stops, after, unless_fault}
 use Rattle.script_meaning.specs.declared.run.Stop.TheVariants.{Fault as fault}
 use Rattle.script_nodes.specs.NodeLaws.{print_text}
 use Rattle.multivalue.specs.Many.{Many, member_value}
-use Rattle.multi_bodies.specs.BodiesOf.{bytes_of, body_at, HaveLengths, IsTextOf, AreGrown, AreWithin}
-use Rattle.multi_bodies.specs.Printing.{PrintsAll}
+use Rattle.multi_bodies.specs.BodiesOf.{bytes_of, body_at, HaveLengths, IsTextOf, AreGrown, AreReached, AreWithin}
+use Rattle.multi_bodies.specs.Printing.{PrintsAll, SomeLackRoom}
 
 -- ---- a body with one piece more
 
@@ -143,3 +143,31 @@ module _ (old new : List Many) (m : Many) (common most : ℕ) (own : List ℕ) (
       let room : MOST_BODY_BYTES - common < get_or own' i 0 = omega (arith, inside, over) in
       let more : MOST_BODY_BYTES - common < get_or own i 0 + r.0 = beyond (get_or own' i 0) (get_or own i 0 + r.0) (MOST_BODY_BYTES - common) r.2 room in
       too_large i old m r.0 p r.1 body (omega (arith, was, more, have.within))
+
+  -- where one has room, and another none
+  pub some_print : (n : ℕ) (own' : List ℕ) (least most' : ℕ) → length own ≡ n
+      → AreGrown (length own) largest m own own' → AreReached least most' own' → common + least ≤ MOST_BODY_BYTES
+      → MOST_BODY_BYTES < common + most' → SomeLackRoom n m old
+  some_print n own' least most' len g reached room over =
+      let high = reached.1 (omega (arith, over, have.within)) in
+      let low = reached.0 (omega (arith, high.1)) in
+      let one = low.0 in
+      let other = high.0 in
+      let within : one < length own = omega (arith, low.1, g.0) in
+      let within' : other < length own = omega (arith, high.1, g.0) in
+      let r = g.1 one within in
+      let s = g.1 other within' in
+      let was = have.lengths one within in
+      let was' = have.lengths other within' in
+      let small : least < largest = omega (arith, room) in
+      let exact : get_or own' one 0 ≡ get_or own one 0 + r.0 = uncapped (get_or own' one 0) (get_or own one 0 + r.0) least r.2 (omega (arith, low.2)) small in
+      let more : MOST_BODY_BYTES - common < get_or own other 0 + s.0 =
+      beyond (get_or own' other 0) (get_or own other 0 + s.0) (MOST_BODY_BYTES - common) s.2 (omega (arith, high.2, over)) in
+      record {
+        one = one;
+        other = other;
+        one' = omega (arith, within, len);
+        other' = omega (arith, within', len);
+        prints' = λ p body. fits one old m r.0 p r.1 body (omega (arith, was, exact, low.2, room));
+        fails' = λ p body. too_large other old m s.0 p s.1 body (omega (arith, was', more, have.within));
+      }

@@ -38,3 +38,11 @@ AreGrown n largest m old new = (length new ≡ n)
 -- Each of these numbers is within these bounds.
 abbrev pub AreWithin : (least most : ℕ) → List ℕ → Type 0
 AreWithin least most ns = (i : ℕ) → i < length ns → (least ≤ get_or ns i 0) × (get_or ns i 0 ≤ most)
+
+-- one of these numbers
+abbrev pub IsOneOf : List ℕ → ℕ → Type 0
+IsOneOf ns n = (i : ℕ) × (i < length ns) × (get_or ns i 0 ≡ n)
+
+-- These bounds are some of the numbers; the upper one is 0 where there are none.
+abbrev pub AreReached : (least most : ℕ) → List ℕ → Type 0
+AreReached least most ns = (0 < length ns → IsOneOf ns least) × (0 < most → IsOneOf ns most)

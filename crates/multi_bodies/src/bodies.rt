@@ -1,6 +1,13 @@
 ghost use Rattle.std.specs.Prelude.{◌≡◌, ℕ, [], length, IfOk, IfSome};
 ghost use Rattle.multivalue.specs.Many.{member_value};
-ghost use Rattle.multi_bodies.specs.BodiesOf.{AreGrown, AreWithin, IsTextOf, body_at, bytes_of};
+ghost use Rattle.multi_bodies.specs.BodiesOf.{
+  AreGrown,
+  AreReached,
+  AreWithin,
+  IsTextOf,
+  body_at,
+  bytes_of,
+};
 ghost use Rattle.multi_bodies.specs.Printing.{PrintsAll};
 
 use multivalue::{Apart, Multi};
@@ -146,17 +153,18 @@ fn grown(alloc: Global, texts: &Multi, own: &[usize]) -> Result<Vec<usize>, Allo
     Ok(lens)
 }
 
-/// A number that none of a list is less than, and one that none is more than.
+/// The least of a list of numbers, and the most.
 struct Bounds {
     least: usize,
     most: usize,
 }
 
 fn bounds_of(lens: &[usize]) -> Bounds
-    ensures { AreWithin result.least result.most lens.now }
+    ensures within { AreWithin result.least result.most lens.now }
+    ensures reached { AreReached result.least result.most lens.now }
 {
     let mut bounds = Bounds {
-        least: usize::MAX,
+        least: lens.first().copied().unwrap_or(0),
         most: 0,
     };
     for len in lens {

@@ -1,5 +1,5 @@
 -- How the members of a group went on together: what each wants, or how each ends.
-use Rattle.std.specs.Prelude.{◌≡◌, ◌<◌, ℕ, List, [], length, map, get_or, Option, option_map, Ok}
+use Rattle.std.specs.Prelude.{◌≡◌, ◌≢◌, ◌<◌, ◌⊎◌, ◌++◌, ℕ, List, [], length, map, get_or, Option, option_map, Ok}
 use Rattle.script_tree.specs.Datum.{Datum}
 use Rattle.script_tree.specs.Declarations.{page_in}
 use Rattle.script_tree.specs.Programs.{Program}
@@ -7,15 +7,19 @@ use Rattle.script_tree.specs.Requests.{Request}
 use Rattle.script_tree.specs.declared.path.Path.{Path}
 use Rattle.script_tree.specs.declared.request.Response.{Response}
 use Rattle.script_meaning.specs.Conduct as meant
-use Rattle.script_meaning.specs.Conduct.{Conduct, conduct}
+use Rattle.script_meaning.specs.Conduct.{Conduct, conduct, ended}
 use Rattle.script_meaning.specs.Costs.{costs_of}
+use Rattle.script_meaning.specs.Evaluate.{Flow}
 use Rattle.script_meaning.specs.GroupCost.{group_cost}
+use Rattle.script_meaning.specs.Run.{Ran}
 use Rattle.script_code.specs.Code.{Entry}
 use Rattle.script_code.specs.Translated.{IsCodeOf, at_path}
 use Rattle.script_code.specs.declared.translate.Code.{Code}
 use Rattle.script_code.specs.declared.translate.PageEntry.{PageEntry}
+use Rattle.steady_runs.specs.Shown.{shown_of}
 use Rattle.multi_nodes.specs.Answers.{nothing}
 use Rattle.multi_nodes.specs.Members.{members_at, request_at}
+use Rattle.multi_state.specs.Parting.{TwoOf}
 use Rattle.multi_state.specs.Progress.{bare}
 use Rattle.multi_state.specs.Spending.{IsStart}
 use Rattle.multi_state.specs.Totals.{costs_of_all}
@@ -46,6 +50,10 @@ page_at program qs i = option_map (λ page. page.number) (page_in program (reque
 -- the path of each request has this page, or none
 abbrev pub HaveEntry : List Request → Code → Option PageEntry → Type 0
 HaveEntry qs code page = (i : ℕ) → i < length qs → at_path code.pages (request_at qs i).path ≡ page
+
+-- the path of some request has another page, or one where there is none, or none where there is one
+abbrev pub SomeLackEntry : List Request → Code → Option PageEntry → Type 0
+SomeLackEntry qs code page = (i : ℕ) × (i < length qs) × (at_path code.pages (request_at qs i).path ≢ page)
 
 -- at a place of the code, where nothing is done
 pub record IsFresh (place : ℕ) (m : group.Run) : Type 0 where
@@ -93,8 +101,28 @@ pub record AllEnd (program : Program) (qs : List Request) (told : ℕ → List D
   pub pages : (i j : ℕ) → i < length qs → j < length qs → page_at program qs i ≡ page_at program qs j
   pub costs : spent ≡ group_cost (costs_of_all 0 (length qs) (λ i. costs_of program (request_at qs i) (told i)))
 
+-- Of two conducts other things show.
+pub record ShowOtherwise (c d : Conduct) : Type 0 where
+  pub page : ℕ
+  pub other : ℕ
+  pub ran : Ran Flow
+  pub ran' : Ran Flow
+  pub one : c ≡ ended page ran
+  pub two : d ≡ ended other ran'
+  pub shown' : shown_of ran ≢ shown_of ran'
+
+-- The pages of two members have other numbers, or after these answers, and whatever answers follow, other things show of what
+-- they do.
+abbrev pub AreApart : Program → List Request → (told : ℕ → List Datum) → (i j : ℕ) → Type 0
+AreApart program qs told i j = (page_at program qs i ≢ page_at program qs j)
+    ⊎ ((more others : List Datum) → ShowOtherwise (conduct program (request_at qs i) (told i ++ more)) (conduct program (request_at qs j) (told j ++ others)))
+
+-- Two members are apart.
+abbrev pub MembersPart : Program → List Request → (told : ℕ → List Datum) → Type 0
+MembersPart program qs told = TwoOf (length qs) (AreApart program qs told)
+
 -- After these answers, and when so many nodes were evaluated, the members are so far.
 abbrev pub IsStep : Program → List Request → (told : ℕ → List Datum) → (spent : ℕ) → GroupStep → Type 0
 IsStep program qs told spent (Wants w) = AllWant program qs told spent w
 IsStep program qs told spent (Ends e) = AllEnd program qs told spent e
-IsStep program qs told spent Differ = Unit {0}
+IsStep program qs told spent Differ = MembersPart program qs told

@@ -1,10 +1,16 @@
-ghost use Rattle.std.specs.Prelude.{◌≡◌, ◌<◌, ◌++◌, ◌∷◌, [], ℕ, List, length, true, IfOk};
+ghost use Rattle.std.specs.Prelude.{◌≡◌, ◌≢◌, ◌<◌, ◌++◌, ◌∷◌, [], ℕ, List, length, true, false, IfOk};
 ghost use Rattle.script_tree.specs.Datum.{Datum};
 ghost use Rattle.script_tree.specs.Programs.{Program};
 ghost use Rattle.script_tree.specs.Requests.{Request as Asked};
 ghost use Rattle.script_code.specs.Translated.{IsCodeOf};
 ghost use Rattle.multivalue.specs.Many.{member_value};
-ghost use Rattle.multi_machine.specs.Together.{HaveEntry, IsFresh, IsStep, StandsAfter};
+ghost use Rattle.multi_machine.specs.Together.{
+  HaveEntry,
+  IsFresh,
+  IsStep,
+  SomeLackEntry,
+  StandsAfter,
+};
 ghost use Rattle.multi_machine.specs.declared.machine.GroupStep.TheVariants.{Wants};
 
 use crate::ending::{Ended, Responses};
@@ -28,7 +34,7 @@ pub enum GroupStep<'c> {
     Wants(Waiting<'c>),
     /// The runs of all are over, alike.
     Ends(Ended),
-    /// They go different ways from here, or some of them.
+    /// Some go another way than others from here.
     Differ,
 }
 
@@ -74,7 +80,8 @@ impl<'c> Waiting<'c> {
             }
             Err(Apart::Differ) => Ok(GroupStep::Differ),
             // An answer is no fault of its own.
-            Err(Apart::Fault(_)) | Err(Apart::Memory) => Err(AllocError),
+            Err(Apart::Fault(_)) => unreachable!(),
+            Err(Apart::Memory) => Err(AllocError),
         }
     }
 }
@@ -110,7 +117,8 @@ pub fn start<'c, L: Ledger>(
 
 /// Whether the path of each of these requests has this page, or none.
 fn have_page(code: &Code, page: Option<PageEntry>, requests: &[Request]) -> bool
-    ensures { result ≡ true → HaveEntry requests.now code.now page }
+    ensures all { result ≡ true → HaveEntry requests.now code.now page }
+    ensures some { result ≡ false → SomeLackEntry requests.now code.now page }
 {
     for request in requests {
         if !is_same(code.page(request.path()), page) {
@@ -121,7 +129,8 @@ fn have_page(code: &Code, page: Option<PageEntry>, requests: &[Request]) -> bool
 }
 
 fn is_same(left: Option<PageEntry>, right: Option<PageEntry>) -> bool
-    ensures { result ≡ true → left ≡ right }
+    ensures same { result ≡ true → left ≡ right }
+    ensures other { result ≡ false → left ≢ right }
 {
     match (left, right) {
         (None, None) => true,

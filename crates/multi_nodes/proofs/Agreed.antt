@@ -56,7 +56,7 @@ node_alike q r node.Call ds h = refl
 node_alike q r node.Unknown ds h = refl
 node_alike q r (node.Member passed) ds h = refl
 
-value_shared : (n : ℕ) (m : Many) (i : ℕ) → is_shared n m ≡ true → i < n → member_value m i ≡ member_value m 0
+pub value_shared : (n : ℕ) (m : Many) (i : ℕ) → is_shared n m ≡ true → i < n → member_value m i ≡ member_value m 0
 value_shared n m i h lt = sym (value_same (member_value m 0) (member_value m i) (below_each n (λ j. same_datum (member_value m 0) (member_value m j)) h i lt))
 
 pub operands_shared : (n : ℕ) (ms : List Many) (i : ℕ) → list_all (is_shared n) ms ≡ true → i < n → members_at i ms ≡ members_at 0 ms

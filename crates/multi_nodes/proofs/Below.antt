@@ -1,5 +1,5 @@
 -- What holds of each number below one.
-use Rattle.std.proofs.Common.{◌≡◌, ◌<◌, ◌+◌, ℕ, zero, suc, Bool, true, false, refl, sym, ap, ◌∙◌, arith, below_more}
+use Rattle.std.proofs.Common.{◌≡◌, ◌<◌, ◌+◌, ◌&&◌, ℕ, zero, suc, Bool, true, false, true≢false, refl, sym, ap, ◌∙◌, arith, below_more}
 use Rattle.std.proofs.lemmas.Bool.{and_parts, and_from}
 use Rattle.script_tree.specs.Datum.{Datum}
 use Rattle.script_tree.specs.Alike.{same_datum}
@@ -26,6 +26,17 @@ some_not n p i lt h = by (all_below n p) refl
     by : (b : Bool) → all_below n p ≡ b → b ≡ false
     by false e = refl
     by true e = sym (below_each n p e i lt) ∙ h
+
+-- one is not so
+pub below_not : (n : ℕ) (p : ℕ → Bool) → all_below n p ≡ false → (i : ℕ) × (i < n) × (p i ≡ false)
+below_not zero p h = absurd (true≢false h)
+below_not (suc n) p h = by (all_below n p) (p n) refl refl h (below_not n p)
+  where
+    by : (a b : Bool) → all_below n p ≡ a → p n ≡ b → (a && b) ≡ false → (all_below n p ≡ false → (i : ℕ) × (i < n) × (p i ≡ false))
+        → (i : ℕ) × (i < suc n) × (p i ≡ false)
+    by true true e f k fewer = absurd (true≢false k)
+    by true false e f k fewer = (n, omega arith, f)
+    by false b e f k fewer = let r = fewer e in (r.0, omega (arith, r.1), r.2)
 
 -- one value is shared by all
 pub one_shared : (m : Many) (d : Datum) (n : ℕ) → m ≡ all d → is_shared n m ≡ true

@@ -1,11 +1,12 @@
 -- What the members of a group get together.
-use Rattle.std.specs.Prelude.{◌≡◌, ◌≢◌, ◌<◌, ◌+◌, ℕ, Bool, true, false, get_or, length, Option, Some, None, Result, Ok, Err}
+use Rattle.std.specs.Prelude.{◌≡◌, ◌≢◌, ◌<◌, ◌+◌, ℕ, Bool, true, false, get_or, length, Result, Ok, Err}
 use Rattle.script_tree.specs.declared.fault.ScriptFault.{ScriptFault}
 use Rattle.script_tree.specs.declared.operation.Act.TheVariants.{Now}
 use Rattle.script_tree.specs.declared.operation.Object.TheVariants.{Clock}
 use Rattle.script_tree.specs.declared.operation.Op.{Op}
 use Rattle.script_values.specs.declared.builtins.Called.{Called}
 use Rattle.script_values.specs.declared.builtins.Called.TheVariants.{Value, Operation}
+use Rattle.steady_runs.specs.Nodes.{node_fault}
 use Rattle.multivalue.specs.Many.{member_value}
 use Rattle.multivalue.specs.declared.apart.Apart.{Apart}
 use Rattle.multivalue.specs.declared.apart.Apart.TheVariants.{Memory, Fault, Differ}
@@ -16,14 +17,9 @@ use Rattle.multi_nodes.specs.declared.together.Together.TheVariants.{Values, Ope
 abbrev pub nothing : Op
 nothing = record { object = Clock; act = Now }
 
--- the fault that an answer is, if it is one
-abbrev pub fault_in : Result Called ScriptFault → Option ScriptFault
-fault_in (Ok called) = None
-fault_in (Err f) = Some f
-
 -- One of n members, of which f i is the answer of member i, has another fault than the first, or one of both has none.
 abbrev pub Part : ℕ → (ℕ → Result Called ScriptFault) → Type 0
-Part n f = (i : ℕ) × (i < n) × (fault_in (f i) ≢ fault_in (f 0))
+Part n f = (i : ℕ) × (i < n) × (node_fault (f i) ≢ node_fault (f 0))
 
 -- Each of n members, of which f i is the answer of member i, has its own value or operation, or all have this fault, or
 -- they part.

@@ -79,7 +79,7 @@ fn differs(values: &Multi, member: usize) -> bool
 }
 
 /// Whether so many members have one value.
-fn is_shared(values: &Multi, members: usize) -> bool
+pub fn is_shared(values: &Multi, members: usize) -> bool
     ensures { result ≡ is_shared members values.now }
 {
     match values.one() {

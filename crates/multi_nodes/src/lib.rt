@@ -7,7 +7,7 @@ mod evaluations;
 mod group;
 mod together;
 
-pub use evaluate::evaluate_members;
+pub use evaluate::{evaluate_members, is_shared};
 pub use evaluations::Evaluations;
 pub use group::Group;
 pub use together::Together;

@@ -5,6 +5,7 @@ use Rattle.std.proofs.lemmas.List.{reverse-append, length-map, length-reverse}
 use Rattle.script_tree.specs.Datum as v
 use Rattle.script_tree.specs.Datum.{Datum, Data, none, more, members, data_of}
 use Rattle.script_tree.specs.Requests.{Request}
+use Rattle.script_tree.specs.declared.fault.ScriptFault.{ScriptFault}
 use Rattle.script_tree.specs.declared.fault.ScriptFault.TheVariants.{TooDeep}
 use Rattle.script_tree.specs.declared.limits.TheConstants.{MOST_CALL_DEPTH}
 use Rattle.script_meaning.specs.Evaluate.{Flow}
@@ -18,11 +19,14 @@ use Rattle.script_nodes.specs.NodeLaws.{noted, without, member_at}
 use Rattle.script_nodes.specs.declared.primitive.Primitive.{Primitive}
 use Rattle.script_nodes.specs.declared.primitive.Primitive.TheVariants as node
 use Rattle.script_nodes.proofs.Nodes.{means_nodes}
+use Rattle.steady_runs.specs.Nodes.{GivesTruth, GoesOn, LacksFaults}
+use Rattle.steady_runs.specs.Steady.{IsSteady, IsSteadyNext, no_fault}
+use Rattle.steady_runs.proofs.Onward.{either}
 use Rattle.multivalue.specs.Many.{Many, member_value}
 use Rattle.multivalue.specs.declared.apart.Apart.{Apart}
 use Rattle.multivalue.specs.declared.apart.Apart.TheVariants.{Memory, Fault, Differ}
-use Rattle.multi_nodes.specs.Members.{members_at, request_at}
-use Rattle.multi_state.specs.AllDo.{AllDecide, AllGo, Gives, ValuesDo, node_at}
+use Rattle.multi_nodes.specs.Members.{answer_at, members_at, request_at}
+use Rattle.multi_state.specs.AllDo.{AllDecide, AllGo, DecisionsPart, Gives, NodesPart, ValuesDo, node_at}
 use Rattle.multi_state.specs.Progress.{progress_at}
 use Rattle.multi_state.specs.declared.account.Account.{Account}
 use Rattle.multi_state.specs.Does.{goes_on}
@@ -31,8 +35,9 @@ use Rattle.multi_state.specs.declared.state.State.{State}
 use Rattle.multi_state.specs.declared.went.Went.{Went}
 use Rattle.multi_state.specs.declared.went.Went.TheVariants.{On}
 use Rattle.multi_state.proofs.Following.{then_all, halt_all}
+use Rattle.multi_state.proofs.Parting.{nodes_part, parts_so}
 use Rattle.multi_state.proofs.Stacks.{one_slot_more}
-use Rattle.multi_run.specs.Acts.{frame_at, frames_at, next_at, ran_at, acts_at, entered_at, Acts, Enters}
+use Rattle.multi_run.specs.Acts.{frame_at, frames_at, next_at, ran_at, acts_at, entered_at, Acts, ActsPart, Enters}
 use Rattle.multi_run.specs.declared.run.Frame.{Frame}
 use Rattle.multi_run.specs.declared.run.Run as group
 
@@ -53,15 +58,25 @@ module _ (before after' : ℕ) (qs : List Request) (functions : List ℕ) (instr
   decided b mid same h goes' =
       then_all (length qs) before after' (λ i. node_at qs p ms i >>= noted)
       (λ next i. acts_at qs functions instruction next i old) rest is
-      (λ i. b) old.state.account mid new.state.account (Ok On) (λ next i w. ran_at w next i new) h
+      (λ i. b) old.state.account mid new.state.account (Ok On) (λ next i w. ran_at w next i new)
+      (ActsPart qs functions instruction old) (ActsPart qs functions instruction old) (λ parts. parts) h
       (λ cs i lt u next z. goes' next i lt z (progress_at (sym same z) cs i u))
 
-  pub decide_halts : (e : Apart) → AllDecide before after' qs p ms old.state.account (Err e) new.state.account
+  pub decide_halts : (e : Apart) → ((i : ℕ) → GivesTruth (answer_at qs p ms i))
+      → ((next : Next) → IsSteadyNext next → (i : ℕ) (b : Bool) → IsSteady (rest next i b))
+      → AllDecide before after' qs p ms old.state.account (Err e) new.state.account
       → Acts before after' qs functions instruction old (Err e) new
-  decide_halts e h =
+  decide_halts e truths steady h =
       halt_all (length qs) before after' (λ i. node_at qs p ms i >>= noted)
       (λ next i. acts_at qs functions instruction next i old) rest is e old.state.account new.state.account
-      (λ i. give) (λ next i w. ran_at w next i new) h
+      (λ i. give) (λ next i w. ran_at w next i new) (DecisionsPart qs p ms old.state.account) (ActsPart qs functions instruction old) all_part h
+    where
+      all_part : DecisionsPart qs p ms old.state.account → ActsPart qs functions instruction old
+      all_part parts =
+          parts_so (Bool → Run Flow) Next (length qs) (λ onward i. node_at qs p ms i >>= noted >>= onward)
+          (λ onward i. (b : Bool) → IsSteady (onward b)) (λ next i. acts_at qs functions instruction next i old) (λ next i. IsSteadyNext next)
+          old.state.account old.state.account rest (λ cs. cs) (λ next i lt fine. steady next fine i)
+          (λ next cs i lt u. is next i (progress_at old.state.account cs i u)) (parts (λ i lt. truths i))
 
 -- where it goes on
 pub passed : (next : Next) (i : ℕ) (old new : group.Run) (count : ℕ) → new.frames ≡ old.frames → new.state ≡ old.state → new.place ≡ old.place + 1 + count
@@ -109,6 +124,22 @@ module _ (qs : List Request) (functions : List ℕ) (old : group.Run) (st : Stat
     abbrev pub again_rest : (n : ℕ) → Next → ℕ → Bool → Run Flow
     again_rest n next i b = if b then to next i (old.place - n) (stack_at i st.stack) else to next i (old.place + 1) (stack_at i st.stack)
 
+    module _ (n : ℕ) (next : Next) (steady : IsSteadyNext next) (i : ℕ) (b : Bool) where
+      onward : (place : ℕ) (ds : List Datum) → IsSteady (to next i place ds)
+      onward place ds = steady (frames_at i old.frames.items) place ds (members_at i st.slots.items)
+
+      pub and_steady : IsSteady (and_rest n next i b)
+      and_steady = either no_fault b _ _ (onward (old.place + 1) (stack_at i st.stack)) (onward (old.place + 1 + n) (whole i))
+
+      pub or_steady : IsSteady (or_rest n next i b)
+      or_steady = either no_fault b _ _ (onward (old.place + 1 + n) (whole i)) (onward (old.place + 1) (stack_at i st.stack))
+
+      pub branch_steady : IsSteady (branch_rest n next i b)
+      branch_steady = either no_fault b _ _ (onward (old.place + 1) (stack_at i st.stack)) (onward (old.place + 1 + n) (stack_at i st.stack))
+
+      pub again_steady : IsSteady (again_rest n next i b)
+      again_steady = either no_fault b _ _ (onward (old.place - n) (stack_at i st.stack)) (onward (old.place + 1) (stack_at i st.stack))
+
     pub and_is : (n : ℕ) (next : Next) (i : ℕ) (r : Progress) → acts_at qs functions (code.And n) next i old r
         ≡ after ((node_at qs node.Decide (m ∷ []) i >>= noted) r) (and_rest n next i)
     and_is n next i r =
@@ -149,6 +180,13 @@ module _ (qs : List Request) (functions : List ℕ) (old : group.Run) (st : Stat
       (without (k + 1) (member_value m i) ∷ member_value m i ∷ stack_at i st.stack)
       (members_at i st.slots.items ++ member_at k (member_value m i) ∷ [])
       else to next i (old.place + 1) (stack_at i st.stack)
+
+  pub turn_steady : (m : Many) (k n : ℕ) (next : Next) → IsSteadyNext next → (i : ℕ) (b : Bool) → IsSteady (turn_rest m k n next i b)
+  turn_steady m k n next steady i b =
+      either no_fault b _ _ (steady (frames_at i old.frames.items) (old.place - n)
+      (without (k + 1) (member_value m i) ∷ member_value m i ∷ stack_at i st.stack)
+      (members_at i st.slots.items ++ member_at k (member_value m i) ∷ []))
+      (steady (frames_at i old.frames.items) (old.place + 1) (stack_at i st.stack) (members_at i st.slots.items))
 
   pub turn_is : (m : Many) (k : ℕ) → ((i : ℕ)
       → stack_at i old.state.stack ≡ without k (member_value m i) ∷ member_value m i ∷ stack_at i st.stack)
@@ -211,15 +249,22 @@ module _ (before after' : ℕ) (qs : List Request) (functions : List ℕ) (instr
   value_goes m mid w same goes' h =
       then_all (length qs) before after' (node_at qs p ms)
       (λ next i. acts_at qs functions instruction next i old) rest is
-      (member_value m) old.state.account mid new.state.account (Ok w) (λ next i w. ran_at w next i new) h
+      (member_value m) old.state.account mid new.state.account (Ok w) (λ next i w. ran_at w next i new)
+      (ActsPart qs functions instruction old) (ActsPart qs functions instruction old) (λ parts. parts) h
       (λ cs i lt u next z. goes' next i z (progress_at (sym same z) cs i u))
 
-  pub value_halts : (e : Apart) → ValuesDo before after' qs p ms old.state.account (Err e) new.state.account
+  -- all halt, or part, after which each goes on so that it fails at once at some faults alone
+  pub value_halts : (e : Apart) (faults : ScriptFault → Bool) → ((i : ℕ) → LacksFaults faults (answer_at qs p ms i))
+      → ((next : Next) → IsSteadyNext next → (i : ℕ) → GoesOn faults (answer_at qs p ms i) (rest next i))
+      → ValuesDo before after' qs p ms old.state.account (Err e) new.state.account
       → Acts before after' qs functions instruction old (Err e) new
-  value_halts e h =
+  value_halts e faults lacks steady h =
       halt_all (length qs) before after' (node_at qs p ms)
       (λ next i. acts_at qs functions instruction next i old) rest is e old.state.account new.state.account
-      (λ i m. give (member_value m i)) (λ next i w. ran_at w next i new) h
+      (λ i m. give (member_value m i)) (λ next i w. ran_at w next i new)
+      (NodesPart qs p ms old.state.account) (ActsPart qs functions instruction old)
+      (nodes_part qs p ms old.state.account Next faults rest (λ next i. acts_at qs functions instruction next i old) (λ next i. IsSteadyNext next)
+      (λ i lt. lacks i) (λ next i lt fine. steady next fine i) is) h
 
 -- a call, after its node
 pub call_goes : (before after' : ℕ) (qs : List Request) (functions : List ℕ) (function n : ℕ) (ms : List Many)
@@ -234,16 +279,16 @@ call_goes before after' qs functions function n ms old mid new m result is h e =
     (λ next i. acts_at qs functions (code.Call function n) next i old)
     (λ next i d. entered_at functions function ms next i mid) is
     (member_value m) old.state.account mid.state.account new.state.account result
-    (λ next i w. ran_at w next i new) h (by result e)
+    (λ next i w. ran_at w next i new) ⊥ (ActsPart qs functions (code.Call function n) old) (λ no. absurd no) h (by result e)
   where
     by : (result : Result Went Apart) → Enters functions function ms mid result new
         → AllGo (length qs) result (λ cs i u. (next : Next)
         → Gives (λ w. ran_at w next i new) result (progress_at new.state.account cs i u)
-        (entered_at functions function ms next i mid (progress_at mid.state.account cs i u)))
+        (entered_at functions function ms next i mid (progress_at mid.state.account cs i u))) ⊥
     by (Ok w) e = λ cs i lt u next z. e.0 next i z (progress_at (sym e.1 z) cs i u)
     by (Err Memory) e = tt
     by (Err (Fault f)) e = λ cs i lt u next z. e.0 next i z (progress_at (sym e.1 z) cs i u)
-    by (Err Differ) e = absurd e
+    by (Err Differ) e = e
 
 pub call_is : (qs : List Request) (functions : List ℕ) (function n : ℕ) (ms : List Many) (old mid : group.Run)
     → mid.frames ≡ old.frames → mid.place ≡ old.place → mid.state.slots ≡ old.state.slots

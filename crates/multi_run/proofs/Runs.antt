@@ -7,18 +7,22 @@ use Rattle.script_code.specs.CodeRun.{Next, step}
 use Rattle.script_code.specs.declared.instruction.Instruction.{Instruction}
 use Rattle.script_code.specs.declared.instruction.Instruction.TheVariants.{Halt}
 use Rattle.script_code.specs.declared.translate.Code.{Code}
+use Rattle.steady_runs.specs.Shown.{shown_of}
+use Rattle.steady_runs.specs.Steady.{IsSteadyNext}
+use Rattle.steady_runs.proofs.Instructions.{code_is_steady}
 use Rattle.multivalue.specs.declared.apart.Apart.{Apart}
 use Rattle.multivalue.specs.declared.apart.Apart.TheVariants.{Memory, Fault, Differ}
 use Rattle.multi_nodes.specs.Members.{members_at, request_at}
 use Rattle.multi_state.specs.AllDo.{Gives}
-use Rattle.multi_state.specs.Progress.{progress_at}
+use Rattle.multi_state.specs.Progress.{Charges, Unseen, progress_at}
+use Rattle.multi_state.proofs.Parting.{parts_so}
 use Rattle.multi_state.proofs.Parts.{do_to}
-use Rattle.multi_state.specs.Does.{Around, Does, goes_on, went_at, does_at, onward}
+use Rattle.multi_state.specs.Does.{Around, Does, DoingsPart, goes_on, went_at, does_at, onward}
 use Rattle.multi_state.specs.Stacks.{stack_at}
 use Rattle.multi_state.specs.declared.state.State.{State}
 use Rattle.multi_state.specs.declared.went.Went.{Went}
 use Rattle.multi_state.specs.declared.went.Went.TheVariants.{On, Over}
-use Rattle.multi_run.specs.Acts.{Acts, IsLater, allowance, frames_at, ran_at, acts_at}
+use Rattle.multi_run.specs.Acts.{Acts, ActsPart, IsLater, allowance, frames_at, ran_at, acts_at}
 use Rattle.multi_run.specs.Runs.{Runs, exec_at, going_at, rank}
 use Rattle.multi_run.specs.declared.run.Run as group
 
@@ -34,12 +38,19 @@ does_acts before after' qs functions instruction old mid s result frames place s
     (λ cs ds i u. (next : Next) → Gives (λ w. ran_at w next i (record mid { state = s })) result
     (progress_at s.account ds i u) (acts_at qs functions instruction next i old
     (progress_at old.state.account cs i u)))
+    (DoingsPart qs instruction mid.state) (ActsPart qs functions instruction old)
     (λ cs ds i lt u g next.
     let a : Around = record { functions = functions; next = next; frames = frames_at i old.frames.items; place = old.place } in
     subst (λ o. Gives (λ w. ran_at w next i (record mid { state = s })) result (progress_at s.account ds i u) o)
     (λ z. goes_on (step (request_at qs i) functions (Some instruction) next (frames_at i old.frames.items) old.place) i (state z) (progress_at (state z).account cs i u))
     (subst (λ k. Gives (λ w. went_at w k i s) result (progress_at s.account ds i u) (does_at qs instruction a i mid.state (progress_at mid.state.account cs i u)))
     (λ z. next (frames_at i (sym frames z).items) (sym place z)) (g a)))
+    (parts_so Around Next (length qs) (λ a i. does_at qs instruction a i mid.state) (λ a i. IsSteadyNext a.next)
+    (λ next i. acts_at qs functions instruction next i old) (λ next i. IsSteadyNext next) mid.state.account old.state.account
+    (λ next i. record { functions = functions; next = next; frames = frames_at i old.frames.items; place = old.place }) (λ cs. cs)
+    (λ next i lt steady. steady)
+    (λ next cs i lt u z. goes_on (step (request_at qs i) functions (Some instruction) next (frames_at i old.frames.items) old.place) i (sym state z)
+    (progress_at (sym state z).account cs i u)))
     h
 
 -- the end of a page
@@ -88,7 +99,36 @@ module _ (before mid' after' : ℕ) (qs : List Request) (code : Code) (old mid n
               ∙ t.2 i lt u (exec_at qs code i k),
         ),
   )
-  one_done instruction (Err Differ) at h = tt
+  one_done instruction (Err Differ) at h = record {
+    one = h.one;
+    other = h.other;
+    one' = h.one';
+    other' = h.other';
+    stand' = λ cs u v.
+        let r = before_it cs in
+        let s = r.2 h.one h.one' u in
+        let t = r.2 h.other h.other' v in (
+          s.0 + 1,
+          t.0 + 1,
+          λ k l same.
+              h.stand' (exec_at qs code h.one k) (exec_at qs code h.other l)
+              (code_is_steady (request_at qs h.one) code.functions.items code.instructions.items k)
+              (code_is_steady (request_at qs h.other) code.functions.items code.instructions.items l) r.0 u v
+              (sym (ap shown_of (goes_so cs h.one h.one' u k)) ∙ same ∙ ap shown_of (goes_so cs h.other h.other' v l)),
+        );
+  }
+    where
+      goes_so : (cs : Charges) (i : ℕ) (lt : i < length qs) (u : Unseen) (k : ℕ)
+          → going_at qs code i old (((before_it cs).2 i lt u).0 + 1 + k) (progress_at old.state.account cs i u)
+          ≡ acts_at qs code.functions.items instruction (exec_at qs code i k) i mid (progress_at mid.state.account (before_it cs).0 i u)
+      goes_so cs i lt u k =
+          let r = before_it cs in
+          let s = r.2 i lt u in
+          let e : s.0 + 1 + k ≡ s.0 + suc k = omega arith in
+          ap (λ j. going_at qs code i old j (progress_at old.state.account cs i u)) e ∙ s.1 (suc k)
+          ∙ ap (λ o. step (request_at qs i) code.functions.items o (exec_at qs code i k)
+          (frames_at i mid.frames.items) mid.place (stack_at i mid.state.stack)
+          (members_at i mid.state.slots.items) (progress_at mid.state.account r.0 i u)) at
 
   -- and others
   pub more_done : (result : Result Went Apart) → Runs mid' after' qs code mid result new → Runs before after' qs code old result new
@@ -117,7 +157,26 @@ module _ (before mid' after' : ℕ) (qs : List Request) (code : Code) (old mid n
               ap (λ j. going_at qs code i old j (progress_at old.state.account cs i u)) e ∙ s.1 (v.0 + k) ∙ v.1 k,
         ),
   )
-  more_done (Err Differ) h = tt
+  more_done (Err Differ) h = record {
+    one = h.one;
+    other = h.other;
+    one' = h.one';
+    other' = h.other';
+    stand' = λ cs u v.
+        let r = before_it cs in
+        let s = r.2 h.one h.one' u in
+        let t = r.2 h.other h.other' v in
+        let d = h.stand' r.0 u v in (
+          s.0 + d.0,
+          t.0 + d.1,
+          λ k l same.
+              let e : s.0 + d.0 + k ≡ s.0 + (d.0 + k) = omega arith in
+              let f : t.0 + d.1 + l ≡ t.0 + (d.1 + l) = omega arith in
+              d.2 k l
+              (sym (ap shown_of (ap (λ j. going_at qs code h.one old j (progress_at old.state.account cs h.one u)) e ∙ s.1 (d.0 + k))) ∙ same
+              ∙ ap shown_of (ap (λ j. going_at qs code h.other old j (progress_at old.state.account cs h.other v)) f ∙ t.1 (d.1 + l))),
+        );
+  }
 
 -- ---- the end of a run
 

@@ -7,11 +7,13 @@ use Rattle.script_meaning.specs.Run.{Run, fails}
 use Rattle.script_code.specs.CodeRun as code
 use Rattle.script_code.specs.CodeRun.{Next, step, back_to, enter}
 use Rattle.script_code.specs.declared.instruction.Instruction.{Instruction}
+use Rattle.steady_runs.specs.Steady.{IsSteadyNext}
 use Rattle.multivalue.specs.Many.{Many, member_value}
 use Rattle.multivalue.specs.declared.apart.Apart.{Apart}
 use Rattle.multivalue.specs.declared.apart.Apart.TheVariants.{Memory, Fault, Differ}
 use Rattle.multi_nodes.specs.Members.{members_at, request_at}
 use Rattle.multi_state.specs.AllDo.{AllDo, Gives}
+use Rattle.multi_state.specs.Parting.{Parts}
 use Rattle.multi_state.specs.Progress.{progress_at}
 use Rattle.multi_state.specs.Does.{Then, goes_on, went_at}
 use Rattle.multi_state.specs.Stacks.{stack_at}
@@ -39,12 +41,17 @@ ran_at w next i m = went_at w (next_at next i m) i m.state
 abbrev pub acts_at : List Request → (functions : List ℕ) → Instruction → Next → ℕ → group.Run → Run Flow
 acts_at qs functions instruction next i m = goes_on (next_at (step (request_at qs i) functions (Some instruction) next) i m) i m.state
 
+-- Members part at the instruction, whatever comes next.
+abbrev pub ActsPart : List Request → (functions : List ℕ) → Instruction → group.Run → Type 0
+ActsPart qs functions instruction old =
+    Parts Next (length qs) (λ next i. acts_at qs functions instruction next i old) (λ next i. IsSteadyNext next) old.state.account
+
 -- Each member does the instruction, whatever comes next.
 abbrev pub Acts : (before after' : ℕ) → List Request → (functions : List ℕ) → Instruction → group.Run → Result Went Apart → group.Run → Type 0
 Acts before after' qs functions instruction old result new =
     AllDo (length qs) before after' result (λ cs ds i u. (next : Next)
     → Gives (λ w. ran_at w next i new) result (progress_at new.state.account ds i u)
-    (acts_at qs functions instruction next i old (progress_at old.state.account cs i u)))
+    (acts_at qs functions instruction next i old (progress_at old.state.account cs i u))) (ActsPart qs functions instruction old)
 
 -- ---- calls
 

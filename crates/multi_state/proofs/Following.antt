@@ -1,22 +1,28 @@
 -- What all members do, by the parts of it.
-use Rattle.std.proofs.Common.{◌≡◌, ℕ, List, ◌∷◌, length, Result, Ok, Err, refl, sym, ap, subst, ◌∙◌}
+use Rattle.std.proofs.Common.{◌≡◌, ◌<◌, ◌+◌, ℕ, Bool, List, ◌∷◌, length, Result, Ok, Err, refl, sym, ap, subst, ◌∙◌}
 use Rattle.script_tree.specs.Datum.{Datum}
 use Rattle.script_tree.specs.Requests.{Request}
+use Rattle.script_tree.specs.declared.fault.ScriptFault.{ScriptFault}
 use Rattle.script_tree.specs.declared.operation.Op.{Op}
 use Rattle.script_meaning.specs.Evaluate.{Flow}
-use Rattle.script_meaning.specs.Run.{Progress, Ran, Run, give, goes, stops, after}
+use Rattle.script_meaning.specs.Run.{Progress, Run, give, goes, after, ◌>>◌}
 use Rattle.script_code.specs.declared.instruction.Instruction.{Instruction}
 use Rattle.script_nodes.specs.declared.primitive.Primitive.{Primitive}
+use Rattle.steady_runs.specs.Nodes.{GoesOn, LacksFaults}
+use Rattle.steady_runs.specs.Steady.{IsSteady, IsSteadyNext, no_fault}
+use Rattle.steady_runs.proofs.NodesGive.{lacks_none}
 use Rattle.multivalue.specs.Many.{Many, member_value}
 use Rattle.multivalue.specs.declared.apart.Apart.{Apart}
 use Rattle.multivalue.specs.declared.apart.Apart.TheVariants.{Memory, Fault, Differ}
-use Rattle.multi_nodes.specs.Members.{members_at}
-use Rattle.multi_state.specs.AllDo.{Gives, Comes, AllDo, AllGo, NodesDo, ValuesDo, node_at, given_at}
-use Rattle.multi_state.specs.Progress.{progress_at}
+use Rattle.multi_nodes.specs.Members.{answer_at, members_at}
+use Rattle.multi_state.specs.AllDo.{Gives, Comes, AllDo, AllGo, NodesDo, NodesPart, ValuesDo, node_at, given_at}
+use Rattle.multi_state.specs.Parting.{Parts}
+use Rattle.multi_state.specs.Progress.{Charges, Unseen, progress_at}
 use Rattle.multi_state.specs.declared.account.Account.{Account}
 use Rattle.multi_state.specs.declared.given.Given.TheVariants.{Wants as Wanted}
+use Rattle.multi_state.proofs.Parting.{nodes_part, parts_so}
 use Rattle.multi_state.proofs.Parts.{do_to}
-use Rattle.multi_state.specs.Does.{Then, Around, onward, goes_on, went_at, does_at, Does, Puts}
+use Rattle.multi_state.specs.Does.{Then, Around, onward, goes_on, went_at, does_at, puts_at, Does, DoingsPart, Puts, PuttingsPart}
 use Rattle.multi_state.specs.Stacks.{stack_at}
 use Rattle.multi_state.specs.declared.state.State.{State}
 use Rattle.multi_state.specs.declared.went.Went.{Went}
@@ -28,25 +34,26 @@ module _ {J A : Type 0} (n before after' : ℕ) (part : ℕ → Run A) (whole : 
     (rest : J → ℕ → A → Run Flow) (is : (j : J) (i : ℕ) (r : Progress)
     → whole j i r ≡ after (part i r) (rest j i)) where
   -- the part gives each member its value, and the rest spends nothing
-  pub then_all : {X : Type 0} (value : ℕ → A) (old mid new : Account) (result : Result X Apart) (seen : J → ℕ → X → Run Flow)
+  pub then_all : {X : Type 0} (value : ℕ → A) (old mid new : Account) (result : Result X Apart) (seen : J → ℕ → X → Run Flow) (D E : Type 0) → (D → E)
       → Comes n before after' (λ cs ds i u. part i (progress_at old cs i u) ≡ goes (value i) (progress_at mid ds i u))
-      → AllGo n result (λ cs i u. (j : J) → Gives (seen j i) result (progress_at new cs i u) (rest j i (value i) (progress_at mid cs i u)))
-      → AllDo n before after' result (λ cs ds i u. (j : J) → Gives (seen j i) result (progress_at new ds i u) (whole j i (progress_at old cs i u)))
-  then_all value old mid new (Ok x) seen h g = λ cs. let r = h cs in
+      → AllGo n result (λ cs i u. (j : J) → Gives (seen j i) result (progress_at new cs i u) (rest j i (value i) (progress_at mid cs i u))) D
+      → AllDo n before after' result (λ cs ds i u. (j : J) → Gives (seen j i) result (progress_at new ds i u) (whole j i (progress_at old cs i u))) E
+  then_all value old mid new (Ok x) seen D E parts h g = λ cs. let r = h cs in
       (r.0, r.1, λ i lt u j. is j i (progress_at old cs i u) ∙ ap (λ o. after o (rest j i)) (r.2 i lt u) ∙ g r.0 i lt u j)
-  then_all value old mid new (Err Memory) seen h g = tt
-  then_all value old mid new (Err (Fault f)) seen h g = λ cs. let r = h cs in
+  then_all value old mid new (Err Memory) seen D E parts h g = tt
+  then_all value old mid new (Err (Fault f)) seen D E parts h g = λ cs. let r = h cs in
       (r.0, r.1, λ i lt u j. is j i (progress_at old cs i u) ∙ ap (λ o. after o (rest j i)) (r.2 i lt u) ∙ g r.0 i lt u j)
-  then_all value old mid new (Err Differ) seen h g = tt
+  then_all value old mid new (Err Differ) seen D E parts h g = parts g
 
   -- where all halt in the part
-  pub halt_all : {X Y : Type 0} (e : Apart) (old new : Account) (given : ℕ → Y → Run A) (seen : J → ℕ → X → Run Flow)
-      → AllDo {X = Y} n before after' (Err e) (λ cs ds i u. Gives (given i) (Err e) (progress_at new ds i u) (part i (progress_at old cs i u)))
-      → AllDo {X = X} n before after' (Err e) (λ cs ds i u. (j : J) → Gives (seen j i) (Err e) (progress_at new ds i u) (whole j i (progress_at old cs i u)))
-  halt_all Memory old new given seen h = tt
-  halt_all (Fault f) old new given seen h = λ cs. let r = h cs in
+  pub halt_all : {X Y : Type 0} (e : Apart) (old new : Account) (given : ℕ → Y → Run A) (seen : J → ℕ → X → Run Flow) (D E : Type 0) → (D → E)
+      → AllDo {X = Y} n before after' (Err e) (λ cs ds i u. Gives (given i) (Err e) (progress_at new ds i u) (part i (progress_at old cs i u))) D
+      → AllDo {X = X} n before after' (Err e)
+      (λ cs ds i u. (j : J) → Gives (seen j i) (Err e) (progress_at new ds i u) (whole j i (progress_at old cs i u))) E
+  halt_all Memory old new given seen D E parts h = tt
+  halt_all (Fault f) old new given seen D E parts h = λ cs. let r = h cs in
       (r.0, r.1, λ i lt u j. is j i (progress_at old cs i u) ∙ ap (λ o. after o (rest j i)) (r.2 i lt u))
-  halt_all Differ old new given seen h = tt
+  halt_all Differ old new given seen D E parts h = parts h
 
 -- ---- a node, with its value on the stack
 
@@ -58,7 +65,8 @@ module _ (before after' : ℕ) (qs : List Request) (p : Primitive) (ms : List Ma
       → ValuesDo before after' qs p ms old.account (Ok m) new.account → Puts before after' qs p ms old (Ok On) new
   put_values m stack slots h =
       then_all (length qs) before after' (node_at qs p ms) (λ then' i r. after (node_at qs p ms i r) (on_stack then' i)) on_stack (λ j i r. refl)
-      (member_value m) old.account new.account new.account (Ok On) (λ then' i w. went_at w then' i new) h
+      (member_value m) old.account new.account new.account (Ok On) (λ then' i w. went_at w then' i new)
+      (PuttingsPart qs p ms old) (PuttingsPart qs p ms old) (λ parts. parts) h
       (λ cs i lt u then' z. then' (sym (stack i) z) (members_at i (sym slots z).items) (progress_at new.account cs i u))
 
   pub put_wants : (ops : List Op) → new.stack ≡ old.stack → new.slots ≡ old.slots
@@ -77,7 +85,10 @@ module _ (before after' : ℕ) (qs : List Request) (p : Primitive) (ms : List Ma
   put_halts e h =
       halt_all (length qs) before after' (node_at qs p ms)
       (λ then' i r. after (node_at qs p ms i r) (on_stack then' i)) on_stack
-      (λ j i r. refl) e old.account new.account given_at (λ then' i w. went_at w then' i new) h
+      (λ j i r. refl) e old.account new.account given_at (λ then' i w. went_at w then' i new) (NodesPart qs p ms old.account) (PuttingsPart qs p ms old)
+      (nodes_part qs p ms old.account Then no_fault on_stack (λ then' i. puts_at qs p ms then' i old)
+      (λ then' i. (st vs : List Datum) → IsSteady (then' st vs)) (λ i lt. lacks_none (answer_at qs p ms i))
+      (λ then' i lt steady d may. steady (d ∷ stack_at i old.stack) (members_at i old.slots.items)) (λ then' i r. refl)) h
 
 -- ---- an instruction
 
@@ -90,15 +101,21 @@ pub puts_does : (before after' : ℕ) (qs : List Request) (instruction : Instruc
 puts_does before after' qs instruction p ms old mid new result same is h =
     do_to (length qs) before after' result
     (λ cs ds i u. (then' : Then) → Gives (λ w. went_at w then' i new) result (progress_at new.account ds i u)
-    (after (node_at qs p ms i (progress_at mid.account cs i u))
-    (λ d. then' (d ∷ stack_at i mid.stack) (members_at i mid.slots.items))))
+    (puts_at qs p ms then' i mid (progress_at mid.account cs i u)))
     (λ cs ds i u. (a : Around) → Gives (λ w. went_at w (onward a) i new) result (progress_at new.account ds i u)
     (does_at qs instruction a i old (progress_at old.account cs i u)))
+    (PuttingsPart qs p ms mid) (DoingsPart qs instruction old)
     (λ cs ds i lt u g a.
     subst (λ o. Gives (λ w. went_at w (onward a) i new) result (progress_at new.account ds i u) o)
-    (ap (λ b. after (node_at qs p ms i (progress_at b cs i u)) (λ d. onward a (d ∷ stack_at i mid.stack) (members_at i mid.slots.items))) same ∙ sym (is a i (progress_at old.account cs i u)))
-    (g (onward a)))
+    (at_old a cs i u) (g (onward a)))
+    (parts_so Then Around (length qs) (λ then' i. puts_at qs p ms then' i mid) (λ then' i. (st vs : List Datum) → IsSteady (then' st vs))
+    (λ a i. does_at qs instruction a i old) (λ a i. IsSteadyNext a.next) mid.account old.account (λ a i. onward a) (λ cs. cs)
+    (λ a i lt steady st vs. steady a.frames (a.place + 1) st vs) (λ a cs i lt u. sym (at_old a cs i u)))
     h
+  where
+    at_old : (a : Around) (cs : Charges) (i : ℕ) (u : Unseen)
+        → puts_at qs p ms (onward a) i mid (progress_at mid.account cs i u) ≡ does_at qs instruction a i old (progress_at old.account cs i u)
+    at_old a cs i u = ap (λ b. puts_at qs p ms (onward a) i mid (progress_at b cs i u)) same ∙ sym (is a i (progress_at old.account cs i u))
 
 -- ---- an instruction that keeps its value elsewhere
 
@@ -112,53 +129,69 @@ module _ (before after' : ℕ) (qs : List Request) (instruction : Instruction) (
       → Does before after' qs instruction old (Ok On) new
   value_does m mid same goes' h =
       then_all (length qs) before after' (node_at qs p ms) (λ a i. does_at qs instruction a i old) rest is
-      (member_value m) old.account mid new.account (Ok On) (λ a i w. went_at w (onward a) i new) h
+      (member_value m) old.account mid new.account (Ok On) (λ a i w. went_at w (onward a) i new)
+      (DoingsPart qs instruction old) (DoingsPart qs instruction old) (λ parts. parts) h
       (λ cs i lt u a z. goes' a i z (progress_at (sym same z) cs i u))
 
-  pub value_halts : (e : Apart) → ValuesDo before after' qs p ms old.account (Err e) new.account → Does before after' qs instruction old (Err e) new
-  value_halts e h =
+  -- all halt, or part, after which each goes on so that it fails at once at some faults alone
+  pub value_halts : (e : Apart) (faults : ScriptFault → Bool) → ((i : ℕ) → i < length qs → LacksFaults faults (answer_at qs p ms i))
+      → ((a : Around) → IsSteadyNext a.next → (i : ℕ) → GoesOn faults (answer_at qs p ms i) (rest a i))
+      → ValuesDo before after' qs p ms old.account (Err e) new.account → Does before after' qs instruction old (Err e) new
+  value_halts e faults lacks steady h =
       halt_all (length qs) before after' (node_at qs p ms)
       (λ a i. does_at qs instruction a i old) rest is e old.account new.account (λ i m. give (member_value m i))
-      (λ a i w. went_at w (onward a) i new) h
+      (λ a i w. went_at w (onward a) i new) (NodesPart qs p ms old.account) (DoingsPart qs instruction old)
+      (nodes_part qs p ms old.account Around faults rest (λ a i. does_at qs instruction a i old) (λ a i. IsSteadyNext a.next) lacks
+      (λ a i lt next. steady a next i) is) h
+
+  -- the same, where it goes on as it did
+  pub value_halts_so : (e : Apart) → ((a : Around) → IsSteadyNext a.next → (i : ℕ) (d : Datum) → IsSteady (rest a i d))
+      → ValuesDo before after' qs p ms old.account (Err e) new.account → Does before after' qs instruction old (Err e) new
+  value_halts_so e steady h = value_halts e no_fault (λ i lt. lacks_none (answer_at qs p ms i)) (λ a next i d may. steady a next i d) h
 
   -- it does more with the value, which spends nothing
   pub value_then : (m : Many) (mid : Account) (more : Datum → Run (Unit {0}))
       → ((a : Around) (i : ℕ) → rest a i (member_value m i)
       ≡ (λ r. after (more (member_value m i) r) (λ _. goes_on (onward a) i new)))
       → ValuesDo before after' qs p ms old.account (Ok m) mid
-      → AllGo {X = Unit {0}} (length qs) (Ok tt)
-      (λ cs i u. Gives give (Ok tt) (progress_at new.account cs i u)
-      (more (member_value m i) (progress_at mid cs i u))) → Does before after' qs instruction old (Ok On) new
+      → ((cs : Charges) (i : ℕ) → i < length qs → (u : Unseen)
+      → more (member_value m i) (progress_at mid cs i u) ≡ goes tt (progress_at new.account cs i u))
+      → Does before after' qs instruction old (Ok On) new
   value_then m mid more goes' h g =
       then_all (length qs) before after' (node_at qs p ms) (λ a i. does_at qs instruction a i old) rest is
-      (member_value m) old.account mid new.account (Ok On) (λ a i w. went_at w (onward a) i new) h
+      (member_value m) old.account mid new.account (Ok On) (λ a i w. went_at w (onward a) i new)
+      (DoingsPart qs instruction old) (DoingsPart qs instruction old) (λ parts. parts) h
       (λ cs i lt u a. (λ z. goes' a i z (progress_at mid cs i u)) ∙ ap (λ o. after o (λ _. goes_on (onward a) i new)) (g cs i lt u))
 
-  pub value_stops : (m : Many) (mid : Account) (more : Datum → Run (Unit {0})) (e : Apart)
+  pub value_stops : (m : Many) (mid : Account) (more : Datum → Run (Unit {0})) (e : Apart) (D : Type 0)
+      → (D → Parts (Run Flow) (length qs) (λ onward i. more (member_value m i) >> onward) (λ onward i. IsSteady onward) mid)
       → ((a : Around) (i : ℕ) → rest a i (member_value m i)
       ≡ (λ r. after (more (member_value m i) r) (λ _. goes_on (onward a) i new)))
       → ValuesDo before after' qs p ms old.account (Ok m) mid
       → AllGo {X = Unit {0}} (length qs) (Err e)
       (λ cs i u. Gives give (Err e) (progress_at new.account cs i u)
-      (more (member_value m i) (progress_at mid cs i u))) → Does before after' qs instruction old (Err e) new
-  value_stops m mid more e goes' h g =
+      (more (member_value m i) (progress_at mid cs i u))) D → Does before after' qs instruction old (Err e) new
+  value_stops m mid more e D parts goes' h g =
       then_all (length qs) before after' (node_at qs p ms) (λ a i. does_at qs instruction a i old) rest is
-      (member_value m) old.account mid new.account (Err e) (λ a i w. went_at w (onward a) i new) h (by e g)
+      (member_value m) old.account mid new.account (Err e) (λ a i w. went_at w (onward a) i new) D (DoingsPart qs instruction old) all_part h (by e g)
     where
       by : (e : Apart) → AllGo {X = Unit {0}} (length qs) (Err e)
           (λ cs i u. Gives give (Err e) (progress_at new.account cs i u)
-          (more (member_value m i) (progress_at mid cs i u)))
+          (more (member_value m i) (progress_at mid cs i u))) D
           → AllGo {X = Went} (length qs) (Err e) (λ cs i u. (a : Around)
           → Gives (λ w. went_at w (onward a) i new) (Err e) (progress_at new.account cs i u)
-          (rest a i (member_value m i) (progress_at mid cs i u)))
+          (rest a i (member_value m i) (progress_at mid cs i u))) D
       by Memory g = tt
       by (Fault f) g = λ cs i lt u a. (λ z. goes' a i z (progress_at mid cs i u)) ∙ ap (λ o. after o (λ _. goes_on (onward a) i new)) (g cs i lt u)
-      by Differ g = tt
+      by Differ g = g
 
--- one part behind two others
-pub after_both : {A B C : Type 0} (o : Ran A) (f : A → Run B) (g : B → Run C) → after (after o f) g ≡ after o (λ a p. after (f a p) g)
-after_both (goes a p) f g = refl
-after_both (stops e p) f g = refl
+      all_part : D → DoingsPart qs instruction old
+      all_part d =
+          parts_so (Run Flow) Around (length qs) (λ onward i. more (member_value m i) >> onward) (λ onward i. IsSteady onward)
+          (λ a i. does_at qs instruction a i old) (λ a i. IsSteadyNext a.next) mid old.account (λ a i. goes_on (onward a) i new) (λ cs. (h cs).0)
+          (λ a i lt steady. steady a.frames (a.place + 1) (stack_at i new.stack) (members_at i new.slots.items))
+          (λ a cs i lt u. is a i (progress_at old.account cs i u) ∙ ap (λ o. after o (rest a i)) ((h cs).2 i lt u)
+          ∙ (λ z. goes' a i z (progress_at mid (h cs).0 i u))) (parts d)
 
 -- an instruction that no member is charged for
 pub freely : (n : ℕ) (qs : List Request) (instruction : Instruction) (old new : State) → new.account ≡ old.account

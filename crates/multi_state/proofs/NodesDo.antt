@@ -25,6 +25,7 @@ use Rattle.multi_state.specs.AllDo.{NodesDo}
 use Rattle.multi_state.specs.Spending.{Spends}
 use Rattle.multi_state.specs.Progress.{Charges, costs_at, extended, Unseen, progress_at}
 use Rattle.multi_state.specs.declared.account.Account.{Account}
+use Rattle.multi_state.proofs.Parting.{node_parts}
 
 pub on_charged : (c : Cost) (answer a : Result Called ScriptFault) (p q : Progress) → charge c p ≡ goes tt q → answer ≡ a → node_run c answer p ≡ gone_on a q
 on_charged c answer a p q e h = ap (λ o. after o (λ _. gone_on answer)) e ∙ ap (λ x. gone_on x q) h
@@ -73,4 +74,4 @@ node_halts before after' qs p ms old new (Fault f) spends have counts = λ cs. (
   λ i lt u. on_charged (cost_at qs p ms i) (answer_at qs p ms i) (Err f) (progress_at old cs i u)
       (progress_at new (cost_at qs p ms ∷ cs) i u) (spends.1 (cost_at qs p ms) cs i u) (have i lt),
 )
-node_halts before after' qs p ms old new Differ spends have counts = tt
+node_halts before after' qs p ms old new Differ spends have counts = node_parts qs p ms old new spends have

@@ -1,4 +1,7 @@
-ghost use Rattle.std.specs.Prelude.{◌≡◌, ◌+◌, ℕ, true, IfOk, OnOk};
+ghost use Rattle.std.specs.Prelude.{◌≡◌, ◌+◌, true, IfOk, OnOk};
+ghost use Rattle.basis.specs.UnlessMemory.{Answers};
+ghost use Rattle.script_meaning.specs.Kinds.{bool_in};
+ghost use Rattle.multivalue.specs.Many.{member_value};
 ghost use Rattle.multi_state.specs.AllDo.{AllDecide, NodesDo, ValuesDo};
 ghost use Rattle.multi_state.specs.Spending.{AllPrint, AllSet, HaveStatuses, IsStart, NotesAll, NotesIssued, Spends};
 
@@ -6,14 +9,14 @@ use crate::account::{Account, BareMark};
 use crate::given::Given;
 use basis::OrMemory;
 use multi_bodies::Bodies;
-use multi_nodes::{Evaluations, Group, Together, evaluate_members};
+use multi_nodes::{Evaluations, Group, Together, evaluate_members, is_shared};
 use multivalue::{Apart, Multi};
 use script_meaning::status::USUAL_STATUS;
 use script_nodes::primitive::Primitive;
 use script_tree::fault::ScriptFault;
 use script_tree::limits::{MOST_OPERATIONS, MOST_STEPS};
 use script_tree::value::Value;
-use script_values::{bool_in, status_in};
+use script_values::{Faulted, bool_in, status_in};
 use std::alloc::{AllocError, Global};
 use std::sync::ledger::Ledger;
 
@@ -106,20 +109,20 @@ impl Account {
         ensures charges { OnOk result (self.new.steps ≡ self.old.steps + 1) }
     {
         match self.value(alloc, primitive, operands, group, evaluations) {
-            Ok(decided) => self.note(&decided),
+            Ok(decided) => self.note(&decided, group.requests().len()),
             Err(apart) => Err(apart),
         }
     }
 
-    /// Leaves the mark of a decision, where all members decided so.
-    fn note(&mut self, decided: &Multi) -> Result<bool, Apart>
-        ensures notes { (n : ℕ) → NotesAll n decided.now self.old result self.new }
+    /// Leaves the mark of a decision, where all of so many members decided so.
+    fn note(&mut self, decided: &Multi, members: usize) -> Result<bool, Apart>
+        ensures notes { NotesAll members decided.now self.old result self.new }
         ensures steps { self.new.steps ≡ self.old.steps }
     {
-        let Some(value) = decided.one() else {
+        if !is_shared(decided, members) {
             return Err(Apart::Differ);
-        };
-        match bool_in(value) {
+        }
+        match first_truth(decided) {
             Err(OrMemory::Memory) => Err(Apart::Memory),
             Err(OrMemory::Other(fault)) => Err(Apart::Fault(fault)),
             Ok(holds) => {
@@ -157,6 +160,16 @@ impl Account {
         }
         self.status = statuses;
         Ok(())
+    }
+}
+
+/// The truth that the first member has here.
+fn first_truth(values: &Multi) -> Result<bool, Faulted>
+    ensures { Answers (λ b. b) (bool_in (member_value values.now 0)) result }
+{
+    match values.get(0) {
+        Some(value) => bool_in(value),
+        None => bool_in(&Value::null()),
     }
 }
 

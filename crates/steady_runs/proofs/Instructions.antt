@@ -1,6 +1,6 @@
 -- Each instruction is steady where what comes next is.
 use Rattle.std.proofs.Common.{◌+◌, ◌-◌, ◌++◌, ℕ, zero, suc, true, false, if◌then◌else◌, List, [], ◌∷◌, length, take, drop, Option, Some, None, Result}
-use Rattle.std.proofs.Common.{Ok, Err, inl, refl}
+use Rattle.std.proofs.Common.{Ok, Err}
 use Rattle.std.specs.Prelude.{◌==◌, slice_get, slice_index_or, slice_set}
 use Rattle.script_tree.specs.Datum as v
 use Rattle.script_tree.specs.Datum.{Datum}
@@ -13,23 +13,17 @@ use Rattle.script_meaning.specs.Evaluate.{Flow, on, node, seen, call_node, print
 use Rattle.script_meaning.specs.Kinds.{list_in}
 use Rattle.script_meaning.specs.Operands.{transact_op, status_in}
 use Rattle.script_meaning.specs.Operators.{listed, indexed, unary_answer, binary_answer}
-use Rattle.script_meaning.specs.Run.{Run, taking, fails, give, unless_fault, charge, charge_for, decide, ◌>>=◌, ◌>>◌}
+use Rattle.script_meaning.specs.Run.{Run, taking, fails, unless_fault, charge, charge_for, decide, ◌>>=◌, ◌>>◌}
 use Rattle.script_code.specs.CodeRun.{Frame, Next, lacking, on_one, on_two, topmost, all_taken, all_filled, back_to, enter, turn, step, exec}
 use Rattle.script_code.specs.declared.instruction.Instruction.{Instruction}
 use Rattle.script_code.specs.declared.instruction.Instruction.TheVariants.{Push, Load, Unary, Binary, Index, List as Listed, CallBuiltin, CallStore}
 use Rattle.script_code.specs.declared.instruction.Instruction.TheVariants.{Call, CallUnknown, Transact, And, Or, Branch, Again, Jump, Each, Turn}
 use Rattle.script_code.specs.declared.instruction.Instruction.TheVariants.{Leave, Declare, Assign, Echo, Status, Discard, Return, End, Halt}
-use Rattle.steady_runs.specs.Steady.{IsSteady, CodeIsSteady}
-use Rattle.steady_runs.proofs.Growth.{Grows, Spends, same, then_grows, fails_grows, unless_grows, one_grows, spends_steady, then_spends}
+use Rattle.steady_runs.specs.Steady.{IsSteady, IsSteadyNext, CodeIsSteady}
+use Rattle.steady_runs.proofs.Growth.{Grows, Spends, then_grows, fails_grows, unless_grows, one_grows, spends_steady, then_spends}
 use Rattle.steady_runs.proofs.Growth.{charge_spends, charged_spends, node_spends, decide_spends, operation_grows, call_spends, print_grows}
 use Rattle.steady_runs.proofs.Growth.{set_status_grows}
-
--- for want of steps
-lacks : {A : Type 0} → IsSteady (fails {A = A} lacking)
-lacks = record { further = λ p. same p; later = λ p. inl refl }
-
-ends : {A : Type 0} (a : A) → IsSteady (give a)
-ends a = record { further = λ p. same p; later = λ p. tt }
+use Rattle.steady_runs.proofs.Onward.{lacks, ends, returning}
 
 first_of : (st : List Datum) (k : Datum → List Datum → Run Flow) → ((x : Datum) (rest : List Datum) → IsSteady (k x rest)) → IsSteady (on_one st k)
 first_of [] k h = lacks
@@ -41,13 +35,9 @@ two_of [] k h = lacks
 two_of (y ∷ []) k h = lacks
 two_of (y ∷ x ∷ st) k h = h x y st
 
-module _ (q : Request) (functions : List ℕ) (next : Next) (steady : (fs : List Frame) (pc : ℕ) (st vs : List Datum) → IsSteady (next fs pc st vs)) where
+module _ (q : Request) (functions : List ℕ) (next : Next) (steady : IsSteadyNext next) where
   grows : (fs : List Frame) (pc : ℕ) (st vs : List Datum) → Grows (next fs pc st vs)
   grows fs pc st vs = (steady fs pc st vs).further
-
-  returns : (fs : List Frame) (d : Datum) → IsSteady (back_to next fs d)
-  returns [] d = ends (on [])
-  returns (f ∷ fs) d = steady fs f.place (d ∷ f.stack) f.slots
 
   enters : (fs : List Frame) (at : Option ℕ) (frame : Frame) (ds : List Datum) → Grows (enter next fs at frame ds)
   enters fs None frame ds = fails_grows Flow lacking
@@ -128,8 +118,8 @@ module _ (q : Request) (functions : List ℕ) (next : Next) (steady : (fs : List
       (then_grows (unless_fault (status_in x)) set_status (unless_grows (status_in x)) set_status_grows)))
   steps (Some Discard) fs pc st vs = first_of st _ (λ x rest. goes_to (charge_for x) fs (pc + 1) rest vs (charge_spends (taking (x ∷ []))))
   steps (Some Return) fs pc st vs = first_of st _ (λ x rest.
-      part (charge_for x) (λ _. back_to next fs x) (charge_spends (taking (x ∷ []))) (λ _. (returns fs x).further))
-  steps (Some End) fs pc st vs = returns fs v.null
+      part (charge_for x) (λ _. back_to next fs x) (charge_spends (taking (x ∷ []))) (λ _. (returning next steady fs x).further))
+  steps (Some End) fs pc st vs = returning next steady fs v.null
   steps (Some Halt) fs pc st vs = ends (on [])
 
 pub code_is_steady : CodeIsSteady

@@ -1,6 +1,6 @@
 -- That nodes of which one fails otherwise show it.
 use Rattle.std.specs.Prelude.{◌≡◌, ◌≢◌, Bool, false, length, Option, Some, None, Result, Ok, Err}
-use Rattle.script_tree.specs.Datum.{Datum}
+use Rattle.script_tree.specs.Datum.{Datum, bool}
 use Rattle.script_tree.specs.declared.fault.ScriptFault.{ScriptFault}
 use Rattle.script_meaning.specs.Evaluate.{Flow}
 use Rattle.script_meaning.specs.Run.{Progress, Run, ◌>>=◌}
@@ -21,6 +21,10 @@ abbrev pub MayGive : Result Called ScriptFault → Datum → Type 0
 MayGive (Ok (Value x)) d = d ≡ x
 MayGive (Ok (Operation op)) d = Unit {0}
 MayGive (Err f) d = ⊥
+
+-- A value that the node may have is a truth.
+abbrev pub GivesTruth : Result Called ScriptFault → Type 0
+GivesTruth node = (d : Datum) → MayGive node d → (b : Bool) × (d ≡ bool b)
 
 -- If the node fails, it isn't at one of these faults.
 abbrev pub LacksFaults : (ScriptFault → Bool) → Result Called ScriptFault → Type 0

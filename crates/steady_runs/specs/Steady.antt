@@ -1,6 +1,7 @@
 -- That a run never goes back, and where it may fail.
-use Rattle.std.specs.Prelude.{◌≡◌, ◌≤◌, ◌<◌, ◌⊎◌, ℕ, Bool, true, false, List, ◌++◌}
+use Rattle.std.specs.Prelude.{◌≡◌, ◌≤◌, ◌<◌, ◌⊎◌, ℕ, nat_eq, Bool, true, false, List, ◌++◌}
 use Rattle.script_tree.specs.Datum.{Datum}
+use Rattle.script_tree.specs.Faults.{fault_number}
 use Rattle.script_tree.specs.Requests.{Request}
 use Rattle.script_tree.specs.declared.fault.ScriptFault.{ScriptFault}
 use Rattle.script_tree.specs.declared.fault.ScriptFault.TheVariants.{OutOfSteps}
@@ -8,7 +9,7 @@ use Rattle.script_meaning.specs.Run.{Progress, Ran, goes, stops, Run}
 use Rattle.script_meaning.specs.declared.run.Mark.{Mark}
 use Rattle.script_meaning.specs.declared.run.Stop.TheVariants.{Wants as wants, Fault as fault, AnswerFault as answer_fault}
 use Rattle.script_code.specs.Code.{Instructions}
-use Rattle.script_code.specs.CodeRun.{Frame, exec}
+use Rattle.script_code.specs.CodeRun.{Frame, Next, exec}
 
 -- how far a run came
 abbrev pub progress_in : {A : Type 0} → Ran A → Progress
@@ -37,11 +38,18 @@ pub record IsSteadyBut {A : Type 0} (faults : ScriptFault → Bool) (run : Run A
 abbrev pub no_fault : ScriptFault → Bool
 no_fault f = false
 
+-- this fault alone
+abbrev pub only : ScriptFault → ScriptFault → Bool
+only one f = nat_eq (fault_number one) (fault_number f)
+
 -- It never goes back, and fails only after it spent a step, or for want of steps.
 abbrev pub IsSteady : {A : Type 0} → Run A → Type 0
 IsSteady run = IsSteadyBut no_fault run
 
--- Code does so wherever it goes on, however many instructions it may do.
+-- What comes next does so, wherever it goes on.
+abbrev pub IsSteadyNext : Next → Type 0
+IsSteadyNext next = (frames : List Frame) (place : ℕ) (stack slots : List Datum) → IsSteady (next frames place stack slots)
+
+-- Code does so, however many instructions it may do.
 abbrev pub CodeIsSteady : Type 0
-CodeIsSteady = (q : Request) (functions : List ℕ) (code : Instructions) (n : ℕ) (frames : List Frame) (place : ℕ) (stack slots : List Datum)
-    → IsSteady (exec q functions code n frames place stack slots)
+CodeIsSteady = (q : Request) (functions : List ℕ) (code : Instructions) (n : ℕ) → IsSteadyNext (exec q functions code n)

@@ -1,6 +1,7 @@
 use Rattle.std.proofs.Common.{Ok, Err, refl, sym, subst}
 use Rattle.multi_run.specs.Runs.{Runs}
 use Rattle.multi_machine.specs.Together.{AllEnd}
+use Rattle.multi_machine.proofs.Apart.{run_parts}
 use Rattle.multi_machine.proofs.Together.{over_ends, fault_ends, all_want}
 use Rattle.multi_machine.proofs.machine.go_on.Goals as goal
 
@@ -35,3 +36,10 @@ returns-in-Err-Fault g c program told s =
     let f = c.in-Err-Fault.fault in
     let runs = subst (λ e. Runs before after' qs code c.args.run (Err e) new) c.in-Err-Fault.field-0-is c.in-Err-Fault.ensures.runs in
     subst (AllEnd program qs told after') (sym c.at_fault-ended.ensures) (fault_ends program qs code told c.args.run new before after' s f runs)
+
+pub returns-in-Err-Differ : goal.returns-in-Err-Differ
+returns-in-Err-Differ g c program told s =
+    let qs = c.args.group in
+    let code = c.args.code.now in
+    let runs = subst (λ e. Runs c.args.evaluations.now c.run.new.evaluations qs code c.args.run (Err e) c.run.new.self) c.in-Err-Differ.field-0-is c.in-Err-Differ.ensures.runs in
+    run_parts program qs code told c.args.run c.args.evaluations.now s runs

@@ -1,7 +1,10 @@
-use Rattle.std.proofs.Common.{rules, ◌≡◌, [], true, sym, subst}
-use Rattle.script_code.specs.Translated.{entry_of}
-use Rattle.multi_machine.specs.Together.{StandsAfter, AllEnd, HaveEntry}
+use Rattle.std.proofs.Common.{rules, ◌≡◌, [], true, false, sym, ap, subst, ◌∙◌}
+use Rattle.std.proofs.lemmas.List.{get_or_default}
+use Rattle.script_code.specs.Translated.{at_path, entry_of}
+use Rattle.multi_nodes.specs.Members.{nobody, request_at}
+use Rattle.multi_machine.specs.Together.{StandsAfter, AllEnd, HaveEntry, SomeLackEntry}
 use Rattle.multi_machine.specs.Responses.{no_page_end}
+use Rattle.multi_machine.proofs.Apart.{pages_part}
 use Rattle.multi_machine.proofs.Together.{end_without_page, have_page, stands_first}
 use Rattle.multi_machine.proofs.machine.start.Goals as goal
 
@@ -10,7 +13,7 @@ returns-in-None g c program means zero =
     let qs = c.args.group in
     let code = c.args.code.now in
     let yes : c.have_page.result ≡ true = search rules in
-    let have = subst (λ r. HaveEntry r code c.page-page.result) c.requests-requests.ensures.requests (c.have_page.ensures yes) in
+    let have = subst (λ r. HaveEntry r code c.page-page.result) c.requests-requests.ensures.requests (c.have_page.ensures.all yes) in
     let none = subst (HaveEntry qs code) c.in-None.is have in
     subst (λ k. AllEnd program qs (λ i. []) k no_page_end) (sym zero) (end_without_page program qs code means none)
 
@@ -20,7 +23,20 @@ returns g c program means zero =
     let code = c.args.code.now in
     let entry = c.in-Some.entry in
     let yes : c.have_page.result ≡ true = search rules in
-    let have = subst (λ r. HaveEntry r code c.page-page.result) c.requests-requests.ensures.requests (c.have_page.ensures yes) in
+    let have = subst (λ r. HaveEntry r code c.page-page.result) c.requests-requests.ensures.requests (c.have_page.ensures.all yes) in
     let found = have_page qs code entry (subst (HaveEntry qs code) c.in-Some.is have) in
     let stands = stands_first program qs code (entry_of entry) c.in_ok-run-in-Some.run' means c.requests-requests.ensures.some found c.in_ok-run-in-Some.ensures in
     c.go_on.ensures program (λ i. []) (subst (λ k. StandsAfter program qs code (λ i. []) c.in_ok-run-in-Some.run' k) (sym zero) stands)
+
+pub returns-then-not-have_page : goal.returns-then-not-have_page
+returns-then-not-have_page g c program means zero =
+    let qs = c.args.group in
+    let code = c.args.code.now in
+    let no : c.have_page.result ≡ false = search rules in
+    let lack = subst (λ r. SomeLackEntry r code c.page-page.result) c.requests-requests.ensures.requests (c.have_page.ensures.some no) in
+    let requests = c.requests-requests.result.now in
+    let item = c.index-requests-0.is ∙ get_or_default requests 0 c.index-requests-0.result nobody (search rules) in
+    let own = item ∙ ap (λ rs. request_at rs 0) c.requests-requests.ensures.requests in
+    let first : c.page-page.result ≡ at_path code.pages (request_at qs 0).path =
+    c.page-page.ensures ∙ ap (at_path code.pages) (c.path.ensures ∙ ap (λ q. q.path) own) in
+    pages_part program qs code c.page-page.result means first lack

@@ -1,6 +1,7 @@
-use Rattle.std.proofs.Common.{true, false, length, Ok, IfOk, sym, ap, subst, ◌∙◌}
-use Rattle.multi_run.specs.Answering.{AllAnswered}
+use Rattle.std.proofs.Common.{true, false, length, Ok, Err, IfOk, sym, ap, subst, ◌∙◌}
+use Rattle.multi_run.specs.Answering.{AllAnswered, AnswersPart}
 use Rattle.multi_machine.specs.Together.{StandsAfter, AllEnd, IsStep}
+use Rattle.multi_machine.proofs.Apart.{answers_part}
 use Rattle.multi_machine.proofs.Together.{stands_answered, refused_ends}
 use Rattle.multi_machine.proofs.machine.Waiting.answer.Goals as goal
 
@@ -24,3 +25,11 @@ returns-in-Ok-false g c program qs told told' a same =
     let members = ap length (c.requests.ensures.requests ∙ a.requests) in
     let answered = subst (λ n. AllAnswered n m w.run (Ok false) new) members (subst (λ b. AllAnswered (length c.requests.result.now) m w.run (Ok b) new) c.in-Ok-false.field-0-test c.in-Ok-false.ensures.answered) in
     subst (AllEnd program qs told' spent) (sym c.at_fault-ended.ensures) (refused_ends program qs told told' spent w m new a same answered)
+
+pub returns-in-Err-Differ : goal.returns-in-Err-Differ
+returns-in-Err-Differ g c program qs told told' a same =
+    let w = c.args.self in
+    let m = c.args.answers in
+    let members = ap length (c.requests.ensures.requests ∙ a.requests) in
+    let parts = subst (λ e. AllAnswered (length c.requests.result.now) m w.run (Err e) c.answer.new.self) c.in-Err-Differ.field-0-is c.in-Err-Differ.ensures.answered in
+    answers_part program qs told told' c.args.evaluations.now w m a same (subst (λ n. AnswersPart n m) members parts)

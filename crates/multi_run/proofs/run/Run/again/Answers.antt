@@ -1,10 +1,11 @@
 use Rattle.std.proofs.Common.{◌≡◌, ◌-◌, true, false, [], ◌∷◌, Ok, refl, sym, ap, subst, rules}
 use Rattle.script_code.specs.declared.instruction.Instruction.TheVariants as instruction
 use Rattle.script_nodes.specs.declared.primitive.Primitive.TheVariants as node
-use Rattle.multi_nodes.specs.Members.{members_at}
+use Rattle.steady_runs.proofs.NodesGive.{decides}
+use Rattle.multi_nodes.specs.Members.{members_at, request_at}
 use Rattle.multi_state.specs.AllDo.{AllDecide}
 use Rattle.multi_state.specs.Stacks.{stack_at}
-use Rattle.multi_run.proofs.Running.{decided, decide_halts, passed_one, again_is, again_rest}
+use Rattle.multi_run.proofs.Running.{decided, decide_halts, passed_one, again_is, again_rest, again_steady}
 use Rattle.multi_run.specs.Acts.{frames_at}
 use Rattle.multi_run.proofs.run.Run.again.Goals as goal
 
@@ -48,4 +49,6 @@ returns-clause-acts g c functions =
     decide_halts c.args.evaluations.now c.decide.new.evaluations qs functions
     (instruction.Again c.args.count) node.Decide (m ∷ []) old new
     (again_rest qs functions old st refl m c.in_ok-values.ensures c.args.count)
-    (again_is qs functions old st refl m c.in_ok-values.ensures c.args.count) c.in-Err.apart h
+    (again_is qs functions old st refl m c.in_ok-values.ensures c.args.count) c.in-Err.apart
+    (λ i. decides (request_at qs i) (members_at i (m ∷ [])))
+    (again_steady qs functions old st refl m c.in_ok-values.ensures c.args.count) h

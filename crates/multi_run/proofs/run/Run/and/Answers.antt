@@ -1,9 +1,10 @@
 use Rattle.std.proofs.Common.{◌≡◌, ◌+◌, true, false, [], ◌∷◌, Ok, Err, refl, sym, ap, subst, ◌∙◌}
 use Rattle.script_code.specs.declared.instruction.Instruction.TheVariants as instruction
 use Rattle.script_nodes.specs.declared.primitive.Primitive.TheVariants as node
-use Rattle.multi_nodes.specs.Members.{members_at}
+use Rattle.steady_runs.proofs.NodesGive.{decides}
+use Rattle.multi_nodes.specs.Members.{members_at, request_at}
 use Rattle.multi_state.specs.AllDo.{AllDecide}
-use Rattle.multi_run.proofs.Running.{decided, decide_halts, passed, passed_one, and_is, and_rest}
+use Rattle.multi_run.proofs.Running.{decided, decide_halts, passed, passed_one, and_is, and_rest, and_steady}
 use Rattle.multi_run.specs.Acts.{frames_at}
 use Rattle.multi_run.proofs.run.Run.and.Goals as goal
 
@@ -50,4 +51,6 @@ returns-in-Err-clause-acts g c functions =
     decide_halts c.args.evaluations.now c.decide.new.evaluations qs functions
     (instruction.And c.args.count) node.Decide (m ∷ []) old new
     (and_rest qs functions old st refl m c.in_ok-values.ensures c.args.count)
-    (and_is qs functions old st refl m c.in_ok-values.ensures c.args.count) c.in-Err.apart h
+    (and_is qs functions old st refl m c.in_ok-values.ensures c.args.count) c.in-Err.apart
+    (λ i. decides (request_at qs i) (members_at i (m ∷ [])))
+    (and_steady qs functions old st refl m c.in_ok-values.ensures c.args.count) h

@@ -1,8 +1,10 @@
 use Rattle.std.proofs.Common.{true, false, [], ◌∷◌, Ok, refl, ap, subst}
 use Rattle.script_code.specs.declared.instruction.Instruction.TheVariants as instruction
 use Rattle.script_nodes.specs.declared.primitive.Primitive.TheVariants as node
+use Rattle.steady_runs.proofs.NodesGive.{decides}
+use Rattle.multi_nodes.specs.Members.{members_at, request_at}
 use Rattle.multi_state.specs.AllDo.{AllDecide}
-use Rattle.multi_run.proofs.Running.{decided, decide_halts, passed, passed_one, branch_is, branch_rest}
+use Rattle.multi_run.proofs.Running.{decided, decide_halts, passed, passed_one, branch_is, branch_rest, branch_steady}
 use Rattle.multi_run.proofs.run.Run.branch.Goals as goal
 
 pub returns-in-Ok-true-clause-acts : goal.returns-in-Ok-true-clause-acts
@@ -45,4 +47,6 @@ returns-clause-acts g c functions =
     decide_halts c.args.evaluations.now c.decide.new.evaluations qs functions
     (instruction.Branch c.args.count) node.Decide (m ∷ []) old new
     (branch_rest qs functions old st refl m c.in_ok-values.ensures c.args.count)
-    (branch_is qs functions old st refl m c.in_ok-values.ensures c.args.count) c.in-Err.apart h
+    (branch_is qs functions old st refl m c.in_ok-values.ensures c.args.count) c.in-Err.apart
+    (λ i. decides (request_at qs i) (members_at i (m ∷ [])))
+    (branch_steady qs functions old st refl m c.in_ok-values.ensures c.args.count) h

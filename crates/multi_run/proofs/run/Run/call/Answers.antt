@@ -1,8 +1,14 @@
-use Rattle.std.proofs.Common.{Ok, Err, refl, subst}
+use Rattle.std.proofs.Common.{◌+◌, Ok, Err, refl, subst}
+use Rattle.std.specs.Prelude.{slice_get}
+use Rattle.script_tree.specs.declared.fault.ScriptFault.TheVariants.{TooDeep}
 use Rattle.script_code.specs.declared.instruction.Instruction.TheVariants as instruction
 use Rattle.script_nodes.specs.declared.primitive.Primitive.TheVariants as node
+use Rattle.steady_runs.specs.Steady.{only}
+use Rattle.steady_runs.proofs.Onward.{entering}
+use Rattle.multi_nodes.specs.Members.{members_at}
 use Rattle.multi_state.specs.AllDo.{ValuesDo}
-use Rattle.multi_run.specs.Acts.{entered_at}
+use Rattle.multi_state.specs.Stacks.{stack_at}
+use Rattle.multi_run.specs.Acts.{entered_at, frames_at}
 use Rattle.multi_run.proofs.Running.{call_goes, call_is, value_halts}
 use Rattle.multi_run.proofs.run.Run.call.Goals as goal
 
@@ -28,4 +34,7 @@ returns-in-Err-clause-acts g c =
     value_halts c.args.evaluations.now c.value.new.evaluations qs functions
     (instruction.Call c.args.function c.args.count) node.Call ms old mid
     (λ next i d. entered_at functions c.args.function ms next i mid)
-    (call_is qs functions c.args.function c.args.count ms old mid refl refl refl c.in_ok-values.ensures.values c.in_ok-values.ensures.left) c.in-Err.apart h
+    (call_is qs functions c.args.function c.args.count ms old mid refl refl refl c.in_ok-values.ensures.values c.in_ok-values.ensures.left) c.in-Err.apart
+    (only TooDeep) (λ i. tt)
+    (λ next steady i d may. entering next steady (frames_at i mid.frames.items) (slice_get functions c.args.function)
+    (record { place = mid.place + 1; stack = stack_at i mid.state.stack; slots = members_at i mid.state.slots.items }) (members_at i ms)) h

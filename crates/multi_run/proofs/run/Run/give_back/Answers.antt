@@ -2,6 +2,10 @@ use Rattle.std.proofs.Common.{[], ◌∷◌, refl}
 use Rattle.script_code.specs.CodeRun.{back_to}
 use Rattle.script_code.specs.declared.instruction.Instruction.TheVariants as instruction
 use Rattle.script_nodes.specs.declared.primitive.Primitive.TheVariants as node
+use Rattle.steady_runs.specs.Steady.{no_fault}
+use Rattle.steady_runs.proofs.NodesGive.{lacks_none}
+use Rattle.steady_runs.proofs.Onward.{returning}
+use Rattle.multi_nodes.specs.Members.{answer_at}
 use Rattle.multi_run.specs.Acts.{frames_at}
 use Rattle.multi_run.proofs.Running.{value_goes, value_halts, return_is}
 use Rattle.multi_run.proofs.run.Run.give_back.Goals as goal
@@ -28,4 +32,5 @@ returns-clause-acts g c functions =
     value_halts c.args.evaluations.now c.value.new.evaluations qs functions instruction.Return node.Pass
     (m ∷ []) old new (λ next i. back_to next (frames_at i old.frames.items))
     (return_is qs functions old st refl m c.in_ok-operand.ensures)
-    c.in-Err.apart c.in-Err.ensures.does
+    c.in-Err.apart no_fault (λ i. lacks_none (answer_at qs node.Pass (m ∷ []) i))
+    (λ next steady i d may. returning next steady (frames_at i old.frames.items) d) c.in-Err.ensures.does

@@ -1,8 +1,10 @@
 use Rattle.std.proofs.Common.{rules, ◌≡◌, ◌<◌, ◌+◌, ◌-◌, true, false, [], ◌∷◌, Ok, Err, length, refl, sym, ap, subst}
 use Rattle.script_code.specs.declared.instruction.Instruction.TheVariants as instruction
 use Rattle.script_nodes.specs.declared.primitive.Primitive.TheVariants as node
+use Rattle.steady_runs.proofs.NodesGive.{member_decides}
+use Rattle.multi_nodes.specs.Members.{members_at, request_at}
 use Rattle.multi_state.specs.AllDo.{AllDecide}
-use Rattle.multi_run.proofs.Running.{decided, decide_halts, passed_one, next_turn, turn_is, turn_rest}
+use Rattle.multi_run.proofs.Running.{decided, decide_halts, passed_one, next_turn, turn_is, turn_rest, turn_steady}
 use Rattle.multi_run.proofs.run.Run.turn.Goals as goal
 
 pub returns-in_ok-push_loop-in-Ok-true-clause-acts : goal.returns-in_ok-push_loop-in-Ok-true-clause-acts
@@ -58,4 +60,5 @@ returns-in-Err-clause-acts g c functions =
     let h = subst (λ ms. AllDecide c.args.evaluations.now c.decide.new.evaluations qs (node.Member k) ms old.state.account (Err c.in-Err.apart) c.decide.new.self) one c.in-Err.ensures.decides in
     decide_halts c.args.evaluations.now c.decide.new.evaluations qs functions (instruction.Turn n) (node.Member k)
     (m ∷ []) old new (turn_rest qs functions old st refl m k n)
-    (turn_is qs functions old st refl m k c.in_ok-lists.ensures n) c.in-Err.apart h
+    (turn_is qs functions old st refl m k c.in_ok-lists.ensures n) c.in-Err.apart
+    (λ i. member_decides (request_at qs i) k (members_at i (m ∷ []))) (turn_steady qs functions old st refl m k n) h

@@ -1,4 +1,4 @@
-use Rattle.std.proofs.Common.{[], ◌∷◌, refl, sym, ap, ◌∙◌}
+use Rattle.std.proofs.Common.{◌+◌, [], ◌∷◌, refl, sym, ap, ◌∙◌}
 use Rattle.std.specs.Prelude.{slice_set}
 use Rattle.multi_state.proofs.Stacks.{slot_set}
 use Rattle.script_code.specs.declared.instruction.Instruction.TheVariants as instruction
@@ -7,7 +7,7 @@ use Rattle.multi_nodes.specs.Members.{members_at}
 use Rattle.multivalue.specs.Many.{member_value}
 use Rattle.multi_state.specs.Does.{onward}
 use Rattle.multi_state.specs.Stacks.{stack_at}
-use Rattle.multi_state.proofs.Following.{value_does, value_halts}
+use Rattle.multi_state.proofs.Following.{value_does, value_halts_so}
 use Rattle.multi_state.proofs.Laws.{assign_is}
 use Rattle.multi_state.proofs.state.State.assign.Goals as goal
 
@@ -29,4 +29,5 @@ returns-clause-does g c =
     let old = c.args.self.now in
     let m = c.in_ok-operand.operand in
     let mid = record old { stack = c.pop.new.self } in
-    value_halts c.args.evaluations.now c.value.new.evaluations qs (instruction.Assign c.args.slot) node.Pass (m ∷ []) old c.value.new.self (λ a i d. onward a (stack_at i mid.stack) (slice_set (members_at i mid.slots.items) c.args.slot d)) (λ a i r. assign_is qs old mid refl m c.in_ok-operand.ensures a i r c.args.slot) c.in-Err.apart c.in-Err.ensures.does
+    value_halts_so c.args.evaluations.now c.value.new.evaluations qs (instruction.Assign c.args.slot) node.Pass (m ∷ []) old c.value.new.self (λ a i d. onward a (stack_at i mid.stack) (slice_set (members_at i mid.slots.items) c.args.slot d)) (λ a i r. assign_is qs old mid refl m c.in_ok-operand.ensures a i r c.args.slot) c.in-Err.apart
+    (λ a next i d. next a.frames (a.place + 1) _ _) c.in-Err.ensures.does

@@ -1,4 +1,4 @@
-use Rattle.std.proofs.Common.{[], ◌∷◌, ◌++◌, refl, sym, ap, ◌∙◌}
+use Rattle.std.proofs.Common.{◌+◌, [], ◌∷◌, ◌++◌, refl, sym, ap, ◌∙◌}
 use Rattle.multi_state.proofs.Stacks.{one_slot_more}
 use Rattle.script_code.specs.declared.instruction.Instruction.TheVariants as instruction
 use Rattle.script_nodes.specs.declared.primitive.Primitive.TheVariants as node
@@ -6,7 +6,7 @@ use Rattle.multi_nodes.specs.Members.{members_at}
 use Rattle.multivalue.specs.Many.{member_value}
 use Rattle.multi_state.specs.Does.{onward}
 use Rattle.multi_state.specs.Stacks.{stack_at}
-use Rattle.multi_state.proofs.Following.{value_does, value_halts}
+use Rattle.multi_state.proofs.Following.{value_does, value_halts_so}
 use Rattle.multi_state.proofs.Laws.{declare_is}
 use Rattle.multi_state.proofs.state.State.declare.Goals as goal
 
@@ -30,7 +30,8 @@ returns-clause-does g c =
     let old = c.args.self.now in
     let m = c.in_ok-operand.operand in
     let mid = record old { stack = c.pop.new.self } in
-    value_halts c.args.evaluations.now c.value.new.evaluations qs instruction.Declare node.Pass
+    value_halts_so c.args.evaluations.now c.value.new.evaluations qs instruction.Declare node.Pass
     (m ∷ []) old c.value.new.self (λ a i d. onward a (stack_at i mid.stack)
     (members_at i mid.slots.items ++ d ∷ []))
-    (λ a i r. declare_is qs old mid refl m c.in_ok-operand.ensures a i r) c.in-Err.apart c.in-Err.ensures.does
+    (λ a i r. declare_is qs old mid refl m c.in_ok-operand.ensures a i r) c.in-Err.apart
+    (λ a next i d. next a.frames (a.place + 1) _ _) c.in-Err.ensures.does

@@ -1,10 +1,10 @@
-use Rattle.std.proofs.Common.{[], ◌∷◌, refl, sym}
+use Rattle.std.proofs.Common.{◌+◌, [], ◌∷◌, refl, sym}
 use Rattle.script_code.specs.declared.instruction.Instruction.TheVariants as instruction
 use Rattle.script_nodes.specs.declared.primitive.Primitive.TheVariants as node
 use Rattle.multi_nodes.specs.Members.{members_at}
 use Rattle.multi_state.specs.Does.{onward}
 use Rattle.multi_state.specs.Stacks.{stack_at}
-use Rattle.multi_state.proofs.Following.{value_does, value_halts}
+use Rattle.multi_state.proofs.Following.{value_does, value_halts_so}
 use Rattle.multi_state.proofs.Laws.{discard_is}
 use Rattle.multi_state.proofs.state.State.discard.Goals as goal
 
@@ -28,6 +28,7 @@ returns-clause-does g c =
     let old = c.args.self.now in
     let m = c.in_ok-operand.operand in
     let mid = record old { stack = c.pop.new.self } in
-    value_halts c.args.evaluations.now c.value.new.evaluations qs instruction.Discard node.Pass
+    value_halts_so c.args.evaluations.now c.value.new.evaluations qs instruction.Discard node.Pass
     (m ∷ []) old c.value.new.self (λ a i d. onward a (stack_at i mid.stack) (members_at i mid.slots.items))
-    (λ a i r. discard_is qs old mid refl m c.in_ok-operand.ensures a i r) c.in-Err.apart c.in-Err.ensures.does
+    (λ a i r. discard_is qs old mid refl m c.in_ok-operand.ensures a i r) c.in-Err.apart
+    (λ a next i d. next a.frames (a.place + 1) _ _) c.in-Err.ensures.does

@@ -26,6 +26,13 @@ use std::alloc::{AllocError, Global};
 use trace_format::appending::{add_request, add_response, begin as begin_trace};
 use trace_format::packed::PackedRequest;
 
+/// For how many bytes of the trace, and for how many requests, there is room at once. Each thread that takes in what
+/// happened lets lists grow, and keeps the piece of memory that was too small as its own: next to a piece of the
+/// thread that had it, the two would share a line of a processor's memory with each step of their pages.
+const FIRST_BYTES: usize = 65536;
+
+const FIRST_REQUESTS: usize = 1024;
+
 /// What is kept of a history to write its files, while one goes through it: the trace as its file
 /// has it, and the parts of the report.
 #[derive(Drop)]
@@ -45,10 +52,12 @@ impl Draft {
     pub(crate) fn new(alloc: Global) -> Result<Draft, AllocError>
         ensures { IfOk result (IsOfNames []) }
     {
+        let mut trace = begin_trace(alloc)?;
+        trace.reserve(FIRST_BYTES)?;
         Ok(Draft {
             alloc,
-            trace: begin_trace(alloc)?,
-            arrived: Vec::new(alloc),
+            trace,
+            arrived: Vec::with_capacity(alloc, FIRST_REQUESTS)?,
             operations: Vec::new(alloc),
             logs: no_logs(alloc),
             groups: no_groups(alloc),

@@ -7,6 +7,6 @@ pub returns : goal.returns
 returns g c =
     let entry = c.in_ok-groups.field-0 in
     let of = c.in_ok-groups.ensures in
-    written g.K.PartialEq.eq c.args.key c.args.member c.args.groups.now (map_with_value entry c.push.new.self) _
-    (entry_value entry) c.new.result c.or_insert-members.result.now c.push.new.self
-    (search rules) (of.update.1 c.push.new.self) of.value c.new.ensures.items c.or_insert-members.ensures.value c.in_ok-push.ensures.items
+    written g.K.PartialEq.eq c.args.key c.args.member c.args.groups.now (map_with_value entry c.put_behind.new.members) _
+    (entry_value entry) c.new.result c.or_insert-members.result.now c.put_behind.new.members
+    (search rules) (of.update.1 c.put_behind.new.members) of.value c.new.ensures.items c.or_insert-members.ensures.value c.in_ok-put_behind.ensures

@@ -2,7 +2,7 @@ ghost use Rattle.std.specs.Prelude.{◌≡◌, ℕ, List, Some, None, is_some, I
 ghost use Rattle.script_tree.specs.Datum.{Datum};
 ghost use Rattle.script_tree.specs.Programs.{Program as AnyProgram};
 ghost use Rattle.script_tree.specs.Requests.{Request as AnyRequest};
-ghost use Rattle.period.specs.Traces.{response_of};
+ghost use Rattle.period.specs.Traces.{request_of, response_of};
 ghost use Rattle.script_code.specs.Translated.{IsCodeOf};
 ghost use Rattle.audit_meaning.specs.Groups.{gives, steps_to};
 ghost use Rattle.audit_meaning.specs.Members.{fault_in, last_sign, page_number};
@@ -176,6 +176,20 @@ impl<'a> Runner<'a> {
         let request = self.evidence.trace().request(self.alloc, place)?;
         let page = page_number(self.code, request.path());
         let run = self.run(rid, request)?;
+        self.left_by(place, page, &run)
+    }
+
+    /// What a run leaves of the request that stands here, on the page of this number.
+    fn left_by(&self, place: usize, page: Option<u32>, run: &Run<'a>) -> Result<Member, AllocError>
+        requires place { IsRequestPlace self.now.evidence.now.trace place }
+        requires stopped { IsStopped run.now.machine }
+        ensures { (program : AnyProgram) (r : ℕ) (request : AnyRequest)
+            → request_place self.now.evidence.now.trace r ≡ Some place
+            → request_of self.now.evidence.now.trace r ≡ Some request
+            → page ≡ page_number program request
+            → IsRunOf program self.now.evidence.now r request run.now
+            → IfOk result (IsMemberOf program self.now.evidence.now r) }
+    {
         let gives = self.gives(place, &run.step)?;
         let last = last_sign(&run.step);
         Ok(Member {

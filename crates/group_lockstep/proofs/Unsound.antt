@@ -1,10 +1,9 @@
 -- What shows that something is wrong with a group.
-use Rattle.std.proofs.Common.{◌≡◌, ◌≢◌, ◌∙◌, ◌<◌, ◌≤◌, ◌+◌, ◌-◌, ℕ, zero, suc, Bool, true, false, true≢false, List, [], ◌∷◌, ◌++◌, map, length, Option, Some, None, inl, inr, ⊎_elim, refl, ap, sym, subst, arith, append-nil, append_assoc}
+use Rattle.std.proofs.Common.{◌≡◌, ◌≢◌, ◌∙◌, ◌<◌, ◌≤◌, ◌+◌, ◌-◌, ℕ, zero, suc, true, false, true≢false, List, [], ◌∷◌, ◌++◌, map, length, Option, Some, None, inl, inr, ⊎_elim, refl, ap, sym, subst, arith, append-nil, append_assoc}
 use Rattle.std.proofs.lemmas.Bool.{and_from, and_parts, cases_eq, cases_lt, eq-eqb, eqb-true, not-false}
 use Rattle.std.specs.List.{list_all}
 use Rattle.std.specs.Prelude.{◌==◌, get_or}
 use Rattle.basis.specs.Lists.{first_answer, nth}
-use Rattle.basis.proofs.Options.{none_is_not, some_is}
 use Rattle.basis.proofs.Places.{nth-get_or}
 use Rattle.script_tree.proofs.Equals.{act_itself, response_itself}
 use Rattle.script_tree.specs.Alike.{same_act, same_response}
@@ -17,17 +16,17 @@ use Rattle.script_tree.specs.declared.path.Path.{Path}
 use Rattle.script_tree.specs.declared.request.Response.{Response}
 use Rattle.period.specs.Traces.{request_of, response_of}
 use Rattle.object_set.specs.ObjectSets.{objects_of}
-use Rattle.script_meaning.specs.Conduct.{Ending, Wants, Ends, Undefined, conduct}
+use Rattle.script_meaning.specs.Conduct.{Ending, Wants, Ends, conduct}
 use Rattle.script_meaning.specs.Replay.{ending_of}
 use Rattle.audit_meaning.specs.Groups.{end_by, gives, group_fault, if_fewer, if_unlike, longest, mark_fault, marks, marks_by}
 use Rattle.audit_meaning.specs.Lists.{numbers}
-use Rattle.audit_meaning.specs.Members.{MemberMark, Sign, answer_at, is_entry_of, is_good, last_sign, marks_of, page_number, performed, sign_of, signs, told, wants_as}
+use Rattle.audit_meaning.specs.Members.{MemberMark, Sign, answer_at, is_entry_of, is_good, marks_of, page_number, signs, wants_as}
 use Rattle.audit_meaning.specs.Spots.{count_of, spot_of}
 use Rattle.audit_meaning.proofs.Induction.{IsSoundMember}
 use Rattle.audit_meaning.proofs.Members.{sound_member}
 use Rattle.audit_meaning.proofs.Places.{answer_none, first_none, or_none}
 use Rattle.audit_meaning.proofs.Words.{same_itself}
-use Rattle.sound_groups.specs.Agree.{AreInGroup, RunsTo}
+use Rattle.sound_groups.specs.Agree.{AreInGroup}
 use Rattle.sound_groups.proofs.Agree.{sound_members_agree}
 use Rattle.sound_groups.proofs.ShowAlike.{sound_members_show_alike}
 use Rattle.multi_nodes.specs.Answers.{nothing}

@@ -2,33 +2,42 @@ ghost use Rattle.std.specs.Prelude.{
   ◌≡◌,
   ◌≢◌,
   ◌<◌,
+  ◌+◌,
   ◌*◌,
   ◌==◌,
   ℕ,
+  List,
   None,
   true,
   false,
   length,
+  get_or,
   IfOk,
   MatchBool,
   MatchOption,
 };
 ghost use Rattle.std.specs.List.{list_all};
 ghost use Rattle.script_tree.specs.Programs.{Program as AnyProgram};
+ghost use Rattle.script_tree.specs.Requests.{Request as AnyRequest};
+ghost use Rattle.script_meaning.specs.Conduct.{Wants};
 ghost use Rattle.period.specs.Groups.{IsSome};
 ghost use Rattle.period.specs.Traces.{request_of};
 ghost use Rattle.audit_meaning.specs.Spots.{count_of};
 ghost use Rattle.script_code.specs.Translated.{IsCodeOf};
+ghost use Rattle.multi_nodes.specs.Answers.{nothing};
+ghost use Rattle.group_runner.specs.Told.{answer_to};
 ghost use Rattle.group_lockstep.specs.Lockstep.{
   AllGive,
   AreAnswers,
   AreAsked,
   EndsWell,
   FirstCounts,
+  GoesWell,
   IsGiven,
   SomeAbsent,
   SomeGiveNot,
   SomeUnanswered,
+  rid_at,
 };
 ghost use Rattle.group_lockstep.specs.Costs.{IsSoundGroup, IsUnsound};
 
@@ -42,7 +51,7 @@ use multivalue::law::members_keep_their_values;
 use script_code::translate::Code;
 use script_tree::operation::{Act, Object, Op};
 use script_tree::request::{Request, Response};
-use script_tree::value::Values;
+use script_tree::value::{Value, Values};
 use std::alloc::{AllocError, Global};
 use std::marker::Brand;
 use std::sync::ledger::{Blank, Ledger};
@@ -85,26 +94,72 @@ impl<'a> Lockstep<'a> {
         Ok(Some(Items::from_vec(requests)))
     }
 
+    /// The answer to a member's operation of this number, where it is the one that the report has.
+    /// Each member wants one, so that no caller comes to the second arm.
+    fn answer(&self, member: usize, number: u32, ops: &[Op]) -> Result<Option<Value>, AllocError>
+        requires { member < length self.now.rids.now }
+        ensures { let rid = rid_at self.now.evidence.now self.now.rids.now member in
+            let wants = Wants (get_or ops.now member nothing) in IfOk result (λ answer.
+            answer ≡ answer_to self.now.evidence.now rid number wants) }
+    {
+        let rid = self.rids[member];
+        match ops.get(member) {
+            Some(op) => self.evidence.answer(rid, number, op),
+            None => self.evidence.answer(
+                rid,
+                number,
+                &Op {
+                    object: Object::Clock,
+                    act: Act::Now,
+                },
+            ),
+        }
+    }
+
     /// The answers to the members' operations of this number, where these are what the report has.
     fn answers(&self, number: u32, ops: &[Op]) -> Result<Option<Multi>, AllocError>
         ensures { IfOk result (λ answers. MatchOption answers
             (SomeUnanswered self.now.evidence.now self.now.rids.now number ops.now)
             (AreAnswers self.now.evidence.now self.now.rids.now number ops.now)) }
     {
-        let absent = Op {
-            object: Object::Clock,
-            act: Act::Now,
-        };
         let mut values = Vec::with_capacity(self.alloc, self.rids.len())?;
         for member in 0..self.rids.len() {
-            let op = ops.get(member).unwrap_or(&absent);
-            let Some(value) = self.evidence.answer(self.rids[member], number, op)? else {
+            let Some(value) = self.answer(member, number, ops)? else {
                 return Ok(None);
             };
             values.push(value)?;
         }
         members_keep_their_values();
         Ok(Some(Multi::of(Values::from_vec(values)?)?))
+    }
+
+    /// Gives the members the answers to their operations of this number, where these are what the
+    /// report has, and runs on to the next ones, or to the end.
+    fn go_on<L: Ledger>(
+        &self,
+        step: GroupStep<'a>,
+        number: u32,
+        evaluations: &mut Evaluations<L>,
+    ) -> Result<Option<GroupStep<'a>>, AllocError>
+        requires members { IsSome self.now.rids.now }
+        ensures { (program : AnyProgram) (qs : List AnyRequest) (done count : ℕ)
+            → AreAsked self.now.evidence.now self.now.rids.now qs
+            → FirstCounts self.now.evidence.now self.now.rids.now count
+            → done < count → number ≡ done + 1
+            → GoesWell self.now.evidence.now self.now.rids.now program qs done evaluations.old
+            step.entry
+            → IfOk result (λ next. MatchOption next
+            (IsUnsound program self.now.evidence.now self.now.rids.now)
+            (GoesWell self.now.evidence.now self.now.rids.now program qs number
+            evaluations.new)) }
+    {
+        let GroupStep::Wants(waiting) = step else {
+            return Ok(None);
+        };
+        match self.answers(number, waiting.ops())? {
+            Some(answers) => Ok(Some(waiting.answer(answers, evaluations)?)),
+            None => Ok(None),
+        }
     }
 
     /// Runs the members of this group as long as they go the same way, each through so many
@@ -127,13 +182,10 @@ impl<'a> Lockstep<'a> {
     {
         let mut step = start(self.alloc, self.code, group, evaluations)?;
         for done in 0..count {
-            let GroupStep::Wants(waiting) = step else {
+            let Some(next) = self.go_on(step, done + 1, evaluations)? else {
                 return Ok(None);
             };
-            let Some(answers) = self.answers(done + 1, waiting.ops())? else {
-                return Ok(None);
-            };
-            step = waiting.answer(answers, evaluations)?;
+            step = next;
         }
         let GroupStep::Ends(ended) = step else {
             return Ok(None);
@@ -193,25 +245,42 @@ impl<'a> Lockstep<'a> {
             (IsUnsound program self.now.evidence.now self.now.rids.now)
             (IsSoundGroup program self.now.evidence.now self.now.rids.now)) }
     {
-        let count = self.evidence.count(self.rids[0]);
         let Some(requests) = self.requests()? else {
             return Ok(None);
         };
         let Some(group) = Group::new(requests) else {
             unreachable!()
         };
+        let count = self.evidence.count(self.rids[0]);
         let mut evaluations = Evaluations::<L>::new(blank);
-        let Some(ended) = self.run(group, count, &mut evaluations)? else {
-            return Ok(None);
-        };
+        match self.run(group, count, &mut evaluations)? {
+            Some(ended) => self.spent_by(count, &ended, evaluations.count()),
+            None => Ok(None),
+        }
+    }
+
+    /// The same of members whose runs end so behind so many operations, after so many nodes.
+    fn spent_by(
+        &self,
+        count: u32,
+        ended: &Ended,
+        evaluated: u64,
+    ) -> Result<Option<Spent>, AllocError>
+        ensures { (program : AnyProgram) (qs : List AnyRequest)
+            → AreAsked self.now.evidence.now self.now.rids.now qs
+            → EndsWell self.now.evidence.now self.now.rids.now program qs count evaluated ended.now
+            → IfOk result (λ spent. MatchOption spent
+            (IsUnsound program self.now.evidence.now self.now.rids.now)
+            (IsSoundGroup program self.now.evidence.now self.now.rids.now)) }
+    {
         if !self.all_count(count) {
             return Ok(None);
         }
-        if !self.gives(&ended)? {
+        if !self.gives(ended)? {
             return Ok(None);
         }
         Ok(Some(Spent {
-            evaluated: evaluations.count(),
+            evaluated,
             plain: times(self.rids.len(), ended.steps())?,
         }))
     }

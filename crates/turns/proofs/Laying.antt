@@ -32,22 +32,10 @@ replaced place a old new within is = record {
   same = ap length is ∙ length-set old place a;
 }
 
-pub replaced_again : {A : Type 0} (place : ℕ) (a b : Option A) (old between new : List (Option A))
-    → Replaces place a old between → Replaces place b between new → Replaces place b old new
-replaced_again place a b old between new first second = record {
-  here = second.here;
-  others = λ x ne. second.others x ne ∙ first.others x ne;
-  same = second.same ∙ first.same;
-}
-
--- what is put at a place twice
-pub put_twice : {A : Type 0} (place seat : ℕ) (a b : Option A) (xs : List (Option A)) → place ≡ seat → place < length xs
-    → Replaces seat b xs (slice_set (slice_set xs place a) place b)
-put_twice place seat a b xs is within =
-    let there : place < length (slice_set xs place a) = omega (arith, within, length-set xs place a) in
-    subst (λ s. Replaces s b xs (slice_set (slice_set xs place a) place b)) is
-    (replaced_again place a b xs (slice_set xs place a) (slice_set (slice_set xs place a) place b) (replaced place a xs (slice_set xs place a) within refl)
-    (replaced place b (slice_set xs place a) (slice_set (slice_set xs place a) place b) there refl))
+-- what is put at the place of a seat
+pub put_once : {A : Type 0} (place seat : ℕ) (a : Option A) (xs : List (Option A)) → place ≡ seat → place < length xs
+    → Replaces seat a xs (slice_set xs place a)
+put_once place seat a xs is within = subst (λ s. Replaces s a xs (slice_set xs place a)) is (replaced place a xs (slice_set xs place a) within refl)
 
 -- The dice of one seat go on, and the others stay.
 pub record Throws (seed seat : ℕ) (before after : ChaCha) (old new : List ChaCha) : Type 0 where

@@ -1,8 +1,16 @@
-ghost use Rattle.std.specs.Prelude.{◌≡◌, ℕ, [], ◌∷◌, Option, None, Some, IfOk};
+ghost use Rattle.std.specs.Prelude.{◌≡◌, ◌≢◌, ℕ, List, [], ◌∷◌, ◌++◌};
+ghost use Rattle.std.specs.Prelude.{Option, None, Some, IfOk, OnOk};
 ghost use Rattle.rand_chacha.specs.ChaCha.{ChaCha};
+ghost use Rattle.script_tree.specs.Datum.{Datum};
+ghost use Rattle.script_tree.specs.Programs.{Program};
+ghost use Rattle.script_tree.specs.Requests.{Request};
 ghost use Rattle.script_check.specs.Validity.{IsValid};
 ghost use Rattle.script_code.specs.Translated.{IsCodeOf};
+ghost use Rattle.machine.specs.Follows.{Follows, IsReady, IsWaiting};
+ghost use Rattle.history.specs.Histories.{happening_by};
+ghost use Rattle.history.specs.Recordings.{MayCome, Takes};
 ghost use Rattle.history.specs.Seats.{at_seat};
+ghost use Rattle.history.specs.declared.event.Reply.{Reply};
 ghost use Rattle.turns.specs.Seated.{IsSeated, WaitsFor};
 ghost use Rattle.turns.specs.Turned.{Moves};
 
@@ -14,81 +22,126 @@ use machine::{Machine, MachineStep};
 use outside::Clock;
 use script_code::translate::Code;
 use script_tree::operation::Op;
+use script_tree::value::Value;
 use std::alloc::{AllocError, Global};
 use std::sync::Arc;
 use trace_format::packed::PackedRequest;
 
-/// A job arrives at a seat, and has a machine. Tells what happened.
+/// A job arrives at a seat, and has a machine there. Tells what happened.
 pub(crate) fn arrive<'c>(
     alloc: Global,
     code: &'c Code,
     recording: &mut Recording,
     seat: u32,
+    run: &mut Option<Machine<'c>>,
     job: PackedRequest,
-) -> Result<(Happening, Machine<'c>), AllocError>
+) -> Result<Happening, AllocError>
     requires code { IsCodeOf recording.old.program code.now }
     requires empty { at_seat recording.old.visits seat ≡ None }
-    ensures { (reading : Option ℕ) (dice : ChaCha) → IfOk result (λ r.
-        Moves reading seat (job ∷ []) r.0 recording.old recording.new dice dice (Some r.1)) }
+    ensures { (reading : Option ℕ) (dice : ChaCha) → IfOk result (λ happening.
+        Moves reading seat (job ∷ []) happening recording.old recording.new dice dice run.new) }
 {
     job.keeps_limits();
     let request = job.unpack(alloc)?;
-    let event = Event::Arrive(Arc::new(alloc, job)?);
-    let (reply, _) = Recorder::step(recording, seat, &event)?;
-    let machine = Machine::start(alloc, code, request);
-    Ok((happening_by(seat, event, &reply), machine))
+    put(run, Some(Machine::start(alloc, code, request)));
+    take_down(recording, seat, Event::Arrive(Arc::new(alloc, job)?))
 }
 
-/// The open request of a machine does the operation that it wants, or departs. Tells what happened,
-/// and gives the machine back where it goes on.
-pub(crate) fn go_on<'c, C: Clock>(
+/// The open request of a seat does the operation that its machine wants, or departs, and leaves no
+/// machine. Tells what happened.
+pub(crate) fn go_on<C: Clock>(
     recording: &mut Recording,
     seat: u32,
-    mut machine: Machine<'c>,
+    run: &mut Option<Machine>,
     dice: &mut Dice,
     clock: &C,
-) -> Result<(Happening, Option<Machine<'c>>), AllocError>
+) -> Result<Happening, AllocError>
     requires valid { IsValid recording.old.program }
     requires seated { let program = recording.old.program in
-        IsSeated program (at_seat recording.old.visits seat) (Some machine) }
-    ensures { let reading = C.reading clock.now in IfOk result (λ r.
-        Moves reading seat [] r.0 recording.old recording.new dice.old dice.new r.1) }
+        IsSeated program (at_seat recording.old.visits seat) run.old }
+    requires open { run.old ≢ None }
+    ensures { let reading = C.reading clock.now in IfOk result (λ happening.
+        Moves reading seat [] happening recording.old recording.new dice.old dice.new run.new) }
 {
+    let Some(machine) = run else { unreachable!() };
     match machine.run()? {
-        MachineStep::Wants(op) => {
-            let (happening, machine) = act(recording, seat, op, machine, dice, clock)?;
-            Ok((happening, Some(machine)))
-        }
+        MachineStep::Wants(op) => act(recording, seat, op, machine, dice, clock),
         MachineStep::Ends(response, path) => {
-            let event = Event::Depart(response, path);
-            let (reply, _) = Recorder::step(recording, seat, &event)?;
-            Ok((happening_by(seat, event, &reply), None))
+            put(run, None);
+            take_down(recording, seat, Event::Depart(response, path))
         }
     }
+}
+
+/// Leaves a machine at a seat, or none.
+fn put<'c>(run: &mut Option<Machine<'c>>, left: Option<Machine<'c>>)
+    ensures { run.new ≡ left.entry }
+{
+    *run = left;
 }
 
 /// The open request of a machine does this operation, and the machine takes the answer. Tells what
 /// happened.
-fn act<'c, C: Clock>(
+fn act<C: Clock>(
     recording: &mut Recording,
     seat: u32,
     op: Op,
-    mut machine: Machine<'c>,
+    machine: &mut Machine,
     dice: &mut Dice,
     clock: &C,
-) -> Result<(Happening, Machine<'c>), AllocError>
+) -> Result<Happening, AllocError>
     requires valid { IsValid recording.old.program }
     requires waits { let program = recording.old.program in
-        WaitsFor program (at_seat recording.old.visits seat) op machine }
-    ensures { let reading = C.reading clock.now in IfOk result (λ r.
-        Moves reading seat [] r.0 recording.old recording.new dice.old dice.new (Some r.1)) }
+        WaitsFor program (at_seat recording.old.visits seat) op machine.old }
+    ensures { let reading = C.reading clock.now in IfOk result (λ happening. Moves reading seat []
+        happening recording.old recording.new dice.old dice.new (Some machine.new)) }
 {
     let offer = offer_for(&op.act, clock, dice);
-    let event = Event::Act(op, offer);
-    let (kept, told) = Recorder::step(recording, seat, &event)?;
+    let (happening, told) = take_event(recording, seat, Event::Act(op, offer))?;
     match told {
-        Reply::Acted { answer, .. } => machine.answer(answer)?,
+        Reply::Acted { answer, .. } => take_answer(machine, answer, happening),
         Reply::Arrived { .. } | Reply::Departed { .. } => unreachable!(),
     }
-    Ok((happening_by(seat, event, &kept), machine))
+}
+
+/// The machine takes the answer. Gives back what happened.
+fn take_answer(
+    machine: &mut Machine,
+    answer: Value,
+    happening: Happening,
+) -> Result<Happening, AllocError>
+    requires { IsWaiting machine.old }
+    ensures follows { (program : Program) (request : Request) (answers : List Datum)
+        → Follows program request answers machine.old
+        → OnOk result (Follows program request (answers ++ answer ∷ []) machine.new) }
+    ensures ready { OnOk result (IsReady machine.new) }
+    ensures same { IfOk result (λ told. told ≡ happening) }
+{
+    machine.answer(answer)?;
+    Ok(happening)
+}
+
+/// The recording takes an event to which no reply is wanted. Tells what happened.
+fn take_down(recording: &mut Recording, seat: u32, event: Event) -> Result<Happening, AllocError>
+    requires { MayCome recording.old seat event }
+    ensures { IfOk result (λ happening. (reply : Reply)
+        × (happening ≡ happening_by seat event reply)
+        × Takes recording.old seat event reply recording.new) }
+{
+    let (happening, _) = take_event(recording, seat, event)?;
+    Ok(happening)
+}
+
+/// The recording takes an event. Tells what happened, and the reply.
+fn take_event(
+    recording: &mut Recording,
+    seat: u32,
+    event: Event,
+) -> Result<(Happening, Reply), AllocError>
+    requires { MayCome recording.old seat event }
+    ensures happened { IfOk result (λ r. r.0 ≡ happening_by seat event r.1) }
+    ensures taken { IfOk result (λ r. Takes recording.old seat event r.1 recording.new) }
+{
+    let (kept, told) = Recorder::step(recording, seat, &event)?;
+    Ok((happening_by(seat, event, &kept), told))
 }

@@ -1,10 +1,14 @@
-ghost use Rattle.std.specs.Prelude.{ℕ, ◌<◌, [], IfOk, OnOk};
+ghost use Rattle.std.specs.Prelude.{◌≡◌, ℕ, ◌<◌, [], IfOk, OnOk};
+ghost use Rattle.dice.specs.Rolls.{dice_of};
+ghost use Rattle.history.specs.Recordings.{room_of};
+ghost use Rattle.history.specs.Rooms.{empty_room};
+ghost use Rattle.script_check.specs.Validity.{IsValid};
 ghost use Rattle.script_code.specs.Translated.{IsCodeOf};
 ghost use Rattle.object_set.specs.ObjectSets.{IsSetOf, objects_of};
 ghost use Rattle.workload.specs.declared.limits.TheConstants.{SEATS};
 ghost use Rattle.turns.specs.Run.{IsRunOf, KeepsRun};
 ghost use Rattle.turns.specs.Seated.{IsLaid};
-ghost use Rattle.turns.specs.Turned.{KeepsTurn};
+ghost use Rattle.turns.specs.Turned.{KeepsTurn, dice_at, jobs_left};
 
 use crate::table::Table;
 use history::{Journal, Recording};
@@ -31,7 +35,7 @@ pub fn run_turns<C: Clock, J: Journal>(
     turns: &[Turn],
     seed: u64,
     clock: &C,
-    mut journal: J,
+    journal: J,
 ) -> Result<J, AllocError>
     requires code { IsCodeOf program.now.value code.now }
     requires start { IsSetOf program.now.value start }
@@ -40,16 +44,52 @@ pub fn run_turns<C: Clock, J: Journal>(
         let IsRun = IsRunOf program.now.value objects jobs turns.now seed (C.reading clock.now) in
         IfOk result (KeepsRun J.keeps IsRun) }
 {
+    let recording = new_recording(alloc, program, start)?;
+    let mut table = Table::new(alloc, code, recording, jobs.into_vec(), seed)?;
+    run_all(&mut table, turns, clock, journal)
+}
+
+/// The recording of a program that has not begun.
+fn new_recording(
+    alloc: Global,
+    program: &Arc<Program>,
+    start: ObjectSet,
+) -> Result<Recording, AllocError>
+    requires { IsSetOf program.now.value start }
+    ensures valid { IsValid program.now.value }
+    ensures program { IfOk result (λ recording. recording.program ≡ program.now.value) }
+    ensures objects { IfOk result (λ recording. recording.objects ≡ start) }
+    ensures room { IfOk result (λ recording. room_of recording ≡ empty_room (objects_of start)) }
+{
     // It tells that the program is valid.
     program.declarations();
-    let recording = Recording::new(alloc, program.clone()?, start);
-    let mut table = Table::new(alloc, code, recording, jobs.into_vec(), seed)?;
+    Ok(Recording::new(alloc, program.clone()?, start))
+}
+
+/// The listed turns, then those of all seats in order, again and again, until every job has
+/// departed. The journal takes in what happens.
+fn run_all<C: Clock, J: Journal>(
+    table: &mut Table,
+    turns: &[Turn],
+    clock: &C,
+    mut journal: J,
+) -> Result<J, AllocError>
+    requires laid { IsLaid table.old }
+    requires room { let recording = table.old.recording in
+        room_of recording ≡ empty_room (objects_of recording.objects) }
+    requires dice { (seat : ℕ) → dice_at table.old seat ≡ dice_of table.old.seed seat }
+    requires nothing_kept { J.keeps [] journal }
+    ensures { let recording = table.old.recording in let objects = objects_of recording.objects in
+        let jobs = jobs_left table.old in let reading = C.reading clock.now in
+        let IsRun = IsRunOf recording.program objects jobs turns.now table.old.seed reading in
+        IfOk result (KeepsRun J.keeps IsRun) }
+{
     for turn in turns {
-        take_turn(&mut table, turn.seat(), clock, &mut journal)?;
+        take_turn(table, turn.seat(), clock, &mut journal)?;
     }
     'rounds: while !table.is_done() {
         for seat in 0..SEATS {
-            take_turn(&mut table, seat, clock, &mut journal)?;
+            take_turn(table, seat, clock, &mut journal)?;
         }
     }
     Ok(journal)

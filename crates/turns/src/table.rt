@@ -1,4 +1,6 @@
-ghost use Rattle.std.specs.Prelude.{◌≡◌, ◌<◌, ◌↔◌, ℕ, None, IfOk, OnOk, IsTrue};
+ghost use Rattle.std.specs.Prelude.{◌≡◌, ◌<◌, ◌↔◌, ℕ, length, slice_index_or};
+ghost use Rattle.std.specs.Prelude.{None, IfOk, OnOk, IsTrue};
+ghost use Rattle.dice.specs.Rolls.{dice_of};
 ghost use Rattle.script_check.specs.Validity.{IsValid};
 ghost use Rattle.script_code.specs.Translated.{IsCodeOf};
 ghost use Rattle.history.specs.Seats.{at_seat};
@@ -45,13 +47,9 @@ impl<'c> Table<'c> {
         requires empty { (seat : ℕ) → at_seat recording.visits seat ≡ None }
         ensures laid { IfOk result IsLaid }
         ensures opened { IfOk result (IsOpened recording jobs.items seed) }
+        ensures seed { IfOk result (λ table. table.seed ≡ seed) }
     {
-        let mut runs = Vec::with_capacity(alloc, usize::from(SEATS))?;
-        let mut dice = Vec::with_capacity(alloc, usize::from(SEATS))?;
-        for seat in 0..SEATS {
-            runs.push(None)?;
-            dice.push(Dice::new(seed, u64::from(seat)))?;
-        }
+        let (runs, dice) = seats(alloc, seed)?;
         Ok(Table {
             alloc,
             code,
@@ -78,20 +76,15 @@ impl<'c> Table<'c> {
     {
         let place = usize::from(seat);
         let seat = u32::from(seat);
-        match self.runs[place].take() {
-            Some(machine) => {
+        let recording = &mut self.recording;
+        let run = &mut self.runs[place];
+        match run {
+            Some(_) => {
                 let dice = &mut self.dice[place];
-                let (happening, left) = go_on(&mut self.recording, seat, machine, dice, clock)?;
-                self.runs[place] = left;
-                Ok(Some(happening))
+                Ok(Some(go_on(recording, seat, run, dice, clock)?))
             }
             None => match self.jobs.next() {
-                Some(job) => {
-                    let recording = &mut self.recording;
-                    let (happening, machine) = arrive(self.alloc, self.code, recording, seat, job)?;
-                    self.runs[place] = Some(machine);
-                    Ok(Some(happening))
-                }
+                Some(job) => Ok(Some(arrive(self.alloc, self.code, recording, seat, run, job)?)),
                 None => Ok(None),
             },
         }
@@ -104,4 +97,21 @@ impl<'c> Table<'c> {
     {
         self.jobs.len() == 0 && self.runs.iter().all(|run| run.is_none())
     }
+}
+
+/// Of each seat the machine, none so far, and the dice of the seed.
+fn seats<'c>(alloc: Global, seed: u64) -> Result<(Vec<Option<Machine<'c>>>, Vec<Dice>), AllocError>
+    ensures empty { IfOk result (λ r. (seat : ℕ) → at_seat r.0.items seat ≡ None) }
+    ensures runs { IfOk result (λ r. length r.0.items ≡ SEATS) }
+    ensures of_seed { IfOk result (λ r.
+        (seat : ℕ) → slice_index_or r.1.items seat (dice_of seed seat) ≡ dice_of seed seat) }
+    ensures dice { IfOk result (λ r. length r.1.items ≡ SEATS) }
+{
+    let mut runs = Vec::with_capacity(alloc, usize::from(SEATS))?;
+    let mut dice = Vec::with_capacity(alloc, usize::from(SEATS))?;
+    for seat in 0..SEATS {
+        runs.push(None)?;
+        dice.push(Dice::new(seed, u64::from(seat)))?;
+    }
+    Ok((runs, dice))
 }

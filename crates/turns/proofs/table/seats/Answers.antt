@@ -1,7 +1,7 @@
 use Rattle.std.proofs.Common.{◌∙◌, ap, ◌∷◌, ◌++◌, []}
 use Rattle.dice.specs.Rolls.{dice_of}
 use Rattle.turns.proofs.Opening.{one_more_laid}
-use Rattle.turns.proofs.table.Table.new.Goals as goal
+use Rattle.turns.proofs.table.seats.Goals as goal
 
 pub loop-seat-preserved : goal.loop-seat-preserved
 loop-seat-preserved c =

@@ -45,7 +45,6 @@ use Rattle.claims.specs.contracts.claims.Claims
 use Rattle.history.specs.contracts.recorder.Recorder
 use Rattle.history.specs.contracts.recorder.RecorderBench.TheImpl as bench
 use Rattle.shared_desk.specs.contracts.shared.Desk
-use Rattle.shared_desk.specs.contracts.shared.DeskSeat
 use Rattle.server_workers.specs.contracts.journal.HistoryJournal
 use Rattle.server_workers.specs.contracts.journal.HistoryJournalCallJournalEventReply.TheImpl as keeping
 use Rattle.server_workers.specs.contracts.service.Service

@@ -1,5 +1,10 @@
-ghost use Rattle.std.specs.Prelude.{◌≡◌, ◌<◌, ℕ, [], ◌∷◌, length, Option, None, Some, IfOk, OnOk};
+ghost use Rattle.std.specs.Prelude.{◌≡◌, ◌<◌, ◌≤◌, ℕ, [], ◌∷◌, length, if◌then◌else◌, false};
+ghost use Rattle.std.specs.Prelude.{Option, None, Some, IfOk, IfSome, OnOk};
 ghost use Rattle.rand_chacha.specs.ChaCha.{ChaCha};
+ghost use Rattle.script_tree.specs.declared.limits.TheConstants.{MOST_OPERATIONS};
+ghost use Rattle.machine.specs.Follows.{Follows, IsReady};
+ghost use Rattle.machine.specs.declared.machine.Machine.{Machine as Standing};
+ghost use Rattle.history.specs.Rooms.{EndsWith};
 ghost use Rattle.shared_desk.specs.Seats.{IsSeatOf, start_of, view};
 ghost use Rattle.turns.specs.Seated.{IsSeated, WaitsFor};
 ghost use Rattle.server_workers.specs.Courses.{Course};
@@ -15,6 +20,8 @@ use machine::{Machine, MachineStep};
 use outside::{Clock, Gate};
 use script_code::translate::Code;
 use script_tree::operation::Op;
+use script_tree::path::Path;
+use script_tree::request::Response;
 use std::alloc::{AllocError, Global};
 use std::sync::{Arc, Wait};
 use trace_format::packed::PackedRequest;
@@ -49,18 +56,11 @@ pub(crate) fn serve_one<R: Wait, C: Clock, G: Gate, J: Journal>(
     ensures empty { OnOk result (open_at (view seat.new) ≡ None) }
 {
     let job = &service.jobs[number as usize];
-    let mut machine = arrive(rt, service.alloc, code, desk, seat, job)?;
+    let machine = arrive(rt, service.alloc, code, desk, seat, job)?;
     gate.pass(number, ARRIVED);
-    for _ in rt.forever() {
-        match go_on(rt, desk, seat, machine, dice, clock)? {
-            Some(left) => machine = left,
-            None => {
-                gate.pass(number, DEPARTED);
-                return Ok(());
-            }
-        }
-    }
-    unreachable!()
+    serve_open(rt, desk, seat, machine, dice, clock)?;
+    gate.pass(number, DEPARTED);
+    Ok(())
 }
 
 /// A request arrives at a seat, and has a machine.
@@ -80,61 +80,152 @@ fn arrive<'c, R: Wait, J: Journal>(
         (reading : Option ℕ) (dice : ChaCha) → IfOk result (λ machine. Goes (start_of desk.now)
         reading (job.now.value ∷ []) old new dice dice (Some machine)) }
 {
-    job.keeps_limits();
     let request = job.unpack(alloc)?;
-    desk.call(rt, seat, Event::Arrive(job.clone()?))?;
+    arrive_at(rt, desk, seat, job)?;
     Ok(Machine::start(alloc, code, request))
 }
 
-/// The open request of a machine does the operation that it wants, or departs. Gives the machine back
-/// where it goes on.
-fn go_on<'c, R: Wait, C: Clock, J: Journal>(
+/// A request arrives at a seat. A machine at its start stands there then.
+fn arrive_at<R: Wait, J: Journal>(
     rt: &R,
     desk: &RecorderDesk<J>,
     seat: &mut RecorderSeat<J>,
-    mut machine: Machine<'c>,
+    job: &Arc<PackedRequest>,
+) -> Result<(), AllocError>
+    requires own { IsSeatOf desk.now seat.old }
+    requires opening { IsBlank (start_of desk.now) }
+    requires empty { open_at (view seat.old) ≡ None }
+    ensures own { IsSeatOf desk.now seat.new }
+    ensures goes { let old = view seat.old in let new = view seat.new in
+        (reading : Option ℕ) (dice : ChaCha) (machine : Standing)
+        → Follows (start_of desk.now).program job.now.value [] machine → IsReady machine
+        → OnOk result (Goes (start_of desk.now) reading (job.now.value ∷ []) old new dice dice
+        (Some machine)) }
+{
+    job.keeps_limits();
+    desk.call(rt, seat, Event::Arrive(job.clone()?))?;
+    Ok(())
+}
+
+/// Serves the open request of a machine to its departure. The machine is dropped then.
+fn serve_open<R: Wait, C: Clock, J: Journal>(
+    rt: &R,
+    desk: &RecorderDesk<J>,
+    seat: &mut RecorderSeat<J>,
+    mut machine: Machine<'_>,
     dice: &mut Dice,
     clock: &C,
-) -> Result<Option<Machine<'c>>, AllocError>
+) -> Result<(), AllocError>
     requires own { IsSeatOf desk.now seat.old }
     requires opening { IsBlank (start_of desk.now) }
     requires seated { let program = (start_of desk.now).program in
         IsSeated program (open_at (view seat.old)) (Some machine) }
     ensures own { IsSeatOf desk.now seat.new }
-    ensures goes { let old = view seat.old in let new = view seat.new in IfOk result (λ left.
-        Goes (start_of desk.now) (C.reading clock.now) [] old new dice.old dice.new left) }
+    ensures goes { let old = view seat.old in let new = view seat.new in OnOk result
+        (Goes (start_of desk.now) (C.reading clock.now) [] old new dice.old dice.new None) }
+{
+    go_to_end(rt, desk, seat, &mut machine, dice, clock)
+}
+
+/// The open request of a machine goes on until it departs.
+fn go_to_end<R: Wait, C: Clock, J: Journal>(
+    rt: &R,
+    desk: &RecorderDesk<J>,
+    seat: &mut RecorderSeat<J>,
+    machine: &mut Machine<'_>,
+    dice: &mut Dice,
+    clock: &C,
+) -> Result<(), AllocError>
+    requires own { IsSeatOf desk.now seat.old }
+    requires opening { IsBlank (start_of desk.now) }
+    requires seated { let program = (start_of desk.now).program in
+        IsSeated program (open_at (view seat.old)) (Some machine.old) }
+    ensures own { IsSeatOf desk.now seat.new }
+    ensures goes { let old = view seat.old in let new = view seat.new in OnOk result
+        (Goes (start_of desk.now) (C.reading clock.now) [] old new dice.old dice.new None) }
+{
+    for _ in rt.forever() {
+        let is_open = go_on(rt, desk, seat, machine, dice, clock)?;
+        if !is_open {
+            return Ok(());
+        }
+    }
+    unreachable!()
+}
+
+/// The open request of a machine does the operation that it wants, or departs. Tells whether it is
+/// still open.
+fn go_on<R: Wait, C: Clock, J: Journal>(
+    rt: &R,
+    desk: &RecorderDesk<J>,
+    seat: &mut RecorderSeat<J>,
+    machine: &mut Machine<'_>,
+    dice: &mut Dice,
+    clock: &C,
+) -> Result<bool, AllocError>
+    requires own { IsSeatOf desk.now seat.old }
+    requires opening { IsBlank (start_of desk.now) }
+    requires seated { let program = (start_of desk.now).program in
+        IsSeated program (open_at (view seat.old)) (Some machine.old) }
+    ensures own { IsSeatOf desk.now seat.new }
+    ensures goes { let old = view seat.old in let new = view seat.new in IfOk result (λ is_open.
+        Goes (start_of desk.now) (C.reading clock.now) [] old new dice.old dice.new
+        (if is_open then Some machine.new else None)) }
 {
     match machine.run()? {
-        MachineStep::Wants(op) => Ok(Some(act(rt, desk, seat, op, machine, dice, clock)?)),
-        MachineStep::Ends(response, path) => {
-            desk.call(rt, seat, Event::Depart(response, path))?;
-            Ok(None)
-        }
+        MachineStep::Wants(op) => act(rt, desk, seat, op, machine, dice, clock),
+        MachineStep::Ends(response, path) => depart(rt, desk, seat, response, path),
     }
 }
 
-/// The open request of a machine does this operation, and the machine takes the answer.
-fn act<'c, R: Wait, C: Clock, J: Journal>(
+/// The open request of a machine does this operation, and the machine takes the answer. Tells that
+/// the request is still open.
+fn act<R: Wait, C: Clock, J: Journal>(
     rt: &R,
     desk: &RecorderDesk<J>,
     seat: &mut RecorderSeat<J>,
     op: Op,
-    mut machine: Machine<'c>,
+    machine: &mut Machine<'_>,
     dice: &mut Dice,
     clock: &C,
-) -> Result<Machine<'c>, AllocError>
+) -> Result<bool, AllocError>
     requires own { IsSeatOf desk.now seat.old }
     requires opening { IsBlank (start_of desk.now) }
     requires waits { let program = (start_of desk.now).program in
-        WaitsFor program (open_at (view seat.old)) op machine }
+        WaitsFor program (open_at (view seat.old)) op machine.old }
     ensures own { IsSeatOf desk.now seat.new }
-    ensures goes { let old = view seat.old in let new = view seat.new in IfOk result (λ left.
-        Goes (start_of desk.now) (C.reading clock.now) [] old new dice.old dice.new (Some left)) }
+    ensures goes { let old = view seat.old in let new = view seat.new in IfOk result (λ is_open.
+        Goes (start_of desk.now) (C.reading clock.now) [] old new dice.old dice.new
+        (if is_open then Some machine.new else None)) }
 {
     let offer = offer_for(&op.act, clock, dice);
-    match desk.call(rt, seat, Event::Act(op, offer))? {
-        Reply::Acted { answer, .. } => machine.answer(answer)?,
-        Reply::Arrived { .. } | Reply::Departed { .. } => unreachable!(),
-    }
-    Ok(machine)
+    let Reply::Acted { answer, .. } = desk.call(rt, seat, Event::Act(op, offer))? else {
+        unreachable!()
+    };
+    machine.answer(answer)?;
+    Ok(true)
+}
+
+/// The open request departs. Tells that it is open no more.
+fn depart<R: Wait, J: Journal>(
+    rt: &R,
+    desk: &RecorderDesk<J>,
+    seat: &mut RecorderSeat<J>,
+    response: Response,
+    path: Path,
+) -> Result<bool, AllocError>
+    requires own { IsSeatOf desk.now seat.old }
+    requires opening { IsBlank (start_of desk.now) }
+    requires ends { let program = (start_of desk.now).program in
+        EndsWith program (open_at (view seat.old)) response path }
+    requires few { IfSome (open_at (view seat.old)) (λ visit.
+        length visit.answers ≤ MOST_OPERATIONS) }
+    ensures own { IsSeatOf desk.now seat.new }
+    ensures closed { IfOk result (λ is_open. is_open ≡ false) }
+    ensures goes { let old = view seat.old in let new = view seat.new in
+        (reading : Option ℕ) (dice : ChaCha) → OnOk result
+        (Goes (start_of desk.now) reading [] old new dice dice None) }
+{
+    desk.call(rt, seat, Event::Depart(response, path))?;
+    Ok(false)
 }

@@ -1,4 +1,3 @@
-mod AuditSteps
 pub mod Audits
 pub mod Counting
 pub mod Fronts

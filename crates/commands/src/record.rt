@@ -1,17 +1,19 @@
 ghost use Rattle.std.specs.Prelude.{◌≡◌, IfOk, option_map};
 ghost use Rattle.std.specs.Option.{ForSome};
+ghost use Rattle.object_set.specs.ObjectSets.{IsSetOf, objects_of};
 ghost use Rattle.command_inputs.specs.Faults.{UsesToRead};
 ghost use Rattle.command_words.specs.NamesView.{record_words_of};
 ghost use Rattle.commands.specs.Asked.{MayAnswer, a_recording};
-ghost use Rattle.commands.specs.Outcome.{IfRecorded, IfWay, SaysAbsent, written};
+ghost use Rattle.commands.specs.Outcome.{IfFound, IfRecorded, IfWay, IsOfJobs, RecordWithJobs, RecordWithProgram, RecordWithState, SaysAbsent, written};
 
 use crate::answer::Answer;
 use crate::outcome::{Outcome, Output};
 use crate::recording::{Way, record_jobs};
 use basis::OrMemory;
 use claims::Workers;
-use command_inputs::{Halt, InputError, read_program, read_requests, read_state, read_turns};
+use command_inputs::{InputError, read_program, read_requests, read_state, read_turns};
 use command_words::RecordWords;
+use object_set::ObjectSet;
 use outside::{Clock, Gate, Shelf};
 use script_check::program::Program;
 use std::alloc::{AllocError, Global};
@@ -19,6 +21,7 @@ use std::sync::{Arc, Wait};
 use std::thread::Threads;
 use trace_and_report::Recorded;
 use wire::limits::MOST_FILE_BYTES;
+use workload::Requests;
 
 /// What comes of the jobs of these files: the trace and the report of them. They are read in the order
 /// of the words, the turns last, up to the first one at fault.
@@ -39,13 +42,105 @@ pub fn record_files<'w, R: Threads + Wait + Sync, F: Shelf, C: Clock + Sync, G: 
 {
     let program = read_program(alloc, shelf, words.program, MOST_FILE_BYTES)?;
     let program = shared(alloc, program)?;
-    let start = read_state(alloc, shelf, words.state, MOST_FILE_BYTES, &program)?;
+    record_with_program(rt, alloc, shelf, words, &program, clock, gate)
+}
+
+/// What comes of the jobs where this program was read.
+fn record_with_program<'w, R: Threads + Wait + Sync, F: Shelf, C: Clock + Sync, G: Gate + Sync>(
+    rt: &R,
+    alloc: Global,
+    shelf: &mut F,
+    words: &RecordWords<'w>,
+    program: &Arc<Program>,
+    clock: &C,
+    gate: &G,
+) -> Result<Outcome<'w>, InputError>
+    ensures outcome { let words = record_words_of words.now in
+        ForSome (F.told shelf.old).files (λ files. let reading = C.reading clock.now in
+        IfFound (λ o. o) (RecordWithProgram reading files words program.now.value) result) }
+    ensures asked { IfOk result (λ outcome. MayAnswer a_recording outcome.answer) }
+    ensures found { IfOk result (λ outcome. ¬ SaysAbsent outcome) }
+    ensures used { UsesToRead (F.told shelf.old) (F.told shelf.new) result }
+{
+    let start = read_state(alloc, shelf, words.state, MOST_FILE_BYTES, program)?;
+    record_with_state(rt, alloc, shelf, words, program, start, clock, gate)
+}
+
+/// What comes of the jobs where the program and this state were read.
+fn record_with_state<'w, R: Threads + Wait + Sync, F: Shelf, C: Clock + Sync, G: Gate + Sync>(
+    rt: &R,
+    alloc: Global,
+    shelf: &mut F,
+    words: &RecordWords<'w>,
+    program: &Arc<Program>,
+    start: ObjectSet,
+    clock: &C,
+    gate: &G,
+) -> Result<Outcome<'w>, InputError>
+    requires { IsSetOf program.now.value start }
+    ensures outcome { let words = record_words_of words.now in
+        let program = program.now.value in
+        let objects = objects_of start in
+        ForSome (F.told shelf.old).files (λ files. let reading = C.reading clock.now in
+        IfFound (λ o. o) (RecordWithState reading files words program objects) result) }
+    ensures asked { IfOk result (λ outcome. MayAnswer a_recording outcome.answer) }
+    ensures found { IfOk result (λ outcome. ¬ SaysAbsent outcome) }
+    ensures used { UsesToRead (F.told shelf.old) (F.told shelf.new) result }
+{
     let jobs = read_requests(alloc, shelf, words.requests, MOST_FILE_BYTES)?;
+    record_with_jobs(rt, alloc, shelf, words, program, start, jobs, clock, gate)
+}
+
+/// What comes of these jobs where the program and the state were read.
+fn record_with_jobs<'w, R: Threads + Wait + Sync, F: Shelf, C: Clock + Sync, G: Gate + Sync>(
+    rt: &R,
+    alloc: Global,
+    shelf: &mut F,
+    words: &RecordWords<'w>,
+    program: &Arc<Program>,
+    start: ObjectSet,
+    jobs: Requests,
+    clock: &C,
+    gate: &G,
+) -> Result<Outcome<'w>, InputError>
+    requires { IsSetOf program.now.value start }
+    ensures outcome { let words = record_words_of words.now in
+        let program = program.now.value in
+        let objects = objects_of start in
+        ForSome (F.told shelf.old).files (λ files. let reading = C.reading clock.now in
+        IfFound (λ o. o) (RecordWithJobs reading files words program objects jobs) result) }
+    ensures asked { IfOk result (λ outcome. MayAnswer a_recording outcome.answer) }
+    ensures found { IfOk result (λ outcome. ¬ SaysAbsent outcome) }
+    ensures used { UsesToRead (F.told shelf.old) (F.told shelf.new) result }
+{
     let way = read_way(alloc, shelf, words.turns, words.workers)?;
+    Ok(recorded_in(rt, alloc, words, program, start, jobs, way, clock, gate)?)
+}
+
+/// The outcome of jobs that run in this way.
+fn recorded_in<'w, R: Threads + Wait + Sync, C: Clock + Sync, G: Gate + Sync>(
+    rt: &R,
+    alloc: Global,
+    words: &RecordWords<'w>,
+    program: &Arc<Program>,
+    start: ObjectSet,
+    jobs: Requests,
+    way: Way,
+    clock: &C,
+    gate: &G,
+) -> Result<Outcome<'w>, AllocError>
+    requires { IsSetOf program.now.value start }
+    ensures outcome { let words = record_words_of words.now in
+        let program = program.now.value in
+        let objects = objects_of start in
+        IfOk result (IsOfJobs (C.reading clock.now) words program objects jobs way) }
+    ensures asked { IfOk result (λ outcome. MayAnswer a_recording outcome.answer) }
+    ensures found { IfOk result (λ outcome. ¬ SaysAbsent outcome) }
+{
     let seed = words.seed;
-    match record_jobs(rt, alloc, &program, start, jobs, way, seed, clock, gate) {
-        Ok(recorded) => Ok(written(alloc, words, recorded)?),
-        Err(OrMemory::Memory) => Err(InputError::Halt(Halt::Memory)),
+    match record_jobs(rt, alloc, program, start, jobs, way, seed, clock, gate) {
+        Ok(recorded) => written(alloc, words, recorded),
+        Err(OrMemory::Memory) => Err(AllocError),
         Err(OrMemory::Other(which)) => Ok(Outcome::says(alloc, Answer::TooLong(which))),
     }
 }
@@ -83,18 +178,18 @@ fn written<'w>(
     ensures { let words = record_words_of words.now in
         IfOk result (λ outcome. outcome ≡ written words recorded) }
 {
+    let trace = Output {
+        name: words.trace,
+        bytes: recorded.trace,
+    };
+    let report = Output {
+        name: words.report,
+        bytes: recorded.report,
+    };
+    let outputs = vec![in alloc; trace, report]?;
     let answer = Answer::Recorded {
         requests: recorded.requests,
         groups: recorded.groups,
     };
-    let mut outputs = Vec::with_capacity(alloc, 2)?;
-    outputs.push(Output {
-        name: words.trace,
-        bytes: recorded.trace,
-    })?;
-    outputs.push(Output {
-        name: words.report,
-        bytes: recorded.report,
-    })?;
     Ok(Outcome { answer, outputs })
 }

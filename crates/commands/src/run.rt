@@ -81,7 +81,7 @@ pub fn run<R: Threads + Wait + Sync, F: Shelf, O: Sink, H: House, C: Clock + Syn
     traces_are_balanced();
     one_way();
     match outcome_of(rt, alloc, words, shelf, clock, gate) {
-        Ok(outcome) => carry_out(alloc, shelf, out, outcome),
+        Ok(outcome) => carry_out(alloc, shelf, out, &outcome),
         Err(halt) => halt.status(),
     }
 }
@@ -91,11 +91,11 @@ fn carry_out<F: Shelf, O: Sink>(
     alloc: Global,
     shelf: &mut F,
     out: &mut O,
-    outcome: Outcome<'_>,
+    outcome: &Outcome<'_>,
 ) -> u8
-    ensures done { result < 4 → IsCarriedOut outcome.entry (F.told shelf.old) (F.told shelf.new)
+    ensures done { result < 4 → IsCarriedOut outcome.now (F.told shelf.old) (F.told shelf.new)
         (O.told out.old) (O.told out.new) result }
-    ensures halted { 4 ≤ result → IsBrokenOff outcome.entry (F.told shelf.old) (F.told shelf.new)
+    ensures halted { 4 ≤ result → IsBrokenOff outcome.now (F.told shelf.old) (F.told shelf.new)
         (O.told out.old) (O.told out.new) result }
     ensures status { result ≤ 5 }
 {

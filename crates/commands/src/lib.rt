@@ -4,7 +4,7 @@
 pub mod answer;
 pub mod audit;
 pub mod check;
-pub mod law;
+mod leaving;
 pub mod outcome;
 pub mod print;
 pub mod record;

@@ -3,10 +3,10 @@
 
 use basis::OrMemory;
 use script_print::declaration::print;
-use script_print::text::print_text;
 use script_syntax::parse::parse;
 use script_tokens::fault::SyntaxFaultKind;
 use std::alloc::{AllocError, Global};
+use text_print::print_text;
 
 /// Whether the text is a program that prints so.
 fn prints(alloc: Global, text: &[u8], printed: &[u8]) -> bool {

@@ -1,8 +1,9 @@
 //! The files of requests and of turns that docs/formats.md shows, and its first job of a self test.
 
 use script_tree::request::{Parameter, Request};
+use self_test_jobs::generate;
 use std::alloc::{AllocError, Global};
-use workload::{Requests, generate, read_requests, read_turns};
+use workload::{Requests, read_requests, read_turns};
 
 /// What a request is to be, with its parameters.
 #[derive(Clone, Copy)]

@@ -8,4 +8,3 @@ mod name;
 pub mod printer;
 mod query;
 mod statement;
-pub mod text;

@@ -1,6 +1,5 @@
 pub mod FaultTexts
 pub mod Files
-pub mod Generated
 pub mod Jobs
 pub mod OneByOne
 pub mod Seats

@@ -1,9 +1,8 @@
-//! The jobs of a server and the turns of its seats, as JSON files, and the jobs of the self test:
-//! docs/formats.md, "Requests", "Turns" and "The workload of selftest".
+//! The jobs of a server and the turns of its seats, as JSON files: docs/formats.md, "Requests" and
+//! "Turns".
 #![tactic(auto)]
 
 pub mod fault;
-pub mod generator;
 mod job;
 pub mod law;
 pub mod limits;
@@ -13,6 +12,5 @@ mod tree;
 pub mod turns;
 
 pub use fault::WorkFault;
-pub use generator::generate;
 pub use requests::{Requests, read_requests};
 pub use turns::{Turn, Turns, read_turns};

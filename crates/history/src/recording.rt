@@ -2,6 +2,7 @@ ghost use Rattle.std.specs.Prelude.{◌≡◌, ◌+◌, true, Some, Ok, IfOk, On
 ghost use Rattle.script_tree.specs.Objects.{reading};
 ghost use Rattle.object_set.specs.Applied.{FitsSet, Does, takes};
 ghost use Rattle.object_set.specs.ObjectSets.{IsSetOf, objects_of};
+ghost use Rattle.script_check.specs.Validity.{IsValid};
 ghost use Rattle.history.specs.Recordings.{IsTaken, MayCome, room_of, choice_of};
 ghost use Rattle.history.specs.Rooms.{empty_room};
 ghost use Rattle.history.specs.Seats.{at_seat};
@@ -20,16 +21,18 @@ use script_tree::request::Response;
 use script_tree::value::Value;
 use std::alloc::{AllocError, Global};
 use std::marker::Model;
+use std::snapshot::Snapshot;
 use std::sync::Arc;
 use trace_format::packed::PackedRequest;
 
 /// What a recorder keeps between events: the objects, and of each seat the request that is open
-/// there. Its program is not run here; it is what says which events may come. Ids of requests and
-/// numbers of operations have 32 bits: an event that would need more is answered as want of memory.
+/// there. Its program, which says what events may come, is seen by contracts alone. Ids of requests
+/// and numbers of operations have 32 bits: an event that would need more is answered as want of
+/// memory.
 #[derive(Drop)]
 pub struct Recording {
     alloc: Global,
-    program: Arc<Program>,
+    program: Snapshot<Program>,
     objects: ObjectSet,
     arrived: u32,
     visits: Vec<Option<Visit>>,
@@ -51,9 +54,10 @@ impl Model for Recording {
 
 impl Recording {
     /// No request has arrived.
-    pub fn new(alloc: Global, program: Arc<Program>, objects: ObjectSet) -> Recording
-        requires { IsSetOf program.value objects }
-        ensures program { result.program ≡ program.value }
+    pub fn new(alloc: Global, program: &Program, objects: ObjectSet) -> Recording
+        requires { IsSetOf program.now objects }
+        ensures valid { IsValid program.now }
+        ensures program { result.program ≡ program.now }
         ensures objects { result.objects ≡ objects }
         ensures room { room_of result ≡ empty_room (objects_of objects) }
     {
@@ -61,7 +65,7 @@ impl Recording {
         program.declarations();
         Recording {
             alloc,
-            program,
+            program: Snapshot::of(program),
             objects,
             arrived: 0,
             visits: Vec::new(alloc),

@@ -4,10 +4,8 @@ use crate::programs::program;
 use history::{Happening, History};
 use object_set::ObjectSet;
 use outside::FixedClock;
-use script_check::program::Program;
 use script_code::translate::translate;
 use std::alloc::{AllocError, Global};
-use std::sync::Arc;
 use trace_and_report::{FileJournal, Recorded};
 use turns::run_turns;
 use workload::{Requests, read_requests};
@@ -19,10 +17,6 @@ const TRACE: &[u8] = b"SSCOTRC1\x00\x00\x00\x1a\x01\x00\x00\x00\x00\x00\x00\x00\
 const REPORT: &[u8] = b"SSCORPT1\x00\x00\x00\x09\x01\x00\x00\x00\x00\x00\x00\x00\x00\
     \x00\x00\x00\x09\x03\x00\x00\x00\x01\x00\x00\x00\x00";
 
-fn shared(alloc: Global, source: &[u8]) -> Result<Arc<Program>, AllocError> {
-    Ok(Arc::new(alloc, program(alloc, source)?)?)
-}
-
 fn jobs(alloc: Global, file: &[u8]) -> Result<Requests, AllocError> {
     match read_requests(alloc, file) {
         Ok(jobs) => Ok(jobs),
@@ -32,7 +26,7 @@ fn jobs(alloc: Global, file: &[u8]) -> Result<Requests, AllocError> {
 
 /// What happens to these jobs of a program, where no turns are listed.
 fn history(alloc: Global, source: &[u8], file: &[u8]) -> Result<History, AllocError> {
-    let program = shared(alloc, source)?;
+    let program = program(alloc, source)?;
     let code = translate(alloc, &program)?;
     let objects = ObjectSet::new(alloc, program.declarations())?;
     let jobs = jobs(alloc, file)?;
@@ -89,7 +83,7 @@ fn two_jobs_go_by_turns(rt: HostRuntime) {
 
 /// The files of these jobs of a program, where no turns are listed.
 fn recorded(alloc: Global, source: &[u8], file: &[u8]) -> Result<Recorded, AllocError> {
-    let program = shared(alloc, source)?;
+    let program = program(alloc, source)?;
     let code = translate(alloc, &program)?;
     let objects = ObjectSet::new(alloc, program.declarations())?;
     let jobs = jobs(alloc, file)?;

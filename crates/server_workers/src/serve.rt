@@ -39,7 +39,7 @@ use workload::Requests;
 pub fn serve_jobs<R: Threads + Wait + Sync, C: Clock + Sync, G: Gate + Sync, J: Journal + Send>(
     rt: &R,
     alloc: Global,
-    program: &Arc<Program>,
+    program: &Program,
     start: ObjectSet,
     jobs: Requests,
     workers: Workers,
@@ -48,10 +48,10 @@ pub fn serve_jobs<R: Threads + Wait + Sync, C: Clock + Sync, G: Gate + Sync, J: 
     gate: &G,
     journal: J,
 ) -> Result<J, AllocError>
-    requires start { IsSetOf program.now.value start }
+    requires start { IsSetOf program.now start }
     requires nothing_kept { J.keeps [] journal }
     ensures { let objects = objects_of start in let reading = C.reading clock.now in
-        let IsOne = IsServed program.now.value objects jobs workers seed reading in
+        let IsOne = IsServed program.now objects jobs workers seed reading in
         IfOk result (KeepsRun J.keeps IsOne) }
 {
     let service = service_of(alloc, program, jobs, seed)?;
@@ -104,22 +104,20 @@ fn numbers_for(alloc: Global, jobs: usize) -> Result<(Claims, ClaimSeat), AllocE
 /// A desk for the program, where no request is open, and its first seat.
 fn desk_for<J: Journal>(
     alloc: Global,
-    program: &Arc<Program>,
+    program: &Program,
     start: ObjectSet,
     journal: J,
 ) -> Result<(RecorderDesk<J>, RecorderSeat<J>), AllocError>
-    requires start { IsSetOf program.now.value start }
+    requires start { IsSetOf program.now start }
     requires nothing_kept { J.keeps [] journal }
     ensures blank { IfOk result (λ made. IsBlank (start_of made.0)) }
-    ensures program { IfOk result (λ made. (start_of made.0).program ≡ program.now.value) }
+    ensures program { IfOk result (λ made. (start_of made.0).program ≡ program.now) }
     ensures room { IfOk result (λ made.
         room_of (start_of made.0) ≡ empty_room (objects_of start)) }
     ensures own { IfOk result (λ made. IsSeatOf made.0 made.1) }
     ensures first { IfOk result (λ made. view made.1 ≡ first_view (start_of made.0)) }
 {
-    // It tells that the program is valid.
-    program.declarations();
-    let recording = Recording::new(alloc, program.clone()?, start);
+    let recording = Recording::new(alloc, program, start);
     RecorderDesk::<J>::new(alloc, recording, HistoryJournal { journal })
 }
 
@@ -127,19 +125,19 @@ fn desk_for<J: Journal>(
 fn serve_from<R: Threads + Wait + Sync, C: Clock + Sync, G: Gate + Sync, J: Journal + Send>(
     rt: &R,
     service: &Service,
-    program: &Arc<Program>,
+    program: &Program,
     start: ObjectSet,
     workers: Workers,
     clock: &C,
     gate: &G,
     journal: J,
 ) -> Result<J, AllocError>
-    requires start { IsSetOf program.now.value start }
+    requires start { IsSetOf program.now start }
     requires nothing_kept { J.keeps [] journal }
-    requires code { IsCodeOf program.now.value service.now.code }
+    requires code { IsCodeOf program.now service.now.code }
     ensures { let at = service.now in let jobs = requests_of at.jobs.items in
         let objects = objects_of start in let reading = C.reading clock.now in
-        let IsOne = IsServed program.now.value objects jobs workers at.seed reading in
+        let IsOne = IsServed program.now objects jobs workers at.seed reading in
         IfOk result (KeepsRun J.keeps IsOne) }
 {
     let (desk, seat) = desk_for(service.alloc, program, start, journal)?;

@@ -2,7 +2,6 @@ ghost use Rattle.std.specs.Prelude.{◌≡◌, ℕ, ◌<◌, [], IfOk, OnOk};
 ghost use Rattle.dice.specs.Rolls.{dice_of};
 ghost use Rattle.history.specs.Recordings.{room_of};
 ghost use Rattle.history.specs.Rooms.{empty_room};
-ghost use Rattle.script_check.specs.Validity.{IsValid};
 ghost use Rattle.script_code.specs.Translated.{IsCodeOf};
 ghost use Rattle.object_set.specs.ObjectSets.{IsSetOf, objects_of};
 ghost use Rattle.workload.specs.declared.limits.TheConstants.{SEATS};
@@ -17,7 +16,6 @@ use outside::Clock;
 use script_check::program::Program;
 use script_code::translate::Code;
 use std::alloc::{AllocError, Global};
-use std::sync::Arc;
 use workload::limits::SEATS;
 use workload::{Requests, Turn};
 
@@ -28,7 +26,7 @@ use workload::{Requests, Turn};
 /// clock and the dice are asked only where an operation wants it.
 pub fn run_turns<C: Clock, J: Journal>(
     alloc: Global,
-    program: &Arc<Program>,
+    program: &Program,
     code: &Code,
     start: ObjectSet,
     jobs: Requests,
@@ -37,33 +35,16 @@ pub fn run_turns<C: Clock, J: Journal>(
     clock: &C,
     journal: J,
 ) -> Result<J, AllocError>
-    requires code { IsCodeOf program.now.value code.now }
-    requires start { IsSetOf program.now.value start }
+    requires code { IsCodeOf program.now code.now }
+    requires start { IsSetOf program.now start }
     requires nothing_kept { J.keeps [] journal }
     ensures { let objects = objects_of start in
-        let IsRun = IsRunOf program.now.value objects jobs turns.now seed (C.reading clock.now) in
+        let IsRun = IsRunOf program.now objects jobs turns.now seed (C.reading clock.now) in
         IfOk result (KeepsRun J.keeps IsRun) }
 {
-    let recording = new_recording(alloc, program, start)?;
+    let recording = Recording::new(alloc, program, start);
     let mut table = Table::new(alloc, code, recording, jobs.into_vec(), seed)?;
     run_all(&mut table, turns, clock, journal)
-}
-
-/// The recording of a program that has not begun.
-fn new_recording(
-    alloc: Global,
-    program: &Arc<Program>,
-    start: ObjectSet,
-) -> Result<Recording, AllocError>
-    requires { IsSetOf program.now.value start }
-    ensures valid { IsValid program.now.value }
-    ensures program { IfOk result (λ recording. recording.program ≡ program.now.value) }
-    ensures objects { IfOk result (λ recording. recording.objects ≡ start) }
-    ensures room { IfOk result (λ recording. room_of recording ≡ empty_room (objects_of start)) }
-{
-    // It tells that the program is valid.
-    program.declarations();
-    Ok(Recording::new(alloc, program.clone()?, start))
 }
 
 /// The listed turns, then those of all seats in order, again and again, until every job has

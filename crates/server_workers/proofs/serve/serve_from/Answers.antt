@@ -19,7 +19,7 @@ returns g c =
     let start = objects_of c.args.start in
     let at = c.args.service.now in
     let reading = g.C.Clock.reading c.args.clock.now in
-    subst (λ n. IfOk c.served.result (KeepsRun g.J.Journal.keeps (IsServed c.args.program.now.value start (requests_of at.jobs.items) n at.seed reading)))
+    subst (λ n. IfOk c.served.result (KeepsRun g.J.Journal.keeps (IsServed c.args.program.now start (requests_of at.jobs.items) n at.seed reading)))
     c.count-workers.ensures.count
     (subst (λ p. IfOk c.served.result (KeepsRun g.J.Journal.keeps (IsServed p start (requests_of at.jobs.items) c.count-workers.result at.seed reading)))
     c.in_ok-desk.ensures.program (c.served.ensures start c.in_ok-desk.ensures.room))

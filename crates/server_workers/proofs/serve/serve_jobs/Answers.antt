@@ -1,17 +1,13 @@
 use Rattle.std.proofs.Common.{subst}
 use Rattle.std.specs.Prelude.{IfOk}
-use Rattle.script_code.specs.Translated.{IsCodeOf}
 use Rattle.object_set.specs.ObjectSets.{objects_of}
 use Rattle.turns.specs.Run.{KeepsRun}
 use Rattle.server_workers.specs.Served.{IsServed}
 use Rattle.server_workers.proofs.serve.serve_jobs.Goals as goal
 
-pub serve_from-requires-clause-code : goal.serve_from-requires-clause-code
-serve_from-requires-clause-code g c κs within = subst (λ p. IsCodeOf p c.in_ok-service.service.code) c.deref.ensures c.in_ok-service.ensures.code
-
 pub returns : goal.returns
 returns g c =
-    let program = c.args.program.now.value in
+    let program = c.args.program.now in
     let start = objects_of c.args.start in
     let reading = g.C.Clock.reading c.args.clock.now in
     let service = c.in_ok-service.service in

@@ -13,6 +13,7 @@ ghost use Rattle.commands.specs.Audits.{group_count, AuditWithProgram, AuditWith
 ghost use Rattle.commands.specs.Outcome.{IfAudited, IfFound, SaysAbsent};
 
 use crate::answer::Answer;
+use crate::leaving::leave;
 use crate::outcome::{Outcome, Output};
 use audit_meaning::verdict::Verdict;
 use auditor::audit;
@@ -43,7 +44,9 @@ pub fn audit_files<'w, F: Shelf, G: Gate + Sync>(
     ensures used { UsesToRead (F.told shelf.old) (F.told shelf.new) result }
 {
     let program = read_program(alloc, shelf, words.program, MOST_FILE_BYTES)?;
-    audit_with_program(alloc, shelf, words, &program, gate)
+    let outcome = audit_with_program(alloc, shelf, words, &program, gate);
+    leave(program);
+    outcome
 }
 
 /// What comes of the audit where this program was read.

@@ -7,6 +7,7 @@ ghost use Rattle.commands.specs.Asked.{MayAnswer, a_recording};
 ghost use Rattle.commands.specs.Outcome.{IfFound, IfRecorded, IfWay, IsOfJobs, RecordWithJobs, RecordWithProgram, RecordWithState, SaysAbsent, written};
 
 use crate::answer::Answer;
+use crate::leaving::leave;
 use crate::outcome::{Outcome, Output};
 use crate::recording::{Way, record_jobs};
 use basis::OrMemory;
@@ -17,7 +18,7 @@ use object_set::ObjectSet;
 use outside::{Clock, Gate, Shelf};
 use script_check::program::Program;
 use std::alloc::{AllocError, Global};
-use std::sync::{Arc, Wait};
+use std::sync::Wait;
 use std::thread::Threads;
 use trace_and_report::Recorded;
 use wire::limits::MOST_FILE_BYTES;
@@ -41,8 +42,9 @@ pub fn record_files<'w, R: Threads + Wait + Sync, F: Shelf, C: Clock + Sync, G: 
     ensures used { UsesToRead (F.told shelf.old) (F.told shelf.new) result }
 {
     let program = read_program(alloc, shelf, words.program, MOST_FILE_BYTES)?;
-    let program = shared(alloc, program)?;
-    record_with_program(rt, alloc, shelf, words, &program, clock, gate)
+    let outcome = record_with_program(rt, alloc, shelf, words, &program, clock, gate);
+    leave(program);
+    outcome
 }
 
 /// What comes of the jobs where this program was read.
@@ -51,13 +53,13 @@ fn record_with_program<'w, R: Threads + Wait + Sync, F: Shelf, C: Clock + Sync, 
     alloc: Global,
     shelf: &mut F,
     words: &RecordWords<'w>,
-    program: &Arc<Program>,
+    program: &Program,
     clock: &C,
     gate: &G,
 ) -> Result<Outcome<'w>, InputError>
     ensures outcome { let words = record_words_of words.now in
         ForSome (F.told shelf.old).files (λ files. let reading = C.reading clock.now in
-        IfFound (λ o. o) (RecordWithProgram reading files words program.now.value) result) }
+        IfFound (λ o. o) (RecordWithProgram reading files words program.now) result) }
     ensures asked { IfOk result (λ outcome. MayAnswer a_recording outcome.answer) }
     ensures found { IfOk result (λ outcome. ¬ SaysAbsent outcome) }
     ensures used { UsesToRead (F.told shelf.old) (F.told shelf.new) result }
@@ -72,14 +74,14 @@ fn record_with_state<'w, R: Threads + Wait + Sync, F: Shelf, C: Clock + Sync, G:
     alloc: Global,
     shelf: &mut F,
     words: &RecordWords<'w>,
-    program: &Arc<Program>,
+    program: &Program,
     start: ObjectSet,
     clock: &C,
     gate: &G,
 ) -> Result<Outcome<'w>, InputError>
-    requires { IsSetOf program.now.value start }
+    requires { IsSetOf program.now start }
     ensures outcome { let words = record_words_of words.now in
-        let program = program.now.value in
+        let program = program.now in
         let objects = objects_of start in
         ForSome (F.told shelf.old).files (λ files. let reading = C.reading clock.now in
         IfFound (λ o. o) (RecordWithState reading files words program objects) result) }
@@ -97,15 +99,15 @@ fn record_with_jobs<'w, R: Threads + Wait + Sync, F: Shelf, C: Clock + Sync, G: 
     alloc: Global,
     shelf: &mut F,
     words: &RecordWords<'w>,
-    program: &Arc<Program>,
+    program: &Program,
     start: ObjectSet,
     jobs: Requests,
     clock: &C,
     gate: &G,
 ) -> Result<Outcome<'w>, InputError>
-    requires { IsSetOf program.now.value start }
+    requires { IsSetOf program.now start }
     ensures outcome { let words = record_words_of words.now in
-        let program = program.now.value in
+        let program = program.now in
         let objects = objects_of start in
         ForSome (F.told shelf.old).files (λ files. let reading = C.reading clock.now in
         IfFound (λ o. o) (RecordWithJobs reading files words program objects jobs) result) }
@@ -122,16 +124,16 @@ fn recorded_in<'w, R: Threads + Wait + Sync, C: Clock + Sync, G: Gate + Sync>(
     rt: &R,
     alloc: Global,
     words: &RecordWords<'w>,
-    program: &Arc<Program>,
+    program: &Program,
     start: ObjectSet,
     jobs: Requests,
     way: Way,
     clock: &C,
     gate: &G,
 ) -> Result<Outcome<'w>, AllocError>
-    requires { IsSetOf program.now.value start }
+    requires { IsSetOf program.now start }
     ensures outcome { let words = record_words_of words.now in
-        let program = program.now.value in
+        let program = program.now in
         let objects = objects_of start in
         IfOk result (IsOfJobs (C.reading clock.now) words program objects jobs way) }
     ensures asked { IfOk result (λ outcome. MayAnswer a_recording outcome.answer) }
@@ -143,13 +145,6 @@ fn recorded_in<'w, R: Threads + Wait + Sync, C: Clock + Sync, G: Gate + Sync>(
         Err(OrMemory::Memory) => Err(AllocError),
         Err(OrMemory::Other(which)) => Ok(Outcome::says(alloc, Answer::TooLong(which))),
     }
-}
-
-/// A program that many may hold.
-fn shared(alloc: Global, program: Program) -> Result<Arc<Program>, AllocError>
-    ensures { IfOk result (λ shared. shared.value ≡ program) }
-{
-    Ok(Arc::new(alloc, program)?)
 }
 
 /// The way of the turns in the file of this name, and that of the workers where there is no name.

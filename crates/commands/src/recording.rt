@@ -13,7 +13,7 @@ use script_check::program::Program;
 use script_code::translate::translate;
 use server_workers::serve_jobs;
 use std::alloc::{AllocError, Global};
-use std::sync::{Arc, Wait};
+use std::sync::Wait;
 use std::thread::Threads;
 use trace_and_report::{FileJournal, Recorded, TooLong};
 use turns::run_turns;
@@ -31,7 +31,7 @@ pub enum Way {
 pub fn record_jobs<R: Threads + Wait + Sync, C: Clock + Sync, G: Gate + Sync>(
     rt: &R,
     alloc: Global,
-    program: &Arc<Program>,
+    program: &Program,
     start: ObjectSet,
     jobs: Requests,
     way: Way,
@@ -39,9 +39,9 @@ pub fn record_jobs<R: Threads + Wait + Sync, C: Clock + Sync, G: Gate + Sync>(
     clock: &C,
     gate: &G,
 ) -> Result<Recorded, OrMemory<TooLong>>
-    requires { IsSetOf program.now.value start }
+    requires { IsSetOf program.now start }
     ensures { let objects = objects_of start in
-        let IsRun = IsRunBy way program.now.value objects jobs seed (C.reading clock.now) in
+        let IsRun = IsRunBy way program.now objects jobs seed (C.reading clock.now) in
         IsRecorded IsRun result }
 {
     let journal = FileJournal::new(alloc)?;
@@ -59,7 +59,7 @@ pub fn record_jobs<R: Threads + Wait + Sync, C: Clock + Sync, G: Gate + Sync>(
 fn run_jobs<R: Threads + Wait + Sync, C: Clock + Sync, G: Gate + Sync, J: Journal + Send>(
     rt: &R,
     alloc: Global,
-    program: &Arc<Program>,
+    program: &Program,
     start: ObjectSet,
     jobs: Requests,
     way: Way,
@@ -68,10 +68,10 @@ fn run_jobs<R: Threads + Wait + Sync, C: Clock + Sync, G: Gate + Sync, J: Journa
     gate: &G,
     journal: J,
 ) -> Result<J, AllocError>
-    requires start { IsSetOf program.now.value start }
+    requires start { IsSetOf program.now start }
     requires nothing_kept { J.keeps [] journal }
     ensures { let objects = objects_of start in
-        let IsRun = IsRunBy way program.now.value objects jobs seed (C.reading clock.now) in
+        let IsRun = IsRunBy way program.now objects jobs seed (C.reading clock.now) in
         IfOk result (KeepsRun J.keeps IsRun) }
 {
     match way {

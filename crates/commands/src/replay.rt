@@ -8,6 +8,7 @@ ghost use Rattle.commands.specs.Outcome.{IfFound, IfReplayed, IsFound, ReplayWit
 ghost use Rattle.commands.specs.Outputs.{says};
 ghost use Rattle.commands.specs.declared.answer.Answer.TheVariants.{Replay};
 
+use crate::leaving::leave;
 use command_inputs::{InputError, read_program, read_schedule, read_state, read_trace};
 use command_words::ReplayNames;
 use object_set::ObjectSet;
@@ -32,7 +33,9 @@ pub fn replay_files<F: Shelf>(
     ensures used { UsesToRead (F.told shelf.old) (F.told shelf.new) result }
 {
     let program = read_program(alloc, shelf, names.program, MOST_FILE_BYTES)?;
-    replay_with_program(alloc, shelf, names, &program)
+    let found = replay_with_program(alloc, shelf, names, &program);
+    leave(program);
+    found
 }
 
 /// The same where this program was read.

@@ -1,7 +1,8 @@
-ghost use Rattle.std.specs.Prelude.{◌≡◌, ◌<◌, ◌≤◌, Err, IfOk, IsOkAnd};
+ghost use Rattle.std.specs.Prelude.{◌≡◌, ◌<◌, ◌≤◌, None, Err, IfOk, IsOkAnd};
 ghost use Rattle.std.specs.Option.{ForSome};
 ghost use Rattle.outside.specs.Shelves.{UsesShelf};
 ghost use Rattle.command_inputs.specs.Faults.{UsesToRead};
+ghost use Rattle.command_words.specs.Words.{check_name, replay_names};
 ghost use Rattle.commands.specs.Asked.{MayAnswer, asked_of};
 ghost use Rattle.commands.specs.Explained.{AskAudit, AskCheck, AskReplay, IsAcceptedBy, IsExplained, IsProgramFile, IsRejectedBy, IsUnexplained};
 ghost use Rattle.commands.specs.Outcome.{IfFound, IsOutcome, SaysAbsent};
@@ -154,6 +155,27 @@ fn found_by<'w, R: Threads + Wait + Sync, F: Shelf, C: Clock + Sync, G: Gate + S
         let counts = check_file(alloc, shelf, name)?;
         return Ok(Outcome::says(alloc, Answer::Checked(counts)));
     }
+    found_by_options(rt, alloc, words, shelf, clock, gate)
+}
+
+/// The same where they ask for no replay and no check.
+fn found_by_options<'w, R: Threads + Wait + Sync, F: Shelf, C: Clock + Sync, G: Gate + Sync>(
+    rt: &R,
+    alloc: Global,
+    words: &'w Words,
+    shelf: &mut F,
+    clock: &C,
+    gate: &G,
+) -> Result<Outcome<'w>, InputError>
+    requires no_replay { replay_names words.now ≡ None }
+    requires no_check { check_name words.now ≡ None }
+    ensures outcome { let outcome = IsOutcome words.now (C.reading clock.now) in
+        ForSome (F.told shelf.old).files (λ files. IfFound (λ o. o) (outcome files) result) }
+    ensures asked { let asked = asked_of words.now in
+        IfFound (λ o. o) (λ outcome. MayAnswer asked outcome.answer) result }
+    ensures found { IfOk result (λ outcome. ¬ SaysAbsent outcome) }
+    ensures used { UsesToRead (F.told shelf.old) (F.told shelf.new) result }
+{
     match words.record_words(alloc) {
         Ok(Some(words)) => return record_files(rt, alloc, shelf, &words, clock, gate),
         Ok(None) => {}

@@ -5,10 +5,11 @@ use Rattle.script_tree.specs.Requests.{Request}
 use Rattle.script_tree.specs.declared.limits.TheConstants.{MOST_STEPS}
 use Rattle.script_meaning.specs.BuiltinCalls.{Call}
 use Rattle.script_meaning.specs.Evaluate.{Flow, on, call_made}
+use Rattle.script_meaning.specs.Kinds.{list_in}
 use Rattle.script_meaning.specs.Operations.{Op}
 use Rattle.script_meaning.specs.Run.{Progress, Ran, goes, stops, after, answered, issue, Run, ◌>>◌}
 use Rattle.script_meaning.specs.declared.run.Stop.TheVariants.{Fault as fault}
-use Rattle.script_code.specs.CodeRun.{Frame, Next, lacking, step, exec, back_to}
+use Rattle.script_code.specs.CodeRun.{Frame, Next, lacking, step, exec, back_to, turn}
 use Rattle.script_code.specs.declared.instruction.Instruction.{Instruction}
 use Rattle.machine.specs.Gives.{progress_of, spend}
 use Rattle.machine.specs.declared.run.Run.{Run as Machine}
@@ -92,6 +93,13 @@ abbrev pub Returns : Datum → Machine → Result Went Stopped → Machine → T
 Returns d old result new =
     (next : Next) (ops : List Op) (more : List Datum)
     → Comes next ops more result new (back_to next old.frames d (progress_of old.state.account ops more))
+
+-- The machine takes the next turn of a loop over a list of which this is left: it goes back, or out where there is none.
+abbrev pub Turns : (whole left : Datum) → (out back : ℕ) → Machine → Result Went Stopped → Machine → Type 0
+Turns whole left out back old result new =
+    (next : Next) (ops : List Op) (more : List Datum)
+    → Comes next ops more result new (turn next old.frames out back whole old.state.stack old.state.slots.items (list_in left)
+    (progress_of old.state.account ops more))
 
 -- past the end of the code nothing is done
 abbrev pub EndsAt : ℕ → Next → Type 0

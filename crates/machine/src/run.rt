@@ -1,11 +1,14 @@
-ghost use Rattle.std.specs.Prelude.{◌≡◌, ◌<◌, ◌+◌, ℕ, length, Ok, OnOk};
+ghost use Rattle.std.specs.Prelude.{◌≡◌, ◌<◌, ◌+◌, ◌∷◌, [], ℕ, List, length, Ok, Err, OnOk};
+ghost use Rattle.script_tree.specs.Datum.{Datum, data_of, list as listed};
 ghost use Rattle.script_tree.specs.Requests.{Request as Asked};
+ghost use Rattle.script_tree.specs.declared.fault.ScriptFault.TheVariants.{WrongKind};
+ghost use Rattle.script_meaning.specs.Kinds.{list_in};
 ghost use Rattle.script_code.specs.declared.instruction.Instruction.TheVariants as instruction;
-ghost use Rattle.machine.specs.Does.{Acts, ActsFor, Falls, Returns, Runs, StepsOn};
+ghost use Rattle.machine.specs.Does.{Acts, ActsFor, Falls, Returns, Runs, StepsOn, Turns};
 ghost use Rattle.machine.specs.Places.{IsPlaceOf, Charges};
 ghost use Rattle.machine.specs.declared.stopped.Went.TheVariants.{On};
 
-use crate::cell::NextMember;
+use crate::cell::{Cell, NextMember};
 use crate::frames::{Frame, Frames};
 use crate::stack::Stack;
 use crate::state::State;
@@ -132,27 +135,67 @@ impl<'c> Run<'c> {
         ensures acts { Acts (instruction.Turn count) len place self.old result self.new }
         ensures charges { Charges self.old result self.new }
     {
-        let mut left = self.state.stack.pop_cell()?;
+        let left = self.state.stack.pop_cell()?;
         let whole = self.state.stack.pop_cell()?;
+        self.turn_of(whole, left, place + 1, place.saturating_sub(count))
+    }
+
+    /// Goes back with the next member of a list of which this is left, or out where there is none.
+    fn turn_of(
+        &mut self,
+        whole: Cell<'c>,
+        mut left: Cell<'c>,
+        out: usize,
+        back: usize,
+    ) -> Result<Went, Stopped>
+        ensures turns { Turns whole.entry left.entry out back self.old result self.new }
+        ensures charges { Charges self.old result self.new }
+    {
         match left.next()? {
-            NextMember::NoList => {
-                self.state.account.charge()?;
-                Err(Stopped::Fault(ScriptFault::WrongKind))
-            }
-            NextMember::Over => {
-                self.state.account.decide_so(false)?;
-                self.place = place + 1;
-                Ok(Went::On)
-            }
-            NextMember::Member(value) => {
-                self.state.account.decide_so(true)?;
-                self.state.slots.push(value)?;
-                self.state.stack.push_cell(whole)?;
-                self.state.stack.push_cell(left)?;
-                self.place = place.saturating_sub(count);
-                Ok(Went::On)
-            }
+            NextMember::NoList => self.no_list(),
+            NextMember::Over => self.go_out(out),
+            NextMember::Member(value) => self.go_back(whole, left, value, back),
         }
+    }
+
+    /// Spends the step of a loop over what is no list.
+    fn no_list(&mut self) -> Result<Went, Stopped>
+        ensures turns { (whole left : Datum) (out back : ℕ) → list_in left ≡ Err WrongKind
+            → Turns whole left out back self.old result self.new }
+        ensures charges { Charges self.old result self.new }
+    {
+        self.state.account.charge()?;
+        Err(Stopped::Fault(ScriptFault::WrongKind))
+    }
+
+    /// Ends a loop over a list.
+    fn go_out(&mut self, out: usize) -> Result<Went, Stopped>
+        ensures turns { (whole left : Datum) (back : ℕ) → list_in left ≡ Ok []
+            → Turns whole left out back self.old result self.new }
+        ensures charges { Charges self.old result self.new }
+    {
+        self.state.account.decide_so(false)?;
+        self.place = out;
+        Ok(Went::On)
+    }
+
+    /// Begins a turn with this member of a list of which that is left.
+    fn go_back(
+        &mut self,
+        whole: Cell<'c>,
+        left: Cell<'c>,
+        value: Value,
+        back: usize,
+    ) -> Result<Went, Stopped>
+        ensures turns { (left' : Datum) (others : List Datum) (out : ℕ)
+            → list_in left' ≡ Ok (value ∷ others) → left.entry ≡ listed (data_of others)
+            → Turns whole.entry left' out back self.old result self.new }
+        ensures charges { Charges self.old result self.new }
+    {
+        self.state.account.decide_so(true)?;
+        self.state.begin_turn(whole, left, value)?;
+        self.place = back;
+        Ok(Went::On)
     }
 
     /// Calls the function of this number with so many arguments.

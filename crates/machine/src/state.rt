@@ -1,4 +1,4 @@
-ghost use Rattle.std.specs.Prelude.{◌≡◌, [], drop, slice_set, IfOk, OnOk};
+ghost use Rattle.std.specs.Prelude.{◌≡◌, ◌∷◌, ◌++◌, [], drop, slice_set, IfOk, OnOk};
 ghost use Rattle.basis.specs.UnlessMemory.{Answers};
 ghost use Rattle.script_tree.specs.Datum.{Datum};
 ghost use Rattle.script_meaning.specs.BuiltinCalls.{Call};
@@ -9,6 +9,7 @@ ghost use Rattle.machine.specs.Does.{Does, DoesBoth, DoesFor, Issues, Calls, Ris
 ghost use Rattle.script_code.specs.declared.instruction.Instruction.TheVariants as instruction;
 
 use crate::account::Account;
+use crate::cell::Cell;
 use crate::stack::Stack;
 use crate::stopped::{Stopped, Wanted, Went};
 use script_code::instruction::Shape;
@@ -298,6 +299,25 @@ impl<'c> State<'c> {
         let statements = all_filled(alloc, shapes, values.as_slice())?;
         let op = script_values::transact_op(alloc, statements)?;
         self.issue(op)
+    }
+
+    /// Puts the next member of a list in a slot of its own, and the list and what is left of it on the
+    /// stack.
+    pub(crate) fn begin_turn(
+        &mut self,
+        whole: Cell<'c>,
+        left: Cell<'c>,
+        value: Value,
+    ) -> Result<(), AllocError>
+        ensures stack { OnOk result
+            (self.new.stack ≡ left.entry ∷ whole.entry ∷ self.old.stack) }
+        ensures slots { OnOk result
+            (self.new.slots.items ≡ self.old.slots.items ++ value ∷ []) }
+        ensures account { self.new.account ≡ self.old.account }
+    {
+        self.slots.push(value)?;
+        self.stack.push_cell(whole)?;
+        self.stack.push_cell(left)
     }
 
     /// Leaves so many slots.

@@ -40,15 +40,45 @@ pub fn stored(
     requires { StandOnce given.stores }
     ensures { UnlessMemory (IsStored program.now given) (HasGivenFault program.now given) result }
 {
-    let mut objects = ObjectSet::new(alloc, program.declarations())?;
     let index = Index::new(alloc, program)?;
-    if !are_declared(&objects, &index, &given) {
+    let objects = ObjectSet::new(alloc, program.declarations())?;
+    stored_in(objects, &index, given)
+}
+
+/// These objects, which hold nothing yet, with what is given.
+fn stored_in(
+    objects: ObjectSet,
+    index: &Index,
+    given: Given,
+) -> Result<ObjectSet, OrMemory<StateFault>>
+    requires empty { IsEmptySet objects }
+    requires set { IsSetOf index.now objects }
+    requires once { StandOnce given.stores }
+    ensures { UnlessMemory (IsStored index.now given) (HasGivenFault index.now given) result }
+{
+    if !are_declared(&objects, index, &given) {
         return Err(OrMemory::Other(StateFault::Undeclared));
     }
     if !are_within_limits(&given) {
         return Err(OrMemory::Other(StateFault::BeyondLimit));
     }
-    if put_all(&mut objects, &index, given)? {
+    all_stored_in(objects, index, given)
+}
+
+/// The same where what is given is declared and within the limits.
+fn all_stored_in(
+    mut objects: ObjectSet,
+    index: &Index,
+    given: Given,
+) -> Result<ObjectSet, OrMemory<StateFault>>
+    requires empty { IsEmptySet objects }
+    requires set { IsSetOf index.now objects }
+    requires once { StandOnce given.stores }
+    requires declared { are_declared index.now given ≡ true }
+    requires within { are_within_limits given ≡ true }
+    ensures { UnlessMemory (IsStored index.now given) (HasGivenFault index.now given) result }
+{
+    if put_all(&mut objects, index, given)? {
         Ok(objects)
     } else {
         Err(OrMemory::Other(StateFault::Unstorable))

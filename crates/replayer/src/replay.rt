@@ -1,6 +1,10 @@
-ghost use Rattle.std.specs.Prelude.{IfOk};
+ghost use Rattle.std.specs.Prelude.{◌≡◌, [], IfOk};
+ghost use Rattle.script_tree.specs.Objects.{Objects};
+ghost use Rattle.script_meaning.specs.Replay.{opening};
 ghost use Rattle.period.specs.Traces.{IsBalanced};
 ghost use Rattle.object_set.specs.ObjectSets.{IsSetOf};
+ghost use Rattle.replayer.specs.Differences.{difference_of};
+ghost use Rattle.replayer.specs.Stages.{Shows};
 ghost use Rattle.replayer.specs.Laws.{IsDifference, IsFinding, AgreesWhereExplained, schedule_read};
 
 use crate::law::agreement;
@@ -31,6 +35,20 @@ pub fn replay_by<R: Runner>(
 {
     let events = IndexedTrace::new(alloc, trace)?;
     let mut stage = Stage::new(alloc, index, start, events)?;
+    difference_on(alloc, runner, &mut stage, schedule)
+}
+
+/// Where the schedule first differs, played on this stage.
+fn difference_on<R: Runner>(
+    alloc: Global,
+    runner: &R,
+    stage: &mut Stage<'_, '_>,
+    schedule: &ScheduleFile,
+) -> Result<Option<ReplayReason>, AllocError>
+    ensures { (objects : Objects) → Shows [] (opening objects) stage.old →
+        let of = difference_of stage.old.index.now objects stage.old.trace in
+        IfOk result (λ difference. difference ≡ of schedule.now) }
+{
     for place in 0..schedule.len() {
         let moment = schedule.moment(place);
         if let Some(reason) = stage.step(alloc, runner, moment)? {

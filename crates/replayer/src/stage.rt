@@ -13,7 +13,7 @@ use basis::OrMemory;
 use object_set::{ObjectSet, Refused};
 use period::schedule::Moment;
 use script_check::lookup::Index;
-use script_tree::operation::Choice;
+use script_tree::operation::{Choice, Op};
 use script_tree::request::Response;
 use std::alloc::{AllocError, Global};
 use trace_index::IndexedTrace;
@@ -35,10 +35,12 @@ pub struct Stage<'a, 'p> {
 }
 
 impl<'a, 'p> Stage<'a, 'p> {
-    ghost use Rattle.std.specs.Prelude.{◌≡◌, IfOk};
+    ghost use Rattle.std.specs.Prelude.{◌≡◌, Some, IfOk};
     ghost use Rattle.period.specs.declared.schedule.Moment.TheVariants.{Arrive, Act, Depart};
     ghost use Rattle.replayer.specs.Differences.{first_not_departed};
+    ghost use Rattle.script_fit.specs.FitsOperation.{FitsOperation};
     ghost use Rattle.trace_index.specs.Places.{IsRequestPlace};
+    ghost use Rattle.replayer.specs.declared.runner.Next.TheVariants.{Wants, Ends};
     ghost use Rattle.replayer.specs.Stages.{Opens, IsStageOf, Steps, StepsAt, NextAt, WantsWhatFits, departed_of};
 
     /// Before the first moment, where the objects hold this.
@@ -110,12 +112,27 @@ impl<'a, 'p> Stage<'a, 'p> {
         ensures step { IfOk result (StepsAt place (λ r. Act r choice) self.old self.new) }
         ensures same { IsStageOf self.old.index.now self.old.trace self.new }
     {
-        let op = match self.next_at(alloc, runner, place)? {
-            Some(Next::Wants(op)) => op,
-            Some(Next::Ends(_)) => return Ok(Some(Reason::RunEnds)),
-            None => return Ok(Some(Reason::NotOpen)),
-        };
-        let answer = match self.objects.apply(&op, choice) {
+        match self.next_at(alloc, runner, place)? {
+            Some(Next::Wants(op)) => self.act_on(place, &op, choice),
+            Some(Next::Ends(_)) => Ok(Some(Reason::RunEnds)),
+            None => Ok(Some(Reason::NotOpen)),
+        }
+    }
+
+    /// The request that stands here does the operation that it wants.
+    fn act_on(
+        &mut self,
+        place: usize,
+        op: &Op,
+        choice: Choice,
+    ) -> Result<Option<Reason>, AllocError>
+        requires place { IsRequestPlace self.old.trace place }
+        requires next { NextAt place self.old (Some (Wants op.now)) }
+        requires fits { FitsOperation self.old.index.now op.now }
+        ensures step { IfOk result (StepsAt place (λ r. Act r choice) self.old self.new) }
+        ensures same { IsStageOf self.old.index.now self.old.trace self.new }
+    {
+        let answer = match self.objects.apply(op, choice) {
             Ok(answer) => answer,
             Err(OrMemory::Other(Refused)) => return Ok(Some(Reason::BadChoice)),
             Err(OrMemory::Memory) => return Err(AllocError),
@@ -134,13 +151,27 @@ impl<'a, 'p> Stage<'a, 'p> {
         ensures step { IfOk result (StepsAt place (λ r. Depart r) self.old self.new) }
         ensures same { IsStageOf self.old.index.now self.old.trace self.new }
     {
-        let response = match self.next_at(alloc, runner, place)? {
-            Some(Next::Ends(response)) => response,
-            Some(Next::Wants(_)) => return Ok(Some(Reason::WantsOperation)),
-            None => return Ok(Some(Reason::NotOpen)),
-        };
+        match self.next_at(alloc, runner, place)? {
+            Some(Next::Ends(response)) => self.depart_with(alloc, place, &response),
+            Some(Next::Wants(_)) => Ok(Some(Reason::WantsOperation)),
+            None => Ok(Some(Reason::NotOpen)),
+        }
+    }
+
+    /// The request that stands here departs with this response, if that is the traced one.
+    fn depart_with(
+        &mut self,
+        alloc: Global,
+        place: usize,
+        response: &Response,
+    ) -> Result<Option<Reason>, AllocError>
+        requires place { IsRequestPlace self.old.trace place }
+        requires next { NextAt place self.old (Some (Ends response.now)) }
+        ensures step { IfOk result (StepsAt place (λ r. Depart r) self.old self.new) }
+        ensures same { IsStageOf self.old.index.now self.old.trace self.new }
+    {
         let traced = self.trace.response(alloc, place)?;
-        if !is_same_response(&response, &traced) {
+        if !is_same_response(response, &traced) {
             return Ok(Some(Reason::OtherResponse));
         }
         self.standings[place] = Standing::Departed;

@@ -1,72 +1,15 @@
-use Rattle.std.proofs.Common.{◌≡◌, ◌∙◌, ap, sym, subst, ◌+◌, ◌<◌, [], ◌∷◌, ◌++◌, Some, length, take, drop, get_or, arith}
-use Rattle.std.proofs.lemmas.List.{take_more, drop_more, length-take-le, drop_all}
-use Rattle.basis.proofs.Options.{some_is}
-use Rattle.basis.proofs.Places.{nth-get_or}
-use Rattle.period.specs.declared.schedule.Moment.TheVariants.{Arrive}
-use Rattle.script_meaning.specs.Replay.{opening, after}
-use Rattle.replayer.specs.Differences.{difference_from, difference_of}
+use Rattle.std.proofs.Common.{◌∙◌, ap, sym}
+use Rattle.std.proofs.lemmas.Result.{IfOk-weaker}
 use Rattle.object_set.specs.ObjectSets.{objects_of}
-use Rattle.replayer.specs.Stages.{Shows, departed_of}
-use Rattle.replayer.specs.declared.reason.ReplayReason.TheVariants.{AtMoment}
-use Rattle.replayer.proofs.StageFacts.{stops_here, ends_here, steps_on, opens_with}
+use Rattle.replayer.specs.Differences.{difference_of}
+use Rattle.replayer.proofs.StageFacts.{opens_with}
 use Rattle.replayer.proofs.replay.replay_by.Goals as goal
-
-pub loop-place-init : goal.loop-place-init
-loop-place-init g c =
-    let objects = objects_of c.args.start in
-    let ms = c.args.schedule.now in (
-      opening objects,
-      c.in_ok-stage.ensures.shown,
-      ap (λ es. difference_of c.args.index.now objects es ms) (sym c.in_ok-events.ensures)
-          ∙ opens_with c.args.index.now c.args.start c.in_ok-events.events c.in_ok-stage.stage ms c.in_ok-stage.ensures,
-    )
-
-pub returns-in-Some : goal.returns-in-Some
-returns-in-Some g c =
-    let stage = c.loop-place.stage in
-    let ms = c.args.schedule.now in
-    let place = c.loop-place.place in
-    let m = c.moment-moment.result in
-    let inside : place < length ms = omega (arith, c.loop-place-test.true, c.len-place-end.ensures) in
-    let is : get_or ms place (Arrive 0) ≡ m = some_is (sym (nth-get_or (Arrive 0) ms place inside) ∙ c.moment-moment.ensures) in
-    let here : drop place ms ≡ m ∷ drop (place + 1) ms = drop_more ms place (Arrive 0) inside ∙ ap (λ n. n ∷ drop (place + 1) ms) is in
-    let shown = c.loop-place.invariant in
-    let s = c.in_ok-reason.ensures.step (take place ms) shown.0 shown.1 in
-    let stop = ap (difference_from stage.index.now stage.trace (take place ms) shown.0) here ∙ stops_here stage.index.now stage.trace (take place ms) shown.0 m (drop (place + 1) ms) c.in-Some.reason (s.named ∙ c.in-Some.is) in
-    let long : length (take place ms) ≡ place = length-take-le place ms (omega arith) in
-    ap (λ k. Some (AtMoment c.in-Some.reason k c.rid_of.result)) (sym long)
-    ∙ ap (λ r. Some (AtMoment c.in-Some.reason (length (take place ms)) r)) c.rid_of.ensures
-    ∙ sym stop ∙ sym shown.2
-
-pub loop-place-preserved : goal.loop-place-preserved
-loop-place-preserved g c =
-    let stage = c.loop-place.stage in
-    let ms = c.args.schedule.now in
-    let place = c.loop-place.place in
-    let m = c.moment-moment.result in
-    let inside : place < length ms = omega (arith, c.loop-place-test.true, c.len-place-end.ensures) in
-    let is : get_or ms place (Arrive 0) ≡ m = some_is (sym (nth-get_or (Arrive 0) ms place inside) ∙ c.moment-moment.ensures) in
-    let here : drop place ms ≡ m ∷ drop (place + 1) ms = drop_more ms place (Arrive 0) inside ∙ ap (λ n. n ∷ drop (place + 1) ms) is in
-    let shown = c.loop-place.invariant in
-    let s = c.in_ok-reason.ensures.step (take place ms) shown.0 shown.1 in
-    let next = after stage.index.now stage.trace shown.0 m in
-    let taken : take (place + 1) ms ≡ take place ms ++ m ∷ [] = take_more ms place (Arrive 0) inside ∙ ap (λ n. take place ms ++ n ∷ []) is in (
-      next,
-      subst (λ past. Shows past next c.step.new.self) (sym taken) (s.shown c.in_default.is),
-      steps_on _ stage c.step.new.self (take place ms) shown.0 m (drop (place + 1) ms)
-          (shown.2 ∙ ap (difference_from stage.index.now stage.trace (take place ms) shown.0) here)
-          c.in_ok-reason.ensures.same (s.named ∙ c.in_default.is)
-          ∙ ap (λ past. difference_from c.step.new.self.index.now c.step.new.self.trace past next (drop (place + 1) ms)) (sym taken),
-    )
 
 pub returns : goal.returns
 returns g c =
-    let stage = c.loop-place.stage in
+    let objects = objects_of c.args.start in
     let ms = c.args.schedule.now in
-    let place = c.loop-place.place in
-    let shown = c.loop-place.invariant in
-    let none : drop place ms ≡ [] = drop_all place ms (omega (arith, c.loop-place-test.false, c.len-place-end.ensures)) in
-    c.first_not_departed.ensures
-    ∙ sym (ends_here stage.index.now stage.trace (take place ms) shown.0 (departed_of stage) shown.1.departed)
-    ∙ ap (difference_from stage.index.now stage.trace (take place ms) shown.0) (sym none)
-    ∙ sym shown.2
+    IfOk-weaker c.difference_on.result _ _
+    (λ difference is. is ∙ sym (opens_with c.args.index.now c.args.start c.in_ok-events.events c.in_ok-stage.stage ms c.in_ok-stage.ensures)
+    ∙ ap (λ es. difference_of c.args.index.now objects es ms) c.in_ok-events.ensures)
+    (c.difference_on.ensures objects c.in_ok-stage.ensures.shown)

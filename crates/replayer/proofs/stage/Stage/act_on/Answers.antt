@@ -1,4 +1,4 @@
-use Rattle.std.proofs.Common.{ℕ, ◌≡◌, ◌∙◌, ◌<◌, List, ap, sym, refl, subst, true, Some, length, get_or, arith, Result, Ok, Err, OnOk, OnErr}
+use Rattle.std.proofs.Common.{ℕ, ◌≡◌, ◌∙◌, ◌<◌, List, ap, sym, refl, subst, true, false, Some, length, get_or, arith, Result, Ok, Err, OnOk, OnErr}
 use Rattle.std.specs.declared.alloc.AllocError.{AllocError}
 use Rattle.basis.proofs.Options.{some_one}
 use Rattle.script_tree.specs.Programs.{Program}
@@ -7,20 +7,21 @@ use Rattle.script_tree.specs.Datum.{Datum}
 use Rattle.script_tree.specs.declared.operation.Op.{Op}
 use Rattle.period.specs.declared.trace.TraceEvent.{TraceEvent}
 use Rattle.script_meaning.specs.Conduct.{Wants}
-use Rattle.script_meaning.specs.Replay.{ending_of, ending_with, next_of}
+use Rattle.period.specs.declared.schedule.Moment.{Moment}
+use Rattle.script_meaning.specs.Replay.{Scene, ending_of, ending_with, next_of}
 use Rattle.script_tree.specs.Objects.{plausible}
 use Rattle.object_set.specs.Applied.{Does, takes}
 use Rattle.replayer.specs.Opened.{Opened, opened_with, with_answer}
 use Rattle.trace_index.specs.Places.{request_place}
 use Rattle.replayer.specs.Standings.{standing_at, standing_in, answers_in, Puts, PutsAnswer, AreOpened}
-use Rattle.replayer.specs.Stages.{standing_of, kept_of, NextAt}
+use Rattle.replayer.specs.Stages.{standing_of, kept_of, NextAt, Shows}
 use Rattle.replayer.specs.declared.stage.Stage.{Stage}
 use Rattle.replayer.specs.declared.runner.Next.TheVariants as told
 use Rattle.replayer.specs.declared.standing.Standing.{Standing}
 use Rattle.replayer.specs.declared.standing.Standing.TheVariants.{Away, Open}
 use Rattle.object_set.proofs.Sets.{fits_op, fits_set}
 use Rattle.replayer.proofs.StageFacts.{shows_act, opened_more, answered_opened, opened, act_told, open_is, puts_at}
-use Rattle.replayer.proofs.stage.Stage.act.Goals as goal
+use Rattle.replayer.proofs.stage.Stage.act_on.Goals as goal
 
 -- what stands at the place gets an answer
 put : (trace : List TraceEvent) (old new : List Standing) (r place : ℕ) (o : Opened) (d : Datum)
@@ -37,10 +38,10 @@ pub wanted : (stage : Stage) (place r : ℕ) (op : Op) → NextAt place stage (S
 wanted stage place r op next here = let k = next r here in k.1 ∙ ap (λ x. Some x) k.2
 
 pub apply-requires : goal.apply-requires
-apply-requires g c =
-    fits_op c.args.self.now.objects c.in-Some-Wants.op
-    (fits_set c.args.self.now.index.now c.args.self.now.objects c.in-Some-Wants.op.object c.in-Some-Wants.op.act c.args.self.now.set
-    (rw (c.in-Some-Wants.is, c.in-Some-Wants.field-0-is) at c.in_ok-op.ensures.fits))
+apply-requires c =
+    fits_op c.args.self.now.objects c.args.op.now
+    (fits_set c.args.self.now.index.now c.args.self.now.objects c.args.op.now.object c.args.op.now.act c.args.self.now.set
+    c.requires.fits)
 
 -- the request that wanted the operation
 record Asks (stage : Stage) (r : ℕ) (op : Op) : Type 0 where
@@ -74,23 +75,40 @@ put_opened program trace old new r place o d op (Err e) before here inside is_op
     subst P (sym refused) before
 
 pub invariant_of-self-2-clause-opened : goal.invariant_of-self-2-clause-opened
-invariant_of-self-2-clause-opened g c =
+invariant_of-self-2-clause-opened c =
     let stage = c.args.self.now in
     let ss = stage.standings.items in
-    let rid = c.requires.rid in
-    let inside : c.args.place < length ss = omega (arith, c.requires.within, stage.sized, stage.standings.ok.0) in
-    let op = c.in-Some-Wants.op in
-    let a = asks stage rid op (wanted stage c.args.place rid op (rw (c.in-Some-Wants.is, c.in-Some-Wants.field-0-is) at c.in_ok-op.ensures.next) c.requires.stands) in
+    let rid = c.requires.place.rid in
+    let inside : c.args.place < length ss = omega (arith, c.requires.place.within, stage.sized, stage.standings.ok.0) in
+    let op = c.args.op.now in
+    let a = asks stage rid op (wanted stage c.args.place rid op c.requires.next c.requires.place.stands) in
     put_opened stage.index.now stage.trace ss c.put_answer.new.standings.items rid c.args.place a.opened c.in-Ok.answer op c.put_answer.result
-    stage.opened c.requires.stands inside a.stands a.traced a.wants c.put_answer.ensures.put c.put_answer.ensures.refused
+    stage.opened c.requires.place.stands inside a.stands a.traced a.wants c.put_answer.ensures.put c.put_answer.ensures.refused
+
+-- what is wanted in a scene that the stage shows
+next_in : (stage : Stage) (place r : ℕ) (op : Op) (past : List Moment) (scene : Scene) → NextAt place stage (Some (told.Wants op))
+    → request_place stage.trace r ≡ Some place → Shows past scene stage → next_of stage.index.now stage.trace scene r ≡ Some (Wants op)
+next_in stage place r op past scene next here h = ap (ending_with stage.index.now (request_of stage.trace r)) (h.answers r) ∙ wanted stage place r op next here
+
+pub returns-in-Err-Other-clause-step : goal.returns-in-Err-Other-clause-step
+returns-in-Err-Other-clause-step c = λ r here past scene h.
+    let stage = c.args.self.now in
+    let op = c.args.op.now in
+    let refused : (takes op c.args.choice stage.objects ≡ false) × (c.apply.new.self ≡ stage.objects) =
+    rw (c.in-Err-Other.is, c.in-Err-Other.field-0-is) at c.apply.ensures in
+    record {
+      named = act_told stage.index.now stage.trace scene r c.args.choice op false (next_in stage c.args.place r op past scene c.requires.next here h)
+          (ap (plausible op.act c.args.choice) (h.objects op.object) ∙ refused.0);
+      shown = λ is. absurd cc;
+    }
 
 pub returns-clause-step : goal.returns-clause-step
-returns-clause-step g c = λ r here past scene h.
+returns-clause-step c = λ r here past scene h.
     let stage = c.args.self.now in
     let ss = stage.standings.items in
-    let inside : c.args.place < length ss = omega (arith, c.requires.within, stage.sized, stage.standings.ok.0) in
-    let op = c.in-Some-Wants.op in
-    let k = wanted stage c.args.place r op (rw (c.in-Some-Wants.is, c.in-Some-Wants.field-0-is) at c.in_ok-op.ensures.next) here in
+    let inside : c.args.place < length ss = omega (arith, c.requires.place.within, stage.sized, stage.standings.ok.0) in
+    let op = c.args.op.now in
+    let k = wanted stage c.args.place r op c.requires.next here in
     let a = asks stage r op k in
     let next : next_of stage.index.now stage.trace scene r ≡ Some (Wants op) = ap (ending_with stage.index.now (request_of stage.trace r)) (h.answers r) ∙ k in
     let applied : (takes op c.args.choice stage.objects ≡ true) × Does op c.args.choice stage.objects c.apply.new.self c.in-Ok.answer = rw c.in-Ok.is at c.apply.ensures in

@@ -1,5 +1,5 @@
 -- That code is the code of its program.
-use Rattle.std.specs.Prelude.{◌≡◌, ℕ, List, Option, Some, None, option_map, if◌then◌else◌}
+use Rattle.std.specs.Prelude.{◌≡◌, ℕ, List, [], Option, Some, None, option_map, if◌then◌else◌}
 use Rattle.std.specs.BTreeMap.{BTreeMap, get_by}
 use Rattle.std.specs.Cmp.Lexicographic.{slice_cmp}
 use Rattle.std.specs.Ordering.{nat_cmp}
@@ -36,3 +36,9 @@ pub record IsTranslated (program : Program) (code : Code) : Type 0 where
   pub instructions : code.instructions.items ≡ declarations_code program program.declarations
   pub functions : code.functions.items ≡ places_from program 0 program.declarations
   pub entries : (path : List ℕ) → pages_of code path ≡ entry_from program 0 0 path program.declarations
+
+-- Nothing is written yet.
+pub record IsEmpty (code : Code) : Type 0 where
+  pub instructions : code.instructions.items ≡ []
+  pub functions : code.functions.items ≡ []
+  pub pages : code.pages.entries ≡ []

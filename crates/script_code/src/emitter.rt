@@ -1,4 +1,4 @@
-ghost use Rattle.std.specs.Prelude.{◌≡◌, ◌++◌, ◌∷◌, [], IfOk, OnOk};
+ghost use Rattle.std.specs.Prelude.{◌≡◌, ◌<◌, ◌++◌, ◌∷◌, [], length, slice_set, IfOk, OnOk};
 ghost use Rattle.script_check.specs.Indexes.{Puts};
 ghost use Rattle.script_check.specs.FoundByName.{table_of};
 ghost use Rattle.script_tree.specs.Declarations.{table_in};
@@ -121,4 +121,12 @@ pub(crate) fn put(code: &mut Vec<Instruction>, instruction: Instruction) -> Resu
 {
     code.push(instruction)?;
     Ok(())
+}
+
+/// This instruction instead of the one at a place.
+pub(crate) fn replace(code: &mut Vec<Instruction>, place: usize, instruction: Instruction)
+    requires { place < length code.now.items }
+    ensures { code.new.items ≡ slice_set code.old.items place instruction }
+{
+    code[place] = instruction;
 }

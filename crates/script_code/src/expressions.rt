@@ -10,7 +10,7 @@ ghost use Rattle.script_code.specs.Code.{assignments_code};
 ghost use Rattle.script_code.specs.Jumps.{jumped};
 ghost use Rattle.script_code.specs.declared.instruction.Instruction.TheVariants as instruction;
 
-use crate::emitter::{Emitter, put};
+use crate::emitter::{Emitter, put, replace};
 use crate::instruction::Instruction;
 use crate::scope::Scope;
 use script_tree::syntax::expression::{
@@ -113,7 +113,8 @@ impl Emitter<'_> {
         let jump = code.len();
         put(code, Instruction::And(0))?;
         self.expression(code, scope, right)?;
-        code[jump] = Instruction::And(code.len() - jump - 1);
+        let past = Instruction::And(code.len() - jump - 1);
+        replace(code, jump, past);
         Ok(())
     }
 
@@ -134,7 +135,8 @@ impl Emitter<'_> {
         let jump = code.len();
         put(code, Instruction::Or(0))?;
         self.expression(code, scope, right)?;
-        code[jump] = Instruction::Or(code.len() - jump - 1);
+        let past = Instruction::Or(code.len() - jump - 1);
+        replace(code, jump, past);
         Ok(())
     }
 

@@ -7,7 +7,7 @@ ghost use Rattle.script_code.specs.Jumps.{jumped, branch_beyond};
 ghost use Rattle.script_code.specs.Jumps.{scoped_block, scoped_else, turn_code};
 ghost use Rattle.script_code.specs.declared.instruction.Instruction.TheVariants as instruction;
 
-use crate::emitter::{Emitter, put};
+use crate::emitter::{Emitter, put, replace};
 use crate::instruction::Instruction;
 use crate::scope::Scope;
 use script_tree::syntax::expression::Expression;
@@ -95,7 +95,8 @@ impl<'a> Emitter<'a> {
         let jump = code.len();
         put(code, Instruction::Branch(0))?;
         self.scoped(code, scope, body)?;
-        code[jump] = Instruction::Branch(code.len() - jump);
+        let past = Instruction::Branch(code.len() - jump);
+        replace(code, jump, past);
         Ok(())
     }
 
@@ -114,7 +115,8 @@ impl<'a> Emitter<'a> {
         let jump = code.len();
         put(code, Instruction::Jump(0))?;
         self.other(code, scope, other)?;
-        code[jump] = Instruction::Jump(code.len() - jump - 1);
+        let past = Instruction::Jump(code.len() - jump - 1);
+        replace(code, jump, past);
         Ok(())
     }
 
@@ -171,7 +173,8 @@ impl<'a> Emitter<'a> {
         let jump = code.len();
         put(code, Instruction::Jump(0))?;
         self.scoped(code, scope, body)?;
-        code[jump] = Instruction::Jump(code.len() - jump - 1);
+        let past = Instruction::Jump(code.len() - jump - 1);
+        replace(code, jump, past);
         Ok(())
     }
 
@@ -212,7 +215,8 @@ impl<'a> Emitter<'a> {
         let jump = code.len();
         put(code, Instruction::Each(0))?;
         self.turn(code, scope, x, body)?;
-        code[jump] = Instruction::Each(code.len() - jump - 1);
+        let past = Instruction::Each(code.len() - jump - 1);
+        replace(code, jump, past);
         Ok(())
     }
 

@@ -1,5 +1,6 @@
 ghost use Rattle.std.specs.Prelude.{◌≡◌, IfOk, OnOk};
-ghost use Rattle.script_code.specs.Translated.{at_path, IsTranslated, IsCodeOf, PutsPage};
+ghost use Rattle.script_code.specs.Translated.{at_path, IsEmpty, IsTranslated};
+ghost use Rattle.script_code.specs.Translated.{IsCodeOf, PutsPage};
 
 use crate::emitter::Emitter;
 use crate::instruction::Instruction;
@@ -49,12 +50,32 @@ pub fn translate(alloc: Global, program: &Program) -> Result<Code, AllocError>
 fn translated(alloc: Global, program: &Program) -> Result<Code, AllocError>
     ensures { IfOk result (IsTranslated program.now) }
 {
-    let emitter = Emitter::new(alloc, program)?;
     let mut code = Code {
         instructions: Vec::new(alloc),
         functions: Vec::new(alloc),
         pages: BTreeMap::new(alloc),
     };
+    write(alloc, &mut code, program)?;
+    Ok(code)
+}
+
+/// Writes the instructions of each declaration to code that is empty.
+fn write(alloc: Global, code: &mut Code, program: &Program) -> Result<(), AllocError>
+    ensures { IsEmpty code.old → OnOk result (IsTranslated program.now code.new) }
+{
+    let emitter = Emitter::new(alloc, program)?;
+    write_declarations(&emitter, code, program)
+}
+
+/// The same by an emitter of the program.
+fn write_declarations<'a>(
+    emitter: &Emitter<'a>,
+    code: &mut Code,
+    program: &'a Program,
+) -> Result<(), AllocError>
+    ensures { emitter.now ≡ program.now → IsEmpty code.old
+        → OnOk result (IsTranslated program.now code.new) }
+{
     let mut page_count = 0u32;
     for declaration in program.declarations() {
         let place = code.instructions.len();
@@ -77,7 +98,7 @@ fn translated(alloc: Global, program: &Program) -> Result<Code, AllocError>
             }
         }
     }
-    Ok(code)
+    Ok(())
 }
 
 /// Adds the entry of a path, unless it has one.

@@ -36,7 +36,8 @@ pub and-returns : goal.and-returns
 and-returns t c =
     let left = expression_code c.args.self.now c.args.scope.now c.args.left.now in
     let right = expression_code c.args.self.now c.args.scope.now c.args.right.now in
-    jump_written instruction.And c.expression.new.code.items right c.put.new.code.items c.expression-2.new.code.items _ c.len-jump.result c.len.result
+    c.replace.ensures
+    ∙ jump_written instruction.And c.expression.new.code.items right c.put.new.code.items c.expression-2.new.code.items _ c.len-jump.result c.len.result
     (c.len-jump.ensures ∙ c.expression.new.code.ok.0) c.in_ok-put.ensures c.in_ok-expression-2.ensures (c.len.ensures ∙ c.expression-2.new.code.ok.0)
     ∙ ap (λ l. l ++ jumped instruction.And right) c.in_ok-expression.ensures
     ∙ append_assoc c.args.code.now.items left (jumped instruction.And right)
@@ -45,7 +46,8 @@ pub or-returns : goal.or-returns
 or-returns t c =
     let left = expression_code c.args.self.now c.args.scope.now c.args.left.now in
     let right = expression_code c.args.self.now c.args.scope.now c.args.right.now in
-    jump_written instruction.Or c.expression.new.code.items right c.put.new.code.items c.expression-2.new.code.items _ c.len-jump.result c.len.result
+    c.replace.ensures
+    ∙ jump_written instruction.Or c.expression.new.code.items right c.put.new.code.items c.expression-2.new.code.items _ c.len-jump.result c.len.result
     (c.len-jump.ensures ∙ c.expression.new.code.ok.0) c.in_ok-put.ensures c.in_ok-expression-2.ensures (c.len.ensures ∙ c.expression-2.new.code.ok.0)
     ∙ ap (λ l. l ++ jumped instruction.Or right) c.in_ok-expression.ensures
     ∙ append_assoc c.args.code.now.items left (jumped instruction.Or right)

@@ -15,24 +15,28 @@ block-statement-requires t c =
 
 pub first-returns-clause-code : goal.first-returns-clause-code
 first-returns-clause-code t c =
-    branch_written c.args.code.now.items (scoped_block c.args.self.now c.args.scope.now c.args.body.now) c.put.new.code.items c.scoped.new.code.items _ c.len-jump.result c.len.result
+    c.replace.ensures
+    ∙ branch_written c.args.code.now.items (scoped_block c.args.self.now c.args.scope.now c.args.body.now) c.put.new.code.items c.scoped.new.code.items _ c.len-jump.result c.len.result
     (c.len-jump.ensures ∙ c.args.code.now.ok.0) c.in_ok-put.ensures c.in_ok-scoped.ensures.code (c.len.ensures ∙ c.scoped.new.code.ok.0)
 
 pub second-returns-clause-code : goal.second-returns-clause-code
 second-returns-clause-code t c =
-    jump_written instruction.Jump c.args.code.now.items
+    c.replace.ensures
+    ∙ jump_written instruction.Jump c.args.code.now.items
     (scoped_else c.args.self.now c.args.scope.now
     (else_of c.args.other.now)) c.put.new.code.items c.other.new.code.items _ c.len-jump.result c.len.result
     (c.len-jump.ensures ∙ c.args.code.now.ok.0) c.in_ok-put.ensures c.in_ok-other.ensures.code (c.len.ensures ∙ c.other.new.code.ok.0)
 
 pub body-returns-clause-code : goal.body-returns-clause-code
 body-returns-clause-code t c =
-    jump_written instruction.Jump c.args.code.now.items (scoped_block c.args.self.now c.args.scope.now c.args.body.now) c.put.new.code.items c.scoped.new.code.items _ c.len-jump.result c.len.result
+    c.replace.ensures
+    ∙ jump_written instruction.Jump c.args.code.now.items (scoped_block c.args.self.now c.args.scope.now c.args.body.now) c.put.new.code.items c.scoped.new.code.items _ c.len-jump.result c.len.result
     (c.len-jump.ensures ∙ c.args.code.now.ok.0) c.in_ok-put.ensures c.in_ok-scoped.ensures.code (c.len.ensures ∙ c.scoped.new.code.ok.0)
 
 pub turns-returns-clause-code : goal.turns-returns-clause-code
 turns-returns-clause-code t c =
-    jump_written instruction.Each c.args.code.now.items (turn_code c.args.self.now c.args.scope.now c.args.x.now.text c.args.body.now) c.put.new.code.items c.turn.new.code.items _ c.len-jump.result c.len.result
+    c.replace.ensures
+    ∙ jump_written instruction.Each c.args.code.now.items (turn_code c.args.self.now c.args.scope.now c.args.x.now.text c.args.body.now) c.put.new.code.items c.turn.new.code.items _ c.len-jump.result c.len.result
     (c.len-jump.ensures ∙ c.args.code.now.ok.0) c.in_ok-put.ensures c.in_ok-turn.ensures.code (c.len.ensures ∙ c.turn.new.code.ok.0)
 
 pub statement_node-returns-in-Let-clause-code : goal.statement_node-returns-in-Let-clause-code

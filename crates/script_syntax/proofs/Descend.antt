@@ -1,9 +1,10 @@
 -- Steps of the parser.
-use Rattle.std.proofs.Common.{◌≡◌, ℕ, zero, suc, ◌-◌, ◌<◌, ◌≤◌, nat_eq, length, map, List, [], ◌∷◌, ◌++◌, Option, Some, None, Bool, true, false, if◌then◌else◌, Result, Ok, Err, refl, sym, ap, ◌∙◌, subst, arith}
+use Rattle.std.proofs.Common.{◌≡◌, ℕ, zero, suc, ◌-◌, ◌<◌, ◌≤◌, nat_eq, OnOk, length, map, List, [], ◌∷◌, ◌++◌, Option, Some, None, Bool, true, false, if◌then◌else◌, Result, Ok, Err, refl, sym, ap, ◌∙◌, subst, arith}
 use Rattle.std.proofs.lemmas.Bool.Decides.{nat_tests}
 use Rattle.basis.specs.declared.or_memory.OrMemory.{OrMemory}
 use Rattle.basis.specs.declared.or_memory.OrMemory.TheVariants.{Memory, Other}
 use Rattle.script_tree.specs.declared.syntax.operator.UnaryOperator.{UnaryOperator}
+use Rattle.script_tree.specs.Syntax.{Expression}
 use Rattle.script_tokens.specs.Feed.{is_word, stands, behind_first, rest_of, fault_at}
 use Rattle.script_tokens.specs.Scans.{Scan, before}
 use Rattle.script_tokens.specs.declared.fault.SyntaxFault.{SyntaxFault}
@@ -17,7 +18,7 @@ use Rattle.script_grammar.specs.declared.joint.Joint.{Joint}
 use Rattle.script_grammar.specs.declared.joint.Joint.TheVariants.{Indexing, And, Or, Operator}
 use Rattle.script_grammar.specs.Machine.{joint_level, joint_of, prefix_of, Val, of_expressions, Act, joined_by, prefixed, called, adds_name, adds_expression, adds_query, adds_statement, adds_declaration, otherwise, apply, Symbol, act, word, a_name, operand, prefixes, atom, tail, name_tail, arguments, more_arguments, more_names, parameters, a_query, more_queries, filter, more_tests, more_sets, a_statement, statements, else_part, declarations, block, begin_declaration, test, assignment, State, after_joint, feed, stuck, fed, run}
 use Rattle.script_grammar.proofs.Steps.{step_on, same_step, act_runs as acts_on}
-use Rattle.script_syntax.specs.Parses.{reading, stuck_fault, fault_in, Stops, Parses, after, Begins, word_token, of_level, joint_at, placed_prefix, prefix_at}
+use Rattle.script_syntax.specs.Parses.{reading, stuck_fault, fault_in, Stops, Parses, Joins, expression_value, after, Begins, word_token, of_level, joint_at, placed_prefix, prefix_at}
 
 -- ---- a failure below is a failure above
 
@@ -136,6 +137,12 @@ index_runs_of (suc left) (t ∷ ts) h s k vs =
     let q : suc left - 1 ≡ left = omega arith in
     let e : feed t (tail 0 (suc left) ∷ k) vs ≡ Some (after_joint Indexing 0 left k, vs) = rw (word_is w.SquareOpen t.kind h) refl in
     rw q (step_on t ts (tail 0 (suc left) ∷ k) (after_joint Indexing 0 left k) vs vs e)
+
+index_stuck_of : (ts : List Token) → stands w.SquareOpen ts ≡ true → (k : List Symbol) (vs : List Val) → run ts (tail 0 0 ∷ k) vs ≡ stuck ts
+index_stuck_of [] h k vs = no_stands h
+index_stuck_of (t ∷ ts) h k vs =
+    let e : feed t (tail 0 0 ∷ k) vs ≡ None = rw (word_is w.SquareOpen t.kind h) refl in
+    ap (λ o. fed t ts o (λ m us. run ts m us)) e
 
 -- ---- prefixes
 
@@ -259,6 +266,30 @@ pub joint_runs : (l left : ℕ) (s : Scan) (j : Joint) → joint_at l s.tokens �
     → (k : List Symbol) (vs : List Val) → reading s (tail l left ∷ k) vs
     ≡ reading (rest_of s) (operand (l - 1) ∷ act (joined_by j) ∷ tail l (left - 1) ∷ k) vs
 joint_runs l left s j h0 h1 h2 k vs = ap (λ o. (o, s.end)) (joint_runs_of l left s.tokens j h0 h1 h2 k vs)
+
+-- what is read behind a joint is joined by it
+pub joins : (j : Joint) (l left : ℕ) (old mid new : Scan) (sub : List Symbol) (r : Result Expression (OrMemory SyntaxFault))
+    → ((k : List Symbol) (vs : List Val) → reading old (tail l left ∷ k) vs ≡ reading mid (sub ++ act (joined_by j) ∷ tail l (left - 1) ∷ k) vs)
+    → Parses expression_value sub [] r mid new → Joins j l left r old new
+joins j l left old mid new sub (Ok e) f g = λ k vs. f k vs ∙ g (act (joined_by j) ∷ tail l (left - 1) ∷ k) vs
+joins j l left old mid new sub (Err Memory) f g = tt
+joins j l left old mid new sub (Err (Other u)) f g = λ k vs. ap fault_in (f k vs) ∙ g (act (joined_by j) ∷ tail l (left - 1) ∷ k) vs
+
+-- what holds holds of what is read
+pub on_read : {X : Type 0} {P : Type 0} (r : Result X (OrMemory SyntaxFault)) → P → OnOk r P
+on_read (Ok x) p = p
+on_read (Err e) p = tt
+
+-- a failure behind a joint is a failure of the whole
+pub joint_fails : (symbols : List Symbol) (l left : ℕ) (v : Val) (old mid : Scan) (e : OrMemory SyntaxFault)
+    → ((k : List Symbol) (vs : List Val) → reading old (symbols ++ k) vs ≡ reading mid (tail l left ∷ k) (v ∷ vs))
+    → Stops (tail l left ∷ []) [] e mid → Stops symbols [] e old
+joint_fails symbols l left v old mid Memory told g = tt
+joint_fails symbols l left v old mid (Other u) told g = λ k vs. ap fault_in (told k vs) ∙ g k (v ∷ vs)
+
+pub index_stuck : (s : Scan) → stands w.SquareOpen s.tokens ≡ true → (k : List Symbol) (vs : List Val)
+    → fault_in (reading s (tail 0 0 ∷ k) vs) ≡ Some (fault_at s)
+index_stuck s h k vs = ap (λ o. stuck_fault o s.end) (index_stuck_of s.tokens h k vs)
 
 pub index_runs : (left : ℕ) (s : Scan) → stands w.SquareOpen s.tokens ≡ true → 0 < left
     → (k : List Symbol) (vs : List Val) → reading s (tail 0 left ∷ k) vs

@@ -1,6 +1,7 @@
 -- What the grammar wants behind the first word of an expression, of a query, of a statement and of a declaration.
 use Rattle.std.specs.Prelude.{ℕ, List, [], ◌∷◌}
 use Rattle.script_tree.specs.Syntax as tree
+use Rattle.script_tokens.specs.declared.word.Word.{Word}
 use Rattle.script_tokens.specs.declared.word.Word.TheVariants as w
 use Rattle.script_grammar.specs.Grouping.{most_repeats}
 use Rattle.script_grammar.specs.Machine.{Symbol, act, word, puts, a_name, a_path, a_comparison, operand, atom, tail, arguments, more_arguments, parameters, more_names, a_query, more_queries, filter, more_sets, assignment, filtered, else_part, block, adds_name, adds_expression, adds_query, bracketed, listed, transacted, inserted, selected, updated, deleted, expected, bound, said, branched, repeated, turned, stored, tabled, defined, paged, of_names, of_expressions, of_tests, of_sets}
@@ -11,6 +12,10 @@ use Rattle.script_grammar.specs.Machine.{Symbol, act, word, puts, a_name, a_path
 abbrev pub indexed : List Symbol
 indexed = atom ∷ tail 0 (most_repeats 0) ∷ []
 
+-- an expression and the word behind it
+abbrev pub closed : Word → List Symbol
+closed v = operand 6 ∷ word v ∷ []
+
 -- what comes behind the opening bracket of an expression in brackets
 abbrev pub behind_bracket : ℕ → List Symbol
 behind_bracket at = operand 6 ∷ word w.Close ∷ act (bracketed at) ∷ []
@@ -19,9 +24,17 @@ behind_bracket at = operand 6 ∷ word w.Close ∷ act (bracketed at) ∷ []
 abbrev pub behind_list : ℕ → List Symbol
 behind_list at = arguments w.SquareClose ∷ act (listed at) ∷ []
 
+-- one expression or more, up to the closing bracket
+abbrev pub some_arguments : Word → List Symbol
+some_arguments v = operand 6 ∷ act adds_expression ∷ more_arguments v ∷ []
+
 -- what comes behind the keyword of a transaction
 abbrev pub behind_transact : ℕ → List Symbol
 behind_transact at = word w.BraceOpen ∷ a_query ∷ act adds_query ∷ more_queries ∷ act (transacted at) ∷ []
+
+-- one name or more, up to the closing word
+abbrev pub some_names : Word → List Symbol
+some_names v = a_name ∷ act adds_name ∷ more_names v ∷ []
 
 -- ---- queries
 
@@ -32,6 +45,10 @@ all_tests = act (puts (of_tests [])) ∷ filter ∷ []
 -- the value of a test is a sum
 abbrev pub one_test : List Symbol
 one_test = a_name ∷ a_comparison ∷ operand 3 ∷ []
+
+-- a table and the tests of its rows
+abbrev pub selection : List Symbol
+selection = a_name ∷ filtered []
 
 -- all assignments of an update
 abbrev pub all_sets : List Symbol
@@ -72,6 +89,10 @@ ended = operand 6 ∷ word w.Semicolon ∷ []
 -- a name, what is bound to it, and the semicolon behind it
 abbrev pub binding : List Symbol
 binding = a_name ∷ word w.Becomes ∷ operand 6 ∷ word w.Semicolon ∷ []
+
+-- an expression and the statements behind it
+abbrev pub headed : List Symbol
+headed = operand 6 ∷ block []
 
 -- what comes behind the keyword of a let
 abbrev pub behind_let : ℕ → List Symbol

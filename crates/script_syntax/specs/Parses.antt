@@ -1,5 +1,5 @@
 -- What a function of the parser returned: what the machine of the grammar does with its symbols.
-use Rattle.std.specs.Prelude.{◌≡◌, ℕ, List, [], ◌∷◌, ◌++◌, length, map, ◌==◌, if◌then◌else◌, Option, Some, None, Result, Ok, Err}
+use Rattle.std.specs.Prelude.{◌≡◌, ℕ, ◌-◌, true, List, [], ◌∷◌, ◌++◌, length, map, ◌==◌, if◌then◌else◌, Option, Some, None, Result, Ok, Err}
 use Rattle.basis.specs.declared.or_memory.OrMemory.{OrMemory}
 use Rattle.basis.specs.declared.or_memory.OrMemory.TheVariants.{Memory, Other}
 use Rattle.script_tree.specs.ExpressionView.{condition_of, assignment_of}
@@ -12,7 +12,7 @@ use Rattle.script_tree.specs.declared.comparison.Comparison.{Comparison}
 use Rattle.script_tree.specs.declared.syntax.name.Name.{Name}
 use Rattle.script_tree.specs.declared.syntax.declaration.Declaration.{Declaration}
 use Rattle.script_tree.specs.declared.syntax.statement.Else as code
-use Rattle.script_tokens.specs.Feed.{fault_of}
+use Rattle.script_tokens.specs.Feed.{fault_of, stands}
 use Rattle.script_tokens.specs.Scans.{Scan}
 use Rattle.script_tokens.specs.declared.fault.End.{End}
 use Rattle.script_tokens.specs.declared.fault.End.TheVariants.{File, Fault}
@@ -20,9 +20,11 @@ use Rattle.script_tokens.specs.declared.fault.SyntaxFault.{SyntaxFault}
 use Rattle.script_tokens.specs.Kinds.{Kind, Token, token}
 use Rattle.script_tokens.specs.Kinds as kind
 use Rattle.script_tokens.specs.declared.word.Word.{Word}
+use Rattle.script_tokens.specs.declared.word.Word.TheVariants as w
 use Rattle.script_tree.specs.declared.syntax.operator.UnaryOperator.{UnaryOperator}
 use Rattle.script_grammar.specs.declared.joint.Joint.{Joint}
-use Rattle.script_grammar.specs.Machine.{joint_level, joint_of, prefix_of, comparison_of, Symbol, Val, of_name, of_names, of_expression, of_expressions, of_comparison, of_tests, of_sets, of_query, of_queries, of_statement, of_statements, of_else, of_declaration, of_declarations, State, Parsing, done, stuck, fed, declarations, run}
+use Rattle.script_grammar.specs.declared.joint.Joint.TheVariants.{Indexing}
+use Rattle.script_grammar.specs.Machine.{joint_level, joint_of, prefix_of, comparison_of, Symbol, act, tail, joined_by, Val, of_name, of_names, of_expression, of_expressions, of_comparison, of_tests, of_sets, of_query, of_queries, of_statement, of_statements, of_else, of_declaration, of_declarations, State, Parsing, done, stuck, fed, declarations, run}
 
 -- what the machine makes of the tokens that are left, and what stands behind them
 abbrev pub reading : Scan → List Symbol → List Val → Parsing × End
@@ -99,6 +101,20 @@ abbrev pub prefix_at : List Token → Option (ℕ × UnaryOperator)
 prefix_at [] = None
 prefix_at (t ∷ ts) = placed_prefix t.at (prefix_of t.kind)
 
+-- Where this joint stands first, of which so many may follow, the machine reads what is joined by it; or it is stuck.
+abbrev pub Joins : Joint → ℕ → ℕ → Result Expression (OrMemory SyntaxFault) → Scan → Scan → Type 0
+Joins j level left (Ok e) old new = (k : List Symbol) (vs : List Val)
+    → reading old (tail level left ∷ k) vs ≡ reading new (act (joined_by j) ∷ tail level (left - 1) ∷ k) (of_expression e ∷ vs)
+Joins j level left (Err e) old new = Stops (tail level left ∷ []) [] e old
+
+-- The joint of this level that stands first joins.
+abbrev pub IsBehindJoint : ℕ → ℕ → Result Expression (OrMemory SyntaxFault) → Scan → Scan → Type 0
+IsBehindJoint level left result old new = (j : Joint) → joint_at level old.tokens ≡ Some j → Joins j level left result old new
+
+-- The bracket of a place that stands first joins.
+abbrev pub IsPlace : ℕ → Result Expression (OrMemory SyntaxFault) → Scan → Scan → Type 0
+IsPlace left result old new = stands w.SquareOpen old.tokens ≡ true → Joins Indexing 0 left result old new
+
 -- ---- the values
 
 -- nothing is kept of it
@@ -128,6 +144,10 @@ comparison_value c = of_comparison c ∷ []
 -- the value of a list of tests
 abbrev pub tests_value : List Condition → List Val
 tests_value cs = of_tests (map condition_of cs) ∷ []
+
+-- a table and the tests of its rows
+abbrev pub selection_value : Name × List Condition → List Val
+selection_value x = of_tests (map condition_of x.1) ∷ of_name x.0 ∷ []
 
 -- the value of a list of assignments
 abbrev pub sets_value : List Assignment → List Val
@@ -160,6 +180,10 @@ statement_value s = of_statement s ∷ []
 -- the value of a list of statements
 abbrev pub statements_value : List Statement → List Val
 statements_value ss = of_statements ss ∷ []
+
+-- an expression and the statements behind it
+abbrev pub headed_value : Expression × List Statement → List Val
+headed_value x = of_statements x.1 ∷ of_expression x.0 ∷ []
 
 -- the value of an else, or of none
 abbrev pub else_value : code.Else → List Val

@@ -4,7 +4,7 @@ ghost use Rattle.script_syntax.specs.Parses.{Parses, Begins, word_token, names_v
 ghost use Rattle.script_syntax.specs.Behind.{behind_function, behind_page, behind_store, behind_table};
 
 use crate::feed::{
-    Stop, any_word, more_names, name, path, short_list, take, unexpected, ungrammatical,
+    Stop, any_word, name, path, short_list, some_names, take, unexpected, ungrammatical,
 };
 use crate::statement::block;
 use basis::Items;
@@ -49,9 +49,7 @@ fn table(alloc: Global, tokens: &mut Tokens<'_>, at: usize) -> Result<Declaratio
 {
     let table = name(alloc, tokens)?;
     take(tokens, Word::Open)?;
-    let mut columns = Names::new(alloc);
-    columns.push(name(alloc, tokens)?)?;
-    let columns = more_names(alloc, tokens, columns, Word::Close)?;
+    let columns = some_names(alloc, tokens, Names::new(alloc), Word::Close)?;
     take(tokens, Word::Semicolon)?;
     Ok(Declaration::Table {
         at,
@@ -70,9 +68,8 @@ fn parameters(alloc: Global, tokens: &mut Tokens<'_>) -> Result<Names, Stop>
         tokens.skip();
         return Ok(Names::new(alloc));
     }
-    let mut names: Names = short_list(alloc)?;
-    names.push(name(alloc, tokens)?)?;
-    more_names(alloc, tokens, names, Word::Close)
+    let names: Names = short_list(alloc)?;
+    some_names(alloc, tokens, names, Word::Close)
 }
 
 fn function(alloc: Global, tokens: &mut Tokens<'_>, at: usize) -> Result<Declaration, Stop>

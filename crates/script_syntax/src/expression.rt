@@ -1,8 +1,8 @@
 ghost use Rattle.std.specs.Prelude.{◌≡◌, ◌<◌, ◌≤◌, ◌∷◌, [], length, OnOk, IfOk};
 ghost use Rattle.script_grammar.specs.Grouping.{most_repeats};
 ghost use Rattle.script_grammar.specs.Machine.{joined, word_joint, word_prefix, operand, prefixes, atom, name_tail, arguments, more_arguments, begin_word};
-ghost use Rattle.script_syntax.specs.Parses.{Parses, Begins, word_token, of_level, joint_at, prefix_at, expression_value, expressions_value};
-ghost use Rattle.script_syntax.specs.Behind.{behind_bracket, behind_list, indexed};
+ghost use Rattle.script_syntax.specs.Parses.{Parses, Begins, IsBehindJoint, IsPlace, word_token, of_level, joint_at, prefix_at, expression_value, expressions_value};
+ghost use Rattle.script_syntax.specs.Behind.{behind_bracket, behind_list, closed, indexed, some_arguments};
 
 use crate::feed::{Stop, any_word, short_list, take, unexpected, ungrammatical};
 use crate::query::transact;
@@ -111,14 +111,41 @@ pub fn operand(alloc: Global, tokens: &mut Tokens<'_>, level: u32) -> Result<Exp
     let mut value = operand(alloc, tokens, level - 1)?;
     let mut left = most_repeats(level);
     while let Some(joint) = joint_at(tokens, level) {
-        if left == 0 {
-            return Err(unexpected(tokens));
-        }
-        tokens.skip();
-        let right = operand(alloc, tokens, level - 1)?;
+        let right = behind_joint(alloc, tokens, level, left)?;
         value = joined(alloc, joint, value, right)?;
         left -= 1;
     }
+    Ok(value)
+}
+
+/// What is joined by the joint of this level that stands first, where so many may follow.
+#[cycle(expression)]
+fn behind_joint(
+    alloc: Global,
+    tokens: &mut Tokens<'_>,
+    level: u32,
+    left: usize,
+) -> Result<Expression, Stop>
+    requires { 2 ≤ level }
+    ensures gives { IsBehindJoint level left result tokens.old tokens.new }
+    ensures more { OnOk result (0 < left) }
+    ensures shorter { OnOk result (length tokens.new.tokens < length tokens.old.tokens) }
+{
+    if left == 0 {
+        return Err(unexpected(tokens));
+    }
+    tokens.skip();
+    operand(alloc, tokens, level - 1)
+}
+
+/// An expression and the word behind it.
+#[cycle(expression)]
+pub fn closed(alloc: Global, tokens: &mut Tokens<'_>, close: Word) -> Result<Expression, Stop>
+    ensures gives { Parses expression_value (closed close) [] result tokens.old tokens.new }
+    ensures shorter { OnOk result (length tokens.new.tokens < length tokens.old.tokens) }
+{
+    let value = operand(alloc, tokens, EXPRESSION)?;
+    take(tokens, close)?;
     Ok(value)
 }
 
@@ -152,16 +179,25 @@ fn indexed(alloc: Global, tokens: &mut Tokens<'_>) -> Result<Expression, Stop>
     let mut value = atom(alloc, tokens)?;
     let mut left = MOST_REPEATS;
     while tokens.stands(Word::SquareOpen) {
-        if left == 0 {
-            return Err(unexpected(tokens));
-        }
-        tokens.skip();
-        let place = operand(alloc, tokens, EXPRESSION)?;
-        take(tokens, Word::SquareClose)?;
+        let place = place(alloc, tokens, left)?;
         value = joined(alloc, Joint::Indexing, value, place)?;
         left -= 1;
     }
     Ok(value)
+}
+
+/// A place behind the bracket that stands first, where so many may follow.
+#[cycle(expression)]
+fn place(alloc: Global, tokens: &mut Tokens<'_>, left: usize) -> Result<Expression, Stop>
+    ensures gives { IsPlace left result tokens.old tokens.new }
+    ensures more { OnOk result (0 < left) }
+    ensures shorter { OnOk result (length tokens.new.tokens < length tokens.old.tokens) }
+{
+    if left == 0 {
+        return Err(unexpected(tokens));
+    }
+    tokens.skip();
+    closed(alloc, tokens, Word::SquareClose)
 }
 
 #[cycle(expression)]
@@ -217,14 +253,30 @@ fn arguments(alloc: Global, tokens: &mut Tokens<'_>, close: Word) -> Result<Expr
         tokens.skip();
         return Ok(Expressions::new(alloc));
     }
-    let mut items: Expressions = short_list(alloc)?;
+    let items: Expressions = short_list(alloc)?;
+    some_arguments(alloc, tokens, items, close)
+}
+
+/// One expression or more, up to the closing bracket, added to the items.
+#[cycle(expression)]
+pub fn some_arguments(
+    alloc: Global,
+    tokens: &mut Tokens<'_>,
+    items: Expressions,
+    close: Word,
+) -> Result<Expressions, Stop>
+    ensures gives { let symbols = some_arguments close in
+        Parses expressions_value symbols (expressions_value items) result tokens.old tokens.new }
+    ensures shorter { OnOk result (length tokens.new.tokens < length tokens.old.tokens) }
+{
+    let mut items = items;
     items.push(operand(alloc, tokens, EXPRESSION)?)?;
     more_arguments(alloc, tokens, items, close)
 }
 
 /// The further expressions up to the closing bracket.
 #[cycle(expression)]
-pub fn more_arguments(
+fn more_arguments(
     alloc: Global,
     tokens: &mut Tokens<'_>,
     items: Expressions,
@@ -272,8 +324,7 @@ fn bracket(alloc: Global, tokens: &mut Tokens<'_>, at: usize) -> Result<Expressi
     ensures gives { Parses expression_value (behind_bracket at) [] result tokens.old tokens.new }
     ensures shorter { OnOk result (length tokens.new.tokens < length tokens.old.tokens) }
 {
-    let inner = operand(alloc, tokens, EXPRESSION)?;
-    take(tokens, Word::Close)?;
+    let inner = closed(alloc, tokens, Word::Close)?;
     let node = ExpressionNode::Bracket(Box::new(alloc, inner)?);
     Ok(Expression { at, node })
 }

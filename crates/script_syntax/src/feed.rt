@@ -4,6 +4,7 @@ ghost use Rattle.script_tokens.specs.Scans.{before};
 ghost use Rattle.script_grammar.specs.Files.{ungrammatical};
 ghost use Rattle.script_grammar.specs.Machine.{word, a_name, a_path, more_names};
 ghost use Rattle.script_syntax.specs.Parses.{Parses, no_value, a_name_value, names_value, word_token, BeginsNoWord};
+ghost use Rattle.script_syntax.specs.Behind.{some_names};
 ghost use Rattle.basis.specs.declared.or_memory.OrMemory.TheVariants.{Other};
 
 use basis::{Items, OrMemory};
@@ -89,8 +90,24 @@ pub fn any_word(tokens: &mut Tokens<'_>) -> Option<(usize, Word)>
     Some((at, word))
 }
 
+/// One name or more, up to the closing word, added to the names.
+pub fn some_names(
+    alloc: Global,
+    tokens: &mut Tokens<'_>,
+    names: Names,
+    close: Word,
+) -> Result<Names, Stop>
+    ensures gives { let symbols = some_names close in
+        Parses names_value symbols (names_value names) result tokens.old tokens.new }
+    ensures shorter { OnOk result (length tokens.new.tokens < length tokens.old.tokens) }
+{
+    let mut names = names;
+    names.push(name(alloc, tokens)?)?;
+    more_names(alloc, tokens, names, close)
+}
+
 /// The further names up to the closing word.
-pub fn more_names(
+fn more_names(
     alloc: Global,
     tokens: &mut Tokens<'_>,
     names: Names,

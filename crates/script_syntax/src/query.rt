@@ -1,10 +1,13 @@
-ghost use Rattle.std.specs.Prelude.{◌≡◌, ◌<◌, ◌≤◌, ◌∷◌, [], length, OnOk};
+ghost use Rattle.std.specs.Prelude.{◌≡◌, ◌<◌, ◌≤◌, ◌∷◌, [], length, map, IfOk, OnOk};
 ghost use Rattle.script_grammar.specs.Machine.{word_comparison, more_tests, a_comparison, a_query, filtered, begin_query};
-ghost use Rattle.script_syntax.specs.Parses.{Parses, Begins, word_token, comparison_at, expression_value, comparison_value, tests_value, sets_value, condition_value, assignment_value, query_value, names_value, queries_value};
-ghost use Rattle.script_syntax.specs.Behind.{all_sets, all_tests, behind_delete, behind_expect, behind_insert, behind_select, behind_transact, behind_update, one_set, one_test};
+ghost use Rattle.script_tree.specs.ExpressionView.{condition_of};
+ghost use Rattle.script_tree.specs.Syntax.{expect};
+ghost use Rattle.script_tree.specs.SyntaxLists.{conditions_of};
+ghost use Rattle.script_syntax.specs.Parses.{Parses, Begins, word_token, comparison_at, expression_value, comparison_value, tests_value, sets_value, condition_value, assignment_value, query_value, names_value, queries_value, selection_value};
+ghost use Rattle.script_syntax.specs.Behind.{all_sets, all_tests, behind_delete, behind_expect, behind_insert, behind_select, behind_transact, behind_update, one_set, one_test, selection};
 
-use crate::expression::{EXPRESSION, SUM, more_arguments, operand};
-use crate::feed::{Stop, any_word, more_names, name, take, unexpected, ungrammatical};
+use crate::expression::{EXPRESSION, SUM, closed, operand, some_arguments};
+use crate::feed::{Stop, any_word, name, some_names, take, unexpected, ungrammatical};
 use script_tokens::scan::Tokens;
 use script_tokens::shape::Shape;
 use script_tokens::word::Word;
@@ -13,8 +16,8 @@ use script_tree::syntax::expression::{
     Assignment, Assignments, Condition, Conditions, Expression, ExpressionNode, Expressions,
     Queries, Query, QueryNode,
 };
-use script_tree::syntax::name::Names;
-use std::alloc::Global;
+use script_tree::syntax::name::{Name, Names};
+use std::alloc::{AllocError, Global};
 
 /// The statements of a transaction.
 #[cycle(expression)]
@@ -69,9 +72,7 @@ fn insert(alloc: Global, tokens: &mut Tokens<'_>, at: usize) -> Result<Query, St
 {
     let table = name(alloc, tokens)?;
     take(tokens, Word::Open)?;
-    let mut row = Expressions::new(alloc);
-    row.push(operand(alloc, tokens, EXPRESSION)?)?;
-    let row = more_arguments(alloc, tokens, row, Word::Close)?;
+    let row = some_arguments(alloc, tokens, Expressions::new(alloc), Word::Close)?;
     take(tokens, Word::Semicolon)?;
     let node = QueryNode::Insert(table, row);
     Ok(Query { at, node })
@@ -83,11 +84,8 @@ fn select(alloc: Global, tokens: &mut Tokens<'_>, at: usize) -> Result<Query, St
         Parses query_value symbols (names_value []) result tokens.old tokens.new }
     ensures shorter { OnOk result (length tokens.new.tokens < length tokens.old.tokens) }
 {
-    let mut columns = Names::new(alloc);
-    columns.push(name(alloc, tokens)?)?;
-    let columns = more_names(alloc, tokens, columns, Word::From)?;
-    let table = name(alloc, tokens)?;
-    let tests = filter(alloc, tokens)?;
+    let columns = some_names(alloc, tokens, Names::new(alloc), Word::From)?;
+    let (table, tests) = selection(alloc, tokens)?;
     let node = QueryNode::Select(columns, table, tests);
     Ok(Query { at, node })
 }
@@ -110,8 +108,7 @@ fn delete(alloc: Global, tokens: &mut Tokens<'_>, at: usize) -> Result<Query, St
     ensures gives { Parses query_value (behind_delete at) [] result tokens.old tokens.new }
     ensures shorter { OnOk result (length tokens.new.tokens < length tokens.old.tokens) }
 {
-    let table = name(alloc, tokens)?;
-    let tests = filter(alloc, tokens)?;
+    let (table, tests) = selection(alloc, tokens)?;
     let node = QueryNode::Delete(table, tests);
     Ok(Query { at, node })
 }
@@ -121,12 +118,36 @@ fn expect(alloc: Global, tokens: &mut Tokens<'_>, at: usize) -> Result<Query, St
     ensures gives { Parses query_value (behind_expect at) [] result tokens.old tokens.new }
     ensures shorter { OnOk result (length tokens.new.tokens < length tokens.old.tokens) }
 {
-    let count = operand(alloc, tokens, EXPRESSION)?;
-    take(tokens, Word::From)?;
+    let count = closed(alloc, tokens, Word::From)?;
+    let (table, tests) = selection(alloc, tokens)?;
+    Ok(expected(alloc, at, count, table, tests)?)
+}
+
+/// The statement that expects so many rows.
+fn expected(
+    alloc: Global,
+    at: usize,
+    count: Expression,
+    table: Name,
+    tests: Conditions,
+) -> Result<Query, AllocError>
+    ensures { let filter = conditions_of (map condition_of tests) in
+        IfOk result (λ q. q ≡ expect at count table filter) }
+{
+    let count = Box::new(alloc, count)?;
+    let node = QueryNode::Expect(count, table, tests);
+    Ok(Query { at, node })
+}
+
+/// The table of a statement, its tests, if it has some, and the semicolon at its end.
+#[cycle(expression)]
+fn selection(alloc: Global, tokens: &mut Tokens<'_>) -> Result<(Name, Conditions), Stop>
+    ensures gives { Parses selection_value selection [] result tokens.old tokens.new }
+    ensures shorter { OnOk result (length tokens.new.tokens < length tokens.old.tokens) }
+{
     let table = name(alloc, tokens)?;
     let tests = filter(alloc, tokens)?;
-    let node = QueryNode::Expect(Box::new(alloc, count)?, table, tests);
-    Ok(Query { at, node })
+    Ok((table, tests))
 }
 
 /// The tests of a statement, if it has some, and the semicolon at its end.

@@ -1,9 +1,9 @@
 ghost use Rattle.std.specs.Prelude.{◌≡◌, ◌<◌, ◌≤◌, ◌∷◌, [], length, OnOk};
 ghost use Rattle.script_grammar.specs.Machine.{a_statement, else_part, block, begin_statement};
-ghost use Rattle.script_syntax.specs.Parses.{Parses, Begins, word_token, expression_value, binding_value, statement_value, statements_value, else_value};
-ghost use Rattle.script_syntax.specs.Behind.{behind_do, behind_echo, behind_for, behind_if, behind_let, behind_return, behind_set, behind_status, behind_while, binding, ended};
+ghost use Rattle.script_syntax.specs.Parses.{Parses, Begins, word_token, expression_value, binding_value, headed_value, statement_value, statements_value, else_value};
+ghost use Rattle.script_syntax.specs.Behind.{behind_do, behind_echo, behind_for, behind_if, behind_let, behind_return, behind_set, behind_status, behind_while, binding, ended, headed};
 
-use crate::expression::{EXPRESSION, operand};
+use crate::expression::{EXPRESSION, closed, operand};
 use crate::feed::{Stop, any_word, name, short_list, take, unexpected, ungrammatical};
 use script_tokens::scan::Tokens;
 use script_tokens::word::Word;
@@ -17,9 +17,7 @@ fn ended(alloc: Global, tokens: &mut Tokens<'_>) -> Result<Expression, Stop>
     ensures gives { Parses expression_value ended [] result tokens.old tokens.new }
     ensures shorter { OnOk result (length tokens.new.tokens < length tokens.old.tokens) }
 {
-    let value = operand(alloc, tokens, EXPRESSION)?;
-    take(tokens, Word::Semicolon)?;
-    Ok(value)
+    closed(alloc, tokens, Word::Semicolon)
 }
 
 /// A name and the value that is bound to it.
@@ -46,6 +44,17 @@ pub fn block(alloc: Global, tokens: &mut Tokens<'_>) -> Result<Block, Stop>
     }
     tokens.skip();
     Ok(statements)
+}
+
+/// An expression and the statements behind it.
+#[cycle(statement)]
+fn headed(alloc: Global, tokens: &mut Tokens<'_>) -> Result<(Expression, Block), Stop>
+    ensures gives { Parses headed_value headed [] result tokens.old tokens.new }
+    ensures shorter { OnOk result (length tokens.new.tokens < length tokens.old.tokens) }
+{
+    let head = operand(alloc, tokens, EXPRESSION)?;
+    let body = block(alloc, tokens)?;
+    Ok((head, body))
 }
 
 #[cycle(statement)]
@@ -108,8 +117,7 @@ fn if_statement(alloc: Global, tokens: &mut Tokens<'_>, at: usize) -> Result<Sta
     ensures gives { Parses statement_value (behind_if at) [] result tokens.old tokens.new }
     ensures shorter { OnOk result (length tokens.new.tokens < length tokens.old.tokens) }
 {
-    let condition = operand(alloc, tokens, EXPRESSION)?;
-    let body = block(alloc, tokens)?;
+    let (condition, body) = headed(alloc, tokens)?;
     let other = otherwise(alloc, tokens)?;
     let node = StatementNode::If(condition, body, other);
     Ok(Statement { at, node })
@@ -133,8 +141,7 @@ fn while_statement(alloc: Global, tokens: &mut Tokens<'_>, at: usize) -> Result<
     ensures gives { Parses statement_value (behind_while at) [] result tokens.old tokens.new }
     ensures shorter { OnOk result (length tokens.new.tokens < length tokens.old.tokens) }
 {
-    let condition = operand(alloc, tokens, EXPRESSION)?;
-    let body = block(alloc, tokens)?;
+    let (condition, body) = headed(alloc, tokens)?;
     let node = StatementNode::While(condition, body);
     Ok(Statement { at, node })
 }
@@ -146,8 +153,7 @@ fn for_statement(alloc: Global, tokens: &mut Tokens<'_>, at: usize) -> Result<St
 {
     let name = name(alloc, tokens)?;
     take(tokens, Word::In)?;
-    let members = operand(alloc, tokens, EXPRESSION)?;
-    let body = block(alloc, tokens)?;
+    let (members, body) = headed(alloc, tokens)?;
     let node = StatementNode::For(name, members, body);
     Ok(Statement { at, node })
 }

@@ -1,7 +1,6 @@
 use Rattle.std.proofs.Common.{◌∙◌, ap, sym, refl, arith, ◌∷◌, [], ◌++◌, List, ◌≡◌, ◌-◌, length, map}
 use Rattle.std.proofs.lemmas.Result.{err_from_is_err_and}
 use Rattle.script_tree.specs.Syntax as tree
-use Rattle.script_tree.specs.SyntaxLists.{conditions_of}
 use Rattle.script_tree.specs.ExpressionView.{condition_of, assignment_of}
 use Rattle.script_tree.specs.declared.syntax.expression.Assignment.{Assignment}
 use Rattle.script_tree.specs.declared.syntax.expression.Condition.{Condition}
@@ -12,26 +11,29 @@ use Rattle.script_grammar.specs.Grouping.{most_repeats}
 use Rattle.script_grammar.specs.declared.joint.Joint.TheVariants.{Indexing}
 use Rattle.script_grammar.specs.Machine.{Symbol, Val, of_name, of_names, of_expression, of_expressions, of_comparison, of_tests, of_sets, of_query, of_queries, puts, adds_name, adds_expression, adds_test, adds_set, adds_query, joined_by, prefixed, bracketed, called, listed, transacted, inserted, selected, updated, deleted, expected, act, word, a_name, operand, prefixes, atom, tail, arguments, more_arguments, more_names, a_query, more_queries, filter, more_tests, more_sets, test, assignment, filtered, begin_query}
 use Rattle.script_syntax.specs.Parses.{reading, fault_in, word_token, expression_value, expressions_value, tests_value, query_value}
-use Rattle.script_syntax.proofs.Descend.{act_runs, fails, follows, begin_follows, behind_shorter, operand_more, operand_one, joint_runs, joint_stuck, index_runs, no_prefix_runs, prefix_runs, map_push, arguments_runs, more_arguments_run, call_runs, more_queries_run, queries_end, filter_runs, more_tests_run, more_sets_run}
+use Rattle.script_syntax.proofs.Descend.{act_runs, fails, follows, begin_follows, behind_shorter, operand_more, operand_one, joint_runs, joint_stuck, joins, joint_fails, index_stuck, on_read, index_runs, no_prefix_runs, prefix_runs, map_push, arguments_runs, more_arguments_run, call_runs, more_queries_run, queries_end, filter_runs, more_tests_run, more_sets_run}
 use Rattle.script_syntax.proofs.+expression.Goals as goal
 
 -- ---- lists
 
-pub expression::arguments-returns-in_err-operand-clause-gives : goal.expression::arguments-returns-in_err-operand-clause-gives
-expression::arguments-returns-in_err-operand-clause-gives t c =
-    let p = err_from_is_err_and c.from_residual-in_err-operand.result c.from_residual-in_err-operand.ensures.1 in
-    rw (p.1, p.2) (fails (arguments c.args.close ∷ []) (of_expressions [] ∷ []) c.args.tokens.now (operand 6 ∷ []) [] c.args.tokens.now _
-    (λ k vs. (act adds_expression ∷ more_arguments c.args.close ∷ k, of_expressions [] ∷ vs, arguments_runs c.args.close c.args.tokens.now (sym c.stands.ensures ∙ c.if-stands.false) k (of_expressions [] ∷ vs))) c.in_err-operand.ensures.gives)
-
 pub expression::arguments-returns-clause-gives : goal.expression::arguments-returns-clause-gives
 expression::arguments-returns-clause-gives t c =
-    let pushed : c.push.new.self ≡ c.in_ok-operand.field-0 ∷ [] = c.in_ok-push.ensures.ok ∙ ap (λ l. l ++ c.in_ok-operand.field-0 ∷ []) c.in_ok-items.ensures in
-    follows expressions_value (arguments c.args.close ∷ []) (of_expressions [] ∷ []) c.args.tokens.now (more_arguments c.args.close ∷ []) (of_expressions c.push.new.self ∷ []) c.operand.new.tokens c.more_arguments.new.tokens c.more_arguments.result
+    let l : List Symbol = operand 6 ∷ act adds_expression ∷ more_arguments c.args.close ∷ [] in
+    follows expressions_value (arguments c.args.close ∷ []) (of_expressions [] ∷ []) c.args.tokens.now l
+    (of_expressions c.in_ok-items.items ∷ []) c.args.tokens.now c.some_arguments.new.tokens c.some_arguments.result
     (λ k vs.
     arguments_runs c.args.close c.args.tokens.now (sym c.stands.ensures ∙ c.if-stands.false) k (of_expressions [] ∷ vs)
-    ∙ c.in_ok-operand.ensures.gives (act adds_expression ∷ more_arguments c.args.close ∷ k) (of_expressions [] ∷ vs)
-    ∙ act_runs adds_expression c.operand.new.tokens (more_arguments c.args.close ∷ k) (of_expression c.in_ok-operand.field-0 ∷ of_expressions [] ∷ vs)
-    ∙ ap (λ es. reading c.operand.new.tokens (more_arguments c.args.close ∷ k) (of_expressions es ∷ vs)) (sym pushed)) c.more_arguments.ensures.gives
+    ∙ ap (λ es. reading c.args.tokens.now (l ++ k) (of_expressions es ∷ vs)) (sym c.in_ok-items.ensures)) c.some_arguments.ensures.gives
+
+pub expression::some_arguments-returns-clause-gives : goal.expression::some_arguments-returns-clause-gives
+expression::some_arguments-returns-clause-gives t c =
+    follows expressions_value (operand 6 ∷ act adds_expression ∷ more_arguments c.args.close ∷ []) (of_expressions c.args.items ∷ [])
+    c.args.tokens.now (more_arguments c.args.close ∷ []) (of_expressions c.push.new.self ∷ []) c.operand.new.tokens
+    c.more_arguments.new.tokens c.more_arguments.result
+    (λ k vs.
+    c.in_ok-operand.ensures.gives (act adds_expression ∷ more_arguments c.args.close ∷ k) (of_expressions c.args.items ∷ vs)
+    ∙ act_runs adds_expression c.operand.new.tokens (more_arguments c.args.close ∷ k) (of_expression c.in_ok-operand.field-0 ∷ of_expressions c.args.items ∷ vs)
+    ∙ ap (λ es. reading c.operand.new.tokens (more_arguments c.args.close ∷ k) (of_expressions es ∷ vs)) (sym c.in_ok-push.ensures.ok)) c.more_arguments.ensures.gives
 
 pub expression::more_arguments-returns-in_err-take-clause-gives : goal.expression::more_arguments-returns-in_err-take-clause-gives
 expression::more_arguments-returns-in_err-take-clause-gives t c =
@@ -73,10 +75,9 @@ expression::more_arguments-loop-alloc-preserved t c = record {
 
 pub expression::bracket-returns-clause-gives : goal.expression::bracket-returns-clause-gives
 expression::bracket-returns-clause-gives t c = λ k vs.
-    c.in_ok-inner.ensures.gives (word w.Close ∷ act (bracketed c.args.at) ∷ k) vs
-    ∙ c.in_ok-take.ensures.gives (act (bracketed c.args.at) ∷ k) (of_expression c.in_ok-inner.inner ∷ vs)
-    ∙ act_runs (bracketed c.args.at) c.take.new.tokens k (of_expression c.in_ok-inner.inner ∷ vs)
-    ∙ ap (λ e. reading c.take.new.tokens k (of_expression (tree.bracket c.args.at e) ∷ vs)) (sym c.in_ok-new.ensures.ok)
+    c.in_ok-inner.ensures.gives (act (bracketed c.args.at) ∷ k) vs
+    ∙ act_runs (bracketed c.args.at) c.closed.new.tokens k (of_expression c.in_ok-inner.inner ∷ vs)
+    ∙ ap (λ e. reading c.closed.new.tokens k (of_expression (tree.bracket c.args.at e) ∷ vs)) (sym c.in_ok-new.ensures.ok)
 
 pub expression::list-returns-clause-gives : goal.expression::list-returns-clause-gives
 expression::list-returns-clause-gives t c = λ k vs.
@@ -91,31 +92,38 @@ expression::named-returns-in_ok-items-clause-gives t c = λ k vs.
     ∙ c.in_ok-items.ensures.gives (act (called c.args.name.at c.args.name.text) ∷ k) vs
     ∙ act_runs (called c.args.name.at c.args.name.text) c.arguments.new.tokens k (of_expressions c.in_ok-items.items ∷ vs)
 
+pub expression::indexed-returns-in_err-place-clause-gives : goal.expression::indexed-returns-in_err-place-clause-gives
+expression::indexed-returns-in_err-place-clause-gives t c =
+    let p = err_from_is_err_and c.from_residual-in_err-place.result c.from_residual-in_err-place.ensures.1 in
+    rw (p.1, p.2) (joint_fails (atom ∷ tail 0 (most_repeats 0) ∷ []) 0 c.loop-alloc.left (of_expression c.loop-alloc.value) c.args.tokens.now c.loop-alloc.tokens _
+    c.loop-alloc.invariant.told (c.in_err-place.ensures.gives (sym c.stands.ensures ∙ c.loop-alloc-test.true)))
+
 pub expression::indexed-loop-alloc-preserved : goal.expression::indexed-loop-alloc-preserved
-expression::indexed-loop-alloc-preserved t c =
-    let s : c.skip.new.self ≡ rest_of c.loop-alloc.tokens = c.skip.ensures in
-    record {
-      told = λ k vs.
-          c.loop-alloc.invariant.told k vs
-          ∙ index_runs c.loop-alloc.left c.loop-alloc.tokens (sym c.stands.ensures ∙ c.loop-alloc-test.true)
-          (omega arith) k (of_expression c.loop-alloc.value ∷ vs)
-          ∙ ap (λ ts. reading ts (operand 6 ∷ word w.SquareClose ∷ act (joined_by Indexing) ∷ tail 0 (c.loop-alloc.left - 1) ∷ k) (of_expression c.loop-alloc.value ∷ vs)) (sym s)
-          ∙ c.in_ok-place.ensures.gives (word w.SquareClose ∷ act (joined_by Indexing) ∷ tail 0
-          (c.loop-alloc.left - 1) ∷ k) (of_expression c.loop-alloc.value ∷ vs)
-          ∙ c.in_ok-take.ensures.gives (act (joined_by Indexing) ∷ tail 0 (c.loop-alloc.left - 1) ∷ k)
-          (of_expression c.in_ok-place.place ∷ of_expression c.loop-alloc.value ∷ vs)
-          ∙ act_runs (joined_by Indexing) c.take.new.tokens (tail 0 (c.loop-alloc.left - 1) ∷ k)
-          (of_expression c.in_ok-place.place ∷ of_expression c.loop-alloc.value ∷ vs)
-          ∙ ap (λ e. reading c.take.new.tokens (tail 0 (c.loop-alloc.left - 1) ∷ k) (of_expression e ∷ vs)) (sym c.in_ok-value-2.ensures);
-      shorter = omega (
-        arith,
-        c.loop-alloc.invariant.shorter,
-        behind_shorter c.loop-alloc.tokens,
-        ap (λ (x : Scan). length x.tokens) s,
-        c.in_ok-place.ensures.shorter,
-        c.in_ok-take.ensures.shorter,
-      );
-    }
+expression::indexed-loop-alloc-preserved t c = record {
+  told = λ k vs.
+      c.loop-alloc.invariant.told k vs
+      ∙ c.in_ok-place.ensures.gives (sym c.stands.ensures ∙ c.loop-alloc-test.true) k (of_expression c.loop-alloc.value ∷ vs)
+      ∙ act_runs (joined_by Indexing) c.place.new.tokens (tail 0 (c.loop-alloc.left - 1) ∷ k)
+      (of_expression c.in_ok-place.place ∷ of_expression c.loop-alloc.value ∷ vs)
+      ∙ ap (λ e. reading c.place.new.tokens (tail 0 (c.loop-alloc.left - 1) ∷ k) (of_expression e ∷ vs)) (sym c.in_ok-value-2.ensures);
+  shorter = omega (arith, c.loop-alloc.invariant.shorter, c.in_ok-place.ensures.shorter);
+}
+
+pub expression::place-returns-then-left-eq0-clause-gives : goal.expression::place-returns-then-left-eq0-clause-gives
+expression::place-returns-then-left-eq0-clause-gives t c =
+    rw c.unexpected.ensures (λ h k vs.
+    ap (λ n. fault_in (reading c.args.tokens.now (tail 0 n ∷ k) vs)) c.if-left-eq0.true
+    ∙ index_stuck c.args.tokens.now h k vs)
+
+pub expression::place-returns-clause-gives : goal.expression::place-returns-clause-gives
+expression::place-returns-clause-gives t c =
+    λ h. joins Indexing 0 c.args.left c.args.tokens.now c.skip.new.self c.closed.new.tokens (operand 6 ∷ word w.SquareClose ∷ []) c.closed.result
+    (λ k vs.
+    index_runs c.args.left c.args.tokens.now h (omega arith) k vs
+    ∙ ap (λ ts. reading ts (operand 6 ∷ word w.SquareClose ∷ act (joined_by Indexing) ∷ tail 0 (c.args.left - 1) ∷ k) vs) (sym c.skip.ensures)) c.closed.ensures.gives
+
+pub expression::place-returns-clause-more : goal.expression::place-returns-clause-more
+expression::place-returns-clause-more t c = on_read c.closed.result (omega arith)
 
 -- ---- levels
 
@@ -141,53 +149,39 @@ expression::operand-loop-joint-init t c = record {
   shorter = c.in_ok-value.ensures.shorter;
 }
 
-pub expression::operand-returns-then-left-eq0-clause-gives : goal.expression::operand-returns-then-left-eq0-clause-gives
-expression::operand-returns-then-left-eq0-clause-gives t c =
-    rw c.unexpected.ensures (λ k vs.
-    ap fault_in (c.loop-joint.invariant.told k vs)
-    ∙ ap (λ n. fault_in (reading c.loop-joint.tokens (tail c.args.level n ∷ k) (of_expression c.loop-joint.value ∷ vs))) c.if-left-eq0.true
-    ∙ joint_stuck c.args.level c.loop-joint.tokens c.in-Some.joint (sym c.joint_at.ensures ∙ c.in-Some.is) k (of_expression c.loop-joint.value ∷ vs))
-
 pub expression::operand-returns-in_err-right-clause-gives : goal.expression::operand-returns-in_err-right-clause-gives
 expression::operand-returns-in_err-right-clause-gives t c =
     let p = err_from_is_err_and c.from_residual-in_err-right.result c.from_residual-in_err-right.ensures.1 in
-    let s : c.skip.new.self ≡ rest_of c.loop-joint.tokens = c.skip.ensures in
-    rw (p.1, p.2) (fails (operand c.args.level ∷ []) [] c.args.tokens.now (operand (c.args.level - 1) ∷ []) [] c.skip.new.self _
-    (λ k vs. (
-      act (joined_by c.in-Some.joint) ∷ tail c.args.level (c.loop-joint.left - 1) ∷ k,
-      of_expression c.loop-joint.value ∷ vs,
-      c.loop-joint.invariant.told k vs
-          ∙ joint_runs c.args.level c.loop-joint.left c.loop-joint.tokens c.in-Some.joint
-          (sym c.joint_at.ensures ∙ c.in-Some.is) c.loop-joint.invariant.big (omega arith) k
-          (of_expression c.loop-joint.value ∷ vs)
-          ∙ ap (λ ts. reading ts (operand (c.args.level - 1) ∷ act (joined_by c.in-Some.joint) ∷ tail c.args.level (c.loop-joint.left - 1) ∷ k) (of_expression c.loop-joint.value ∷ vs)) (sym s),
-    )) c.in_err-right.ensures.gives)
+    rw (p.1, p.2) (joint_fails (operand c.args.level ∷ []) c.args.level c.loop-joint.left (of_expression c.loop-joint.value) c.args.tokens.now c.loop-joint.tokens _
+    c.loop-joint.invariant.told (c.in_err-right.ensures.gives c.in-Some.joint (sym c.joint_at.ensures ∙ c.in-Some.is)))
 
 pub expression::operand-loop-joint-preserved : goal.expression::operand-loop-joint-preserved
-expression::operand-loop-joint-preserved t c =
-    let s : c.skip.new.self ≡ rest_of c.loop-joint.tokens = c.skip.ensures in
-    record {
-      big = c.loop-joint.invariant.big;
-      told = λ k vs.
-          c.loop-joint.invariant.told k vs
-          ∙ joint_runs c.args.level c.loop-joint.left c.loop-joint.tokens c.in-Some.joint
-          (sym c.joint_at.ensures ∙ c.in-Some.is) c.loop-joint.invariant.big (omega arith) k
-          (of_expression c.loop-joint.value ∷ vs)
-          ∙ ap (λ ts. reading ts (operand (c.args.level - 1) ∷ act (joined_by c.in-Some.joint) ∷ tail c.args.level (c.loop-joint.left - 1) ∷ k) (of_expression c.loop-joint.value ∷ vs)) (sym s)
-          ∙ c.in_ok-right.ensures.gives (act (joined_by c.in-Some.joint) ∷ tail c.args.level
-          (c.loop-joint.left - 1) ∷ k) (of_expression c.loop-joint.value ∷ vs)
-          ∙ act_runs (joined_by c.in-Some.joint) c.operand-in-Some.new.tokens
-          (tail c.args.level (c.loop-joint.left - 1) ∷ k)
-          (of_expression c.in_ok-right.right ∷ of_expression c.loop-joint.value ∷ vs)
-          ∙ ap (λ e. reading c.operand-in-Some.new.tokens (tail c.args.level (c.loop-joint.left - 1) ∷ k) (of_expression e ∷ vs)) (sym c.in_ok-value-2.ensures);
-      shorter = omega (
-        arith,
-        c.loop-joint.invariant.shorter,
-        behind_shorter c.loop-joint.tokens,
-        ap (λ (x : Scan). length x.tokens) s,
-        c.in_ok-right.ensures.shorter,
-      );
-    }
+expression::operand-loop-joint-preserved t c = record {
+  big = c.loop-joint.invariant.big;
+  told = λ k vs.
+      c.loop-joint.invariant.told k vs
+      ∙ c.in_ok-right.ensures.gives c.in-Some.joint (sym c.joint_at.ensures ∙ c.in-Some.is) k (of_expression c.loop-joint.value ∷ vs)
+      ∙ act_runs (joined_by c.in-Some.joint) c.behind_joint.new.tokens (tail c.args.level (c.loop-joint.left - 1) ∷ k)
+      (of_expression c.in_ok-right.right ∷ of_expression c.loop-joint.value ∷ vs)
+      ∙ ap (λ e. reading c.behind_joint.new.tokens (tail c.args.level (c.loop-joint.left - 1) ∷ k) (of_expression e ∷ vs)) (sym c.in_ok-value-2.ensures);
+  shorter = omega (arith, c.loop-joint.invariant.shorter, c.in_ok-right.ensures.shorter);
+}
+
+pub expression::behind_joint-returns-then-left-eq0-clause-gives : goal.expression::behind_joint-returns-then-left-eq0-clause-gives
+expression::behind_joint-returns-then-left-eq0-clause-gives t c =
+    rw c.unexpected.ensures (λ j h k vs.
+    ap (λ n. fault_in (reading c.args.tokens.now (tail c.args.level n ∷ k) vs)) c.if-left-eq0.true
+    ∙ joint_stuck c.args.level c.args.tokens.now j h k vs)
+
+pub expression::behind_joint-returns-clause-gives : goal.expression::behind_joint-returns-clause-gives
+expression::behind_joint-returns-clause-gives t c =
+    λ j h. joins j c.args.level c.args.left c.args.tokens.now c.skip.new.self c.operand.new.tokens (operand (c.args.level - 1) ∷ []) c.operand.result
+    (λ k vs.
+    joint_runs c.args.level c.args.left c.args.tokens.now j h c.requires (omega arith) k vs
+    ∙ ap (λ ts. reading ts (operand (c.args.level - 1) ∷ act (joined_by j) ∷ tail c.args.level (c.args.left - 1) ∷ k) vs) (sym c.skip.ensures)) c.operand.ensures.gives
+
+pub expression::behind_joint-returns-clause-more : goal.expression::behind_joint-returns-clause-more
+expression::behind_joint-returns-clause-more t c = on_read c.operand.result (omega arith)
 
 pub expression::prefixed-returns-in_default-clause-gives : goal.expression::prefixed-returns-in_default-clause-gives
 expression::prefixed-returns-in_default-clause-gives t c =
@@ -289,38 +283,22 @@ query::more_tests-loop-alloc-preserved t c =
 
 pub query::delete-returns-clause-gives : goal.query::delete-returns-clause-gives
 query::delete-returns-clause-gives t c = λ k vs.
-    c.in_ok-table.ensures.gives (filtered (act (deleted c.args.at) ∷ k)) vs
-    ∙ c.in_ok-tests.ensures.gives (act (deleted c.args.at) ∷ k) (of_name c.in_ok-table.table ∷ vs)
-    ∙ act_runs (deleted c.args.at) c.filter.new.tokens k (of_tests (map condition_of c.in_ok-tests.tests) ∷ of_name c.in_ok-table.table ∷ vs)
+    c.in_ok-table.ensures.gives (act (deleted c.args.at) ∷ k) vs
+    ∙ act_runs (deleted c.args.at) c.selection.new.tokens k (of_tests (map condition_of c.in_ok-table.tests) ∷ of_name c.in_ok-table.table ∷ vs)
 
 pub query::expect-returns-clause-gives : goal.query::expect-returns-clause-gives
 query::expect-returns-clause-gives t c = λ k vs.
-    let cs = map condition_of c.in_ok-tests.tests in
-    c.in_ok-count.ensures.gives (word w.From ∷ a_name ∷ filtered (act (expected c.args.at) ∷ k)) vs
-    ∙ c.in_ok-take.ensures.gives (a_name ∷ filtered (act (expected c.args.at) ∷ k)) (of_expression c.in_ok-count.count ∷ vs)
-    ∙ c.in_ok-table.ensures.gives (filtered (act (expected c.args.at) ∷ k)) (of_expression c.in_ok-count.count ∷ vs)
-    ∙ c.in_ok-tests.ensures.gives (act (expected c.args.at) ∷ k) (of_name c.in_ok-table.table ∷ of_expression c.in_ok-count.count ∷ vs)
-    ∙ act_runs (expected c.args.at) c.filter.new.tokens k (of_tests cs ∷ of_name c.in_ok-table.table ∷ of_expression c.in_ok-count.count ∷ vs)
-    ∙ ap (λ e. reading c.filter.new.tokens k (of_query (tree.expect c.args.at e c.in_ok-table.table (conditions_of cs)) ∷ vs)) (sym c.in_ok-new.ensures.ok)
-
-pub query::insert-returns-in_err-operand-clause-gives : goal.query::insert-returns-in_err-operand-clause-gives
-query::insert-returns-in_err-operand-clause-gives t c =
-    let p = err_from_is_err_and c.from_residual-in_err-operand.result c.from_residual-in_err-operand.ensures.1 in
-    rw (p.1, p.2) (fails (a_name ∷ word w.Open ∷ act (puts (of_expressions [])) ∷ operand 6 ∷ act adds_expression ∷ more_arguments w.Close ∷ word w.Semicolon ∷ act (inserted c.args.at) ∷ []) [] c.args.tokens.now (operand 6 ∷ []) [] c.take.new.tokens _
-    (λ k vs.
-    let l : List Symbol = act adds_expression ∷ more_arguments w.Close ∷ word w.Semicolon ∷ act (inserted c.args.at) ∷ k in (
-      l,
-      of_expressions [] ∷ of_name c.in_ok-table.table ∷ vs,
-      c.in_ok-table.ensures.gives (word w.Open ∷ act (puts (of_expressions [])) ∷ operand 6 ∷ l) vs
-          ∙ c.in_ok-take.ensures.gives (act (puts (of_expressions [])) ∷ operand 6 ∷ l) (of_name c.in_ok-table.table ∷ vs)
-          ∙ act_runs (puts (of_expressions [])) c.take.new.tokens (operand 6 ∷ l) (of_name c.in_ok-table.table ∷ vs),
-    )) c.in_err-operand.ensures.gives)
+    let cs = map condition_of c.in_ok-table.tests in
+    c.in_ok-count.ensures.gives (a_name ∷ filtered (act (expected c.args.at) ∷ k)) vs
+    ∙ c.in_ok-table.ensures.gives (act (expected c.args.at) ∷ k) (of_expression c.in_ok-count.count ∷ vs)
+    ∙ act_runs (expected c.args.at) c.selection.new.tokens k (of_tests cs ∷ of_name c.in_ok-table.table ∷ of_expression c.in_ok-count.count ∷ vs)
+    ∙ ap (λ q. reading c.selection.new.tokens k (of_query q ∷ vs)) (sym c.in_ok-expected.ensures)
 
 pub query::insert-returns-in_err-row-clause-gives : goal.query::insert-returns-in_err-row-clause-gives
 query::insert-returns-in_err-row-clause-gives t c =
     let p = err_from_is_err_and c.from_residual-in_err-row.result c.from_residual-in_err-row.ensures.1 in
-    let pushed : c.push.new.self ≡ c.in_ok-operand.field-0 ∷ [] = c.in_ok-push.ensures.ok ∙ ap (λ l. l ++ c.in_ok-operand.field-0 ∷ []) c.new-row.ensures in
-    rw (p.1, p.2) (fails (a_name ∷ word w.Open ∷ act (puts (of_expressions [])) ∷ operand 6 ∷ act adds_expression ∷ more_arguments w.Close ∷ word w.Semicolon ∷ act (inserted c.args.at) ∷ []) [] c.args.tokens.now (more_arguments w.Close ∷ []) (of_expressions c.push.new.self ∷ []) c.operand.new.tokens _
+    rw (p.1, p.2) (fails (a_name ∷ word w.Open ∷ act (puts (of_expressions [])) ∷ operand 6 ∷ act adds_expression ∷ more_arguments w.Close ∷ word w.Semicolon ∷ act (inserted c.args.at) ∷ []) [] c.args.tokens.now
+    (operand 6 ∷ act adds_expression ∷ more_arguments w.Close ∷ []) (of_expressions c.new.result ∷ []) c.take.new.tokens _
     (λ k vs.
     let l : List Symbol = word w.Semicolon ∷ act (inserted c.args.at) ∷ k in
     let us : List Val = of_name c.in_ok-table.table ∷ vs in (
@@ -329,16 +307,13 @@ query::insert-returns-in_err-row-clause-gives t c =
       c.in_ok-table.ensures.gives (word w.Open ∷ act (puts (of_expressions [])) ∷ operand 6 ∷ act adds_expression ∷ more_arguments w.Close ∷ l) vs
           ∙ c.in_ok-take.ensures.gives (act (puts (of_expressions [])) ∷ operand 6 ∷ act adds_expression ∷ more_arguments w.Close ∷ l) us
           ∙ act_runs (puts (of_expressions [])) c.take.new.tokens (operand 6 ∷ act adds_expression ∷ more_arguments w.Close ∷ l) us
-          ∙ c.in_ok-operand.ensures.gives (act adds_expression ∷ more_arguments w.Close ∷ l) (of_expressions [] ∷ us)
-          ∙ act_runs adds_expression c.operand.new.tokens (more_arguments w.Close ∷ l) (of_expression c.in_ok-operand.field-0 ∷ of_expressions [] ∷ us)
-          ∙ ap (λ es. reading c.operand.new.tokens (more_arguments w.Close ∷ l) (of_expressions es ∷ us)) (sym pushed),
+          ∙ ap (λ es. reading c.take.new.tokens (operand 6 ∷ act adds_expression ∷ more_arguments w.Close ∷ l) (of_expressions es ∷ us)) (sym c.new.ensures),
     )) c.in_err-row.ensures.gives)
 
 pub query::insert-returns-in_err-take-2-clause-gives : goal.query::insert-returns-in_err-take-2-clause-gives
 query::insert-returns-in_err-take-2-clause-gives t c =
     let p = err_from_is_err_and c.from_residual-in_err-take-2.result c.from_residual-in_err-take-2.ensures.1 in
-    let pushed : c.push.new.self ≡ c.in_ok-operand.field-0 ∷ [] = c.in_ok-push.ensures.ok ∙ ap (λ l. l ++ c.in_ok-operand.field-0 ∷ []) c.new-row.ensures in
-    rw (p.1, p.2) (fails (a_name ∷ word w.Open ∷ act (puts (of_expressions [])) ∷ operand 6 ∷ act adds_expression ∷ more_arguments w.Close ∷ word w.Semicolon ∷ act (inserted c.args.at) ∷ []) [] c.args.tokens.now (word w.Semicolon ∷ []) [] c.more_arguments.new.tokens _
+    rw (p.1, p.2) (fails (a_name ∷ word w.Open ∷ act (puts (of_expressions [])) ∷ operand 6 ∷ act adds_expression ∷ more_arguments w.Close ∷ word w.Semicolon ∷ act (inserted c.args.at) ∷ []) [] c.args.tokens.now (word w.Semicolon ∷ []) [] c.some_arguments.new.tokens _
     (λ k vs.
     let l : List Symbol = word w.Semicolon ∷ act (inserted c.args.at) ∷ k in
     let us : List Val = of_name c.in_ok-table.table ∷ vs in (
@@ -347,84 +322,50 @@ query::insert-returns-in_err-take-2-clause-gives t c =
       c.in_ok-table.ensures.gives (word w.Open ∷ act (puts (of_expressions [])) ∷ operand 6 ∷ act adds_expression ∷ more_arguments w.Close ∷ l) vs
           ∙ c.in_ok-take.ensures.gives (act (puts (of_expressions [])) ∷ operand 6 ∷ act adds_expression ∷ more_arguments w.Close ∷ l) us
           ∙ act_runs (puts (of_expressions [])) c.take.new.tokens (operand 6 ∷ act adds_expression ∷ more_arguments w.Close ∷ l) us
-          ∙ c.in_ok-operand.ensures.gives (act adds_expression ∷ more_arguments w.Close ∷ l) (of_expressions [] ∷ us)
-          ∙ act_runs adds_expression c.operand.new.tokens (more_arguments w.Close ∷ l) (of_expression c.in_ok-operand.field-0 ∷ of_expressions [] ∷ us)
-          ∙ ap (λ es. reading c.operand.new.tokens (more_arguments w.Close ∷ l) (of_expressions es ∷ us)) (sym pushed)
+          ∙ ap (λ es. reading c.take.new.tokens (operand 6 ∷ act adds_expression ∷ more_arguments w.Close ∷ l) (of_expressions es ∷ us)) (sym c.new.ensures)
           ∙ c.in_ok-row.ensures.gives l us,
     )) c.in_err-take-2.ensures.gives)
 
 pub query::insert-returns-clause-gives : goal.query::insert-returns-clause-gives
 query::insert-returns-clause-gives t c = λ k vs.
-    let pushed : c.push.new.self ≡ c.in_ok-operand.field-0 ∷ [] = c.in_ok-push.ensures.ok ∙ ap (λ l. l ++ c.in_ok-operand.field-0 ∷ []) c.new-row.ensures in
     let l : List Symbol = word w.Semicolon ∷ act (inserted c.args.at) ∷ k in
     let us : List Val = of_name c.in_ok-table.table ∷ vs in
     c.in_ok-table.ensures.gives (word w.Open ∷ act (puts (of_expressions [])) ∷ operand 6 ∷ act adds_expression ∷ more_arguments w.Close ∷ l) vs
     ∙ c.in_ok-take.ensures.gives (act (puts (of_expressions [])) ∷ operand 6 ∷ act adds_expression ∷ more_arguments w.Close ∷ l) us
     ∙ act_runs (puts (of_expressions [])) c.take.new.tokens (operand 6 ∷ act adds_expression ∷ more_arguments w.Close ∷ l) us
-    ∙ c.in_ok-operand.ensures.gives (act adds_expression ∷ more_arguments w.Close ∷ l) (of_expressions [] ∷ us)
-    ∙ act_runs adds_expression c.operand.new.tokens (more_arguments w.Close ∷ l) (of_expression c.in_ok-operand.field-0 ∷ of_expressions [] ∷ us)
-    ∙ ap (λ es. reading c.operand.new.tokens (more_arguments w.Close ∷ l) (of_expressions es ∷ us)) (sym pushed)
+    ∙ ap (λ es. reading c.take.new.tokens (operand 6 ∷ act adds_expression ∷ more_arguments w.Close ∷ l) (of_expressions es ∷ us)) (sym c.new.ensures)
     ∙ c.in_ok-row.ensures.gives l us
     ∙ c.in_ok-take-2.ensures.gives (act (inserted c.args.at) ∷ k) (of_expressions c.in_ok-row.row ∷ us)
     ∙ act_runs (inserted c.args.at) c.take-2.new.tokens k (of_expressions c.in_ok-row.row ∷ us)
 
 pub query::select-returns-in_err-columns-clause-gives : goal.query::select-returns-in_err-columns-clause-gives
 query::select-returns-in_err-columns-clause-gives t c =
-    let p = err_from_is_err_and c.from_residual-in_err-columns.result c.from_residual-in_err-columns.ensures.1 in
-    let pushed : c.push.new.self ≡ c.in_ok-name.field-0 ∷ [] = c.in_ok-push.ensures.ok ∙ ap (λ l. l ++ c.in_ok-name.field-0 ∷ []) c.new-columns.ensures in
-    rw (p.1, p.2) (fails (a_name ∷ act adds_name ∷ more_names w.From ∷ a_name ∷ filtered (act (selected c.args.at) ∷ [])) (of_names [] ∷ []) c.args.tokens.now (more_names w.From ∷ []) (of_names c.push.new.self ∷ []) c.name.new.tokens _
+    let p = err_from_is_err_and c.from_residual.result c.from_residual.ensures.1 in
+    rw (p.1, p.2) (fails (a_name ∷ act adds_name ∷ more_names w.From ∷ a_name ∷ filtered (act (selected c.args.at) ∷ [])) (of_names [] ∷ []) c.args.tokens.now (a_name ∷ act adds_name ∷ more_names w.From ∷ []) (of_names c.new.result ∷ []) c.args.tokens.now _
     (λ k vs.
-    let l : List Symbol = a_name ∷ filtered (act (selected c.args.at) ∷ k) in (
-      l,
-      vs,
-      c.in_ok-name.ensures.gives (act adds_name ∷ more_names w.From ∷ l) (of_names [] ∷ vs)
-          ∙ act_runs adds_name c.name.new.tokens (more_names w.From ∷ l) (of_name c.in_ok-name.field-0 ∷ of_names [] ∷ vs)
-          ∙ ap (λ xs. reading c.name.new.tokens (more_names w.From ∷ l) (of_names xs ∷ vs)) (sym pushed),
-    )) c.in_err-columns.ensures.gives)
+    let l : List Symbol = a_name ∷ filtered (act (selected c.args.at) ∷ k) in
+    (l, vs, ap (λ xs. reading c.args.tokens.now (a_name ∷ act adds_name ∷ more_names w.From ∷ l) (of_names xs ∷ vs)) (sym c.new.ensures))) c.in_err-columns.ensures.gives)
 
 pub query::select-returns-in_err-table-clause-gives : goal.query::select-returns-in_err-table-clause-gives
 query::select-returns-in_err-table-clause-gives t c =
     let p = err_from_is_err_and c.from_residual-in_err-table.result c.from_residual-in_err-table.ensures.1 in
-    let pushed : c.push.new.self ≡ c.in_ok-name.field-0 ∷ [] = c.in_ok-push.ensures.ok ∙ ap (λ l. l ++ c.in_ok-name.field-0 ∷ []) c.new-columns.ensures in
-    rw (p.1, p.2) (fails (a_name ∷ act adds_name ∷ more_names w.From ∷ a_name ∷ filtered (act (selected c.args.at) ∷ [])) (of_names [] ∷ []) c.args.tokens.now (a_name ∷ []) [] c.more_names.new.tokens _
-    (λ k vs.
-    let l : List Symbol = a_name ∷ filtered (act (selected c.args.at) ∷ k) in (
-      filtered (act (selected c.args.at) ∷ k),
-      of_names c.in_ok-columns.columns ∷ vs,
-      c.in_ok-name.ensures.gives (act adds_name ∷ more_names w.From ∷ l) (of_names [] ∷ vs)
-          ∙ act_runs adds_name c.name.new.tokens (more_names w.From ∷ l) (of_name c.in_ok-name.field-0 ∷ of_names [] ∷ vs)
-          ∙ ap (λ xs. reading c.name.new.tokens (more_names w.From ∷ l) (of_names xs ∷ vs)) (sym pushed)
-          ∙ c.in_ok-columns.ensures.gives l vs,
-    )) c.in_err-table.ensures.gives)
-
-pub query::select-returns-in_err-tests-clause-gives : goal.query::select-returns-in_err-tests-clause-gives
-query::select-returns-in_err-tests-clause-gives t c =
-    let p = err_from_is_err_and c.from_residual-in_err-tests.result c.from_residual-in_err-tests.ensures.1 in
-    let pushed : c.push.new.self ≡ c.in_ok-name.field-0 ∷ [] = c.in_ok-push.ensures.ok ∙ ap (λ l. l ++ c.in_ok-name.field-0 ∷ []) c.new-columns.ensures in
-    rw (p.1, p.2) (fails (a_name ∷ act adds_name ∷ more_names w.From ∷ a_name ∷ filtered (act (selected c.args.at) ∷ [])) (of_names [] ∷ []) c.args.tokens.now (filtered []) [] c.name-2.new.tokens _
+    rw (p.1, p.2) (fails (a_name ∷ act adds_name ∷ more_names w.From ∷ a_name ∷ filtered (act (selected c.args.at) ∷ [])) (of_names [] ∷ []) c.args.tokens.now (a_name ∷ filtered []) [] c.some_names.new.tokens _
     (λ k vs.
     let l : List Symbol = a_name ∷ filtered (act (selected c.args.at) ∷ k) in (
       act (selected c.args.at) ∷ k,
-      of_name c.in_ok-table.table ∷ of_names c.in_ok-columns.columns ∷ vs,
-      c.in_ok-name.ensures.gives (act adds_name ∷ more_names w.From ∷ l) (of_names [] ∷ vs)
-          ∙ act_runs adds_name c.name.new.tokens (more_names w.From ∷ l) (of_name c.in_ok-name.field-0 ∷ of_names [] ∷ vs)
-          ∙ ap (λ xs. reading c.name.new.tokens (more_names w.From ∷ l) (of_names xs ∷ vs)) (sym pushed)
-          ∙ c.in_ok-columns.ensures.gives l vs
-          ∙ c.in_ok-table.ensures.gives (filtered (act (selected c.args.at) ∷ k)) (of_names c.in_ok-columns.columns ∷ vs),
-    )) c.in_err-tests.ensures.gives)
+      of_names c.in_ok-columns.columns ∷ vs,
+      ap (λ xs. reading c.args.tokens.now (a_name ∷ act adds_name ∷ more_names w.From ∷ l) (of_names xs ∷ vs)) (sym c.new.ensures)
+          ∙ c.in_ok-columns.ensures.gives l vs,
+    )) c.in_err-table.ensures.gives)
 
 pub query::select-returns-clause-gives : goal.query::select-returns-clause-gives
 query::select-returns-clause-gives t c = λ k vs.
-    let pushed : c.push.new.self ≡ c.in_ok-name.field-0 ∷ [] = c.in_ok-push.ensures.ok ∙ ap (λ l. l ++ c.in_ok-name.field-0 ∷ []) c.new-columns.ensures in
     let l : List Symbol = a_name ∷ filtered (act (selected c.args.at) ∷ k) in
-    let us : List Val = of_name c.in_ok-table.table ∷ of_names c.in_ok-columns.columns ∷ vs in
-    c.in_ok-name.ensures.gives (act adds_name ∷ more_names w.From ∷ l) (of_names [] ∷ vs)
-    ∙ act_runs adds_name c.name.new.tokens (more_names w.From ∷ l) (of_name c.in_ok-name.field-0 ∷ of_names [] ∷ vs)
-    ∙ ap (λ xs. reading c.name.new.tokens (more_names w.From ∷ l) (of_names xs ∷ vs)) (sym pushed)
+    ap (λ xs. reading c.args.tokens.now (a_name ∷ act adds_name ∷ more_names w.From ∷ l) (of_names xs ∷ vs)) (sym c.new.ensures)
     ∙ c.in_ok-columns.ensures.gives l vs
-    ∙ c.in_ok-table.ensures.gives (filtered (act (selected c.args.at) ∷ k)) (of_names c.in_ok-columns.columns ∷ vs)
-    ∙ c.in_ok-tests.ensures.gives (act (selected c.args.at) ∷ k) us
-    ∙ act_runs (selected c.args.at) c.filter.new.tokens k (of_tests (map condition_of c.in_ok-tests.tests) ∷ us)
+    ∙ c.in_ok-table.ensures.gives (act (selected c.args.at) ∷ k) (of_names c.in_ok-columns.columns ∷ vs)
+    ∙ act_runs (selected c.args.at) c.selection.new.tokens k
+    (of_tests (map condition_of c.in_ok-table.tests) ∷ of_name c.in_ok-table.table ∷ of_names c.in_ok-columns.columns ∷ vs)
 
 pub query::update-returns-clause-gives : goal.query::update-returns-clause-gives
 query::update-returns-clause-gives t c = λ k vs.

@@ -10,6 +10,15 @@ use Rattle.script_syntax.proofs.+expression.Given as goal
 abbrev pub decreases-expression::operand : goal.decreases-expression::operand
 decreases-expression::operand l = 64 * length l.tokens.now.tokens + 4 + l.level
 
+abbrev pub decreases-expression::behind_joint : goal.decreases-expression::behind_joint
+decreases-expression::behind_joint l = 64 * length l.tokens.now.tokens + 4 + l.level
+
+abbrev pub decreases-expression::place : goal.decreases-expression::place
+decreases-expression::place l = 64 * length l.tokens.now.tokens + 12
+
+abbrev pub decreases-expression::closed : goal.decreases-expression::closed
+decreases-expression::closed l = 64 * length l.tokens.now.tokens + 11
+
 abbrev pub decreases-expression::prefixed : goal.decreases-expression::prefixed
 decreases-expression::prefixed l = 64 * length l.tokens.now.tokens + 3
 
@@ -23,19 +32,22 @@ abbrev pub decreases-expression::named : goal.decreases-expression::named
 decreases-expression::named l = 64 * length l.tokens.now.tokens
 
 abbrev pub decreases-expression::arguments : goal.decreases-expression::arguments
-decreases-expression::arguments l = 64 * length l.tokens.now.tokens + 11
+decreases-expression::arguments l = 64 * length l.tokens.now.tokens + 12
+
+abbrev pub decreases-expression::some_arguments : goal.decreases-expression::some_arguments
+decreases-expression::some_arguments l = 64 * length l.tokens.now.tokens + 11
 
 abbrev pub decreases-expression::more_arguments : goal.decreases-expression::more_arguments
 decreases-expression::more_arguments l = 64 * length l.tokens.now.tokens
 
 abbrev pub decreases-expression::word_atom : goal.decreases-expression::word_atom
-decreases-expression::word_atom l = 64 * length l.tokens.now.tokens + 13
+decreases-expression::word_atom l = 64 * length l.tokens.now.tokens + 14
 
 abbrev pub decreases-expression::bracket : goal.decreases-expression::bracket
 decreases-expression::bracket l = 64 * length l.tokens.now.tokens + 12
 
 abbrev pub decreases-expression::list : goal.decreases-expression::list
-decreases-expression::list l = 64 * length l.tokens.now.tokens + 12
+decreases-expression::list l = 64 * length l.tokens.now.tokens + 13
 
 abbrev pub decreases-query::transact : goal.decreases-query::transact
 decreases-query::transact l = 64 * length l.tokens.now.tokens
@@ -56,10 +68,13 @@ abbrev pub decreases-query::update : goal.decreases-query::update
 decreases-query::update l = 64 * length l.tokens.now.tokens
 
 abbrev pub decreases-query::delete : goal.decreases-query::delete
-decreases-query::delete l = 64 * length l.tokens.now.tokens
+decreases-query::delete l = 64 * length l.tokens.now.tokens + 3
 
 abbrev pub decreases-query::expect : goal.decreases-query::expect
 decreases-query::expect l = 64 * length l.tokens.now.tokens + 12
+
+abbrev pub decreases-query::selection : goal.decreases-query::selection
+decreases-query::selection l = 64 * length l.tokens.now.tokens + 2
 
 abbrev pub decreases-query::filter : goal.decreases-query::filter
 decreases-query::filter l = 64 * length l.tokens.now.tokens + 1

@@ -35,10 +35,9 @@ block-loop-alloc-preserved t c = record {
 
 pub if_statement-returns-clause-gives : goal.if_statement-returns-clause-gives
 if_statement-returns-clause-gives t c = λ k vs.
-    c.in_ok-condition.ensures.gives (block (else_part ∷ act (branched c.args.at) ∷ k)) vs
-    ∙ c.in_ok-body.ensures.gives (else_part ∷ act (branched c.args.at) ∷ k) (of_expression c.in_ok-condition.condition ∷ vs)
-    ∙ c.in_ok-other.ensures.gives (act (branched c.args.at) ∷ k) (of_statements c.in_ok-body.body ∷ of_expression c.in_ok-condition.condition ∷ vs)
-    ∙ act_runs (branched c.args.at) c.otherwise.new.tokens k (of_else (else_of c.in_ok-other.other) ∷ of_statements c.in_ok-body.body ∷ of_expression c.in_ok-condition.condition ∷ vs)
+    c.in_ok-condition.ensures.gives (else_part ∷ act (branched c.args.at) ∷ k) vs
+    ∙ c.in_ok-other.ensures.gives (act (branched c.args.at) ∷ k) (of_statements c.in_ok-condition.body ∷ of_expression c.in_ok-condition.condition ∷ vs)
+    ∙ act_runs (branched c.args.at) c.otherwise.new.tokens k (of_else (else_of c.in_ok-other.other) ∷ of_statements c.in_ok-condition.body ∷ of_expression c.in_ok-condition.condition ∷ vs)
 
 pub otherwise-returns-clause-gives : goal.otherwise-returns-clause-gives
 otherwise-returns-clause-gives t c = λ k vs.
@@ -50,18 +49,16 @@ otherwise-returns-clause-gives t c = λ k vs.
 
 pub while_statement-returns-clause-gives : goal.while_statement-returns-clause-gives
 while_statement-returns-clause-gives t c = λ k vs.
-    c.in_ok-condition.ensures.gives (block (act (repeated c.args.at) ∷ k)) vs
-    ∙ c.in_ok-body.ensures.gives (act (repeated c.args.at) ∷ k) (of_expression c.in_ok-condition.condition ∷ vs)
-    ∙ act_runs (repeated c.args.at) c.block.new.tokens k (of_statements c.in_ok-body.body ∷ of_expression c.in_ok-condition.condition ∷ vs)
+    c.in_ok-condition.ensures.gives (act (repeated c.args.at) ∷ k) vs
+    ∙ act_runs (repeated c.args.at) c.headed.new.tokens k (of_statements c.in_ok-condition.body ∷ of_expression c.in_ok-condition.condition ∷ vs)
 
 pub for_statement-returns-clause-gives : goal.for_statement-returns-clause-gives
 for_statement-returns-clause-gives t c = λ k vs.
     c.in_ok-name.ensures.gives (word w.In ∷ operand 6 ∷ block (act (turned c.args.at) ∷ k)) vs
     ∙ c.in_ok-take.ensures.gives (operand 6 ∷ block (act (turned c.args.at) ∷ k)) (of_name c.in_ok-name.name ∷ vs)
-    ∙ c.in_ok-members.ensures.gives (block (act (turned c.args.at) ∷ k)) (of_name c.in_ok-name.name ∷ vs)
-    ∙ c.in_ok-body.ensures.gives (act (turned c.args.at) ∷ k) (of_expression c.in_ok-members.members ∷ of_name c.in_ok-name.name ∷ vs)
-    ∙ act_runs (turned c.args.at) c.block.new.tokens k
-    (of_statements c.in_ok-body.body ∷ of_expression c.in_ok-members.members ∷ of_name c.in_ok-name.name ∷ vs)
+    ∙ c.in_ok-members.ensures.gives (act (turned c.args.at) ∷ k) (of_name c.in_ok-name.name ∷ vs)
+    ∙ act_runs (turned c.args.at) c.headed.new.tokens k
+    (of_statements c.in_ok-members.body ∷ of_expression c.in_ok-members.members ∷ of_name c.in_ok-name.name ∷ vs)
 
 pub statement_of-returns-in-Let-clause-gives : goal.statement_of-returns-in-Let-clause-gives
 statement_of-returns-in-Let-clause-gives t c =

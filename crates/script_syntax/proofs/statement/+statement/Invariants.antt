@@ -6,6 +6,9 @@ use Rattle.script_syntax.proofs.statement.+statement.Given as goal
 abbrev pub decreases-block : goal.decreases-block
 decreases-block l = 4 * length l.tokens.now.tokens
 
+abbrev pub decreases-headed : goal.decreases-headed
+decreases-headed l = 4 * length l.tokens.now.tokens
+
 abbrev pub decreases-statement : goal.decreases-statement
 decreases-statement l = 4 * length l.tokens.now.tokens
 

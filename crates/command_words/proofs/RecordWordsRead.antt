@@ -5,29 +5,14 @@ use Rattle.std.proofs.lemmas.Fmt.{decimal_is_IsNumeral, parse-decimal}
 use Rattle.std.proofs.lemmas.Slice.Eq.{bytes_eq-Decides}
 use Rattle.std.specs.Fmt.{decimal}
 use Rattle.std.specs.Prelude.{nat_lt}
-use Rattle.std.specs.Borrow.{Bor}
 use Rattle.std.specs.Str.{bytes_eq}
 use Rattle.std.specs.Str.Parse.{ParsesUnsigned, digits_value}
 use Rattle.basis.specs.Options.{◌>>=◌}
 use Rattle.clap.specs.Faults.{fault_of}
-use Rattle.clap.specs.Simple.{matches_of, new_rule}
-use Rattle.clap.specs.Walk.{Rule, first_of, is_empty, rule_of}
-use Rattle.clap.specs.declared.builder.arg.Arg.{Arg}
+use Rattle.clap.specs.Simple.{matches_of}
+use Rattle.clap.specs.Walk.{first_of, is_empty}
 use Rattle.command_words.specs.RecordWords.{RecordWords, if_sound, is_sound, number_of, number_or, record_app, record_words, taken_words, words_in}
-use Rattle.command_words.specs.WordsApp.{name_rule, option_rule, taken}
-
--- ---- arguments
-
-pub name_argument : (plain a : Arg) (id : List ℕ) → rule_of plain ≡ new_rule id → a ≡ record plain { required = true } → rule_of a ≡ name_rule id
-name_argument plain a id new is = ap rule_of is ∙ ap (λ (r : Rule). record r { required = true }) new
-
-pub option_argument : (plain a : Arg) (id : List ℕ) (name : Bor (List ℕ)) → name.now ≡ id → rule_of plain ≡ new_rule id
-    → a ≡ record plain { long = Some name } → rule_of a ≡ option_rule id
-option_argument plain a id name long new is =
-    ap rule_of is ∙ ap (λ (r : Rule). record r { long = Some name.now }) new ∙ ap (λ l. record (new_rule id) { long = Some l }) long
-
-pub name_local : (plain a : Arg) → a ≡ record plain { required = true } → plain.global ≡ false → a.global ≡ false
-name_local plain a is none = ap (λ (b : Arg). b.global) is ∙ none
+use Rattle.command_words.specs.WordsApp.{taken}
 
 -- ---- numbers
 

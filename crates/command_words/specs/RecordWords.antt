@@ -59,6 +59,13 @@ is_sound w = not (bytes_eq w.trace w.report) && are_workers w.workers
 abbrev pub if_sound : RecordWords → Option RecordWords
 if_sound w = if is_sound w then Some w else None
 
+-- the numbers, where the trace and the report have different names, and there may be so many workers
+abbrev pub sound_numbers : List ℕ → List ℕ → Option ℕ → Option ℕ → Option (ℕ × ℕ)
+sound_numbers trace report workers seed = do
+  count ← workers
+  number ← seed
+  if not (bytes_eq trace report) && are_workers count then Some (count, number) else None
+
 -- what the words say whose names and options have these values, with these numbers
 abbrev pub words_of : (List ℕ → Option (List ℕ)) → Option ℕ → Option ℕ → Option RecordWords
 words_of value workers seed = do

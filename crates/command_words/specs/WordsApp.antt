@@ -7,6 +7,8 @@ use Rattle.clap.specs.declared.parser.matches.Found.{Found}
 use Rattle.clap.specs.Simple.{App, matches_of, new_app, new_rule, on_top, with_rule}
 use Rattle.basis.specs.Options.{◌>>=◌}
 use Rattle.command_words.specs.Words.{ReplayNames}
+use Rattle.command_words.specs.declared.arguments.Argument.{Argument}
+use Rattle.command_words.specs.declared.arguments.Argument.TheVariants.{Optional, Required}
 
 -- a name that has to be there
 abbrev pub name_rule : List ℕ → Rule
@@ -15,6 +17,19 @@ name_rule id = record (new_rule id) { required = true }
 -- an option that takes a value
 abbrev pub option_rule : List ℕ → Rule
 option_rule id = record (new_rule id) { long = Some id }
+
+-- a simple command that is its words alone, of which none is asked for yet
+abbrev pub bare_app : List ℕ → App
+bare_app name = on_top (λ s. record s { no_binary_name = true }) (new_app name)
+
+-- how an argument is read
+abbrev pub argument_rule : Argument → Rule
+argument_rule (Required name) = name_rule name.now
+argument_rule (Optional name) = option_rule name.now
+
+-- a simple command with one argument more
+abbrev pub with_argument : App → Argument → App
+with_argument app argument = with_rule app (argument_rule argument)
 
 -- what is said of the values of names and options, where the simple command takes the words
 unfoldable pub taken : {X : Type 0} → App → ((List ℕ → Option (List ℕ)) → Option X) → List (List ℕ) → Option X

@@ -4,10 +4,10 @@ ghost use Rattle.clap.specs.Simple.{app_of};
 ghost use Rattle.command_words.specs.AuditWords.{audit_app, taken_words, words_in, words_of};
 ghost use Rattle.command_words.specs.NamesView.{audit_words_of};
 
+use crate::arguments::{Argument, refused, simple_command};
 use crate::record_words::{number_or, workers_of};
 use claims::Workers;
-use clap::error::ErrorKind;
-use clap::{Arg, ArgMatches, Command};
+use clap::{ArgMatches, Command};
 use std::alloc::{AllocError, Global};
 
 /// What `audit` is asked: the names of its inputs and of the schedule that it writes, and how many
@@ -32,10 +32,7 @@ pub(crate) fn taken_words(
 {
     match audit_command(alloc)?.try_get_matches_from(words) {
         Ok(matches) => found_words(alloc, &matches),
-        Err(error) => match error.kind() {
-            ErrorKind::OutOfMemory => Err(AllocError),
-            _ => Ok(None),
-        },
+        Err(error) => refused(error),
     }
 }
 
@@ -70,12 +67,16 @@ fn sound_words<'a>(matches: &ArgMatches<'a>, workers: Option<u64>) -> Option<Aud
 fn audit_command<'a>(alloc: Global) -> Result<Command<'a>, AllocError>
     ensures { IfOk result (λ command. app_of command ≡ audit_app) }
 {
-    Command::new(alloc, "audit")
-        .no_binary_name(true)
-        .arg(Arg::new(alloc, "program").required(true))?
-        .arg(Arg::new(alloc, "state").required(true))?
-        .arg(Arg::new(alloc, "trace").required(true))?
-        .arg(Arg::new(alloc, "report").required(true))?
-        .arg(Arg::new(alloc, "schedule").required(true))?
-        .arg(Arg::new(alloc, "workers").long("workers"))
+    simple_command(
+        alloc,
+        "audit",
+        &[
+            Argument::Required("program"),
+            Argument::Required("state"),
+            Argument::Required("trace"),
+            Argument::Required("report"),
+            Argument::Required("schedule"),
+            Argument::Optional("workers"),
+        ],
+    )
 }

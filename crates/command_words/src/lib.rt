@@ -1,6 +1,7 @@
 //! The words of a command line, and what they ask for: docs/formats.md, "Commands".
 #![tactic(auto)]
 
+mod arguments;
 mod audit_words;
 mod record_words;
 mod words;

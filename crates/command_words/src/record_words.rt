@@ -1,12 +1,12 @@
 ghost use Rattle.std.specs.Prelude.{◌≡◌, ◌∷◌, [], map, option_map, IfOk, Some, None, if◌then◌else◌, string_bytes};
 ghost use Rattle.clap.specs.Matches.{first_value, found_of};
 ghost use Rattle.clap.specs.Simple.{app_of};
-ghost use Rattle.command_words.specs.RecordWords.{are_workers, number_of, number_or, record_app, taken_words, words_in, words_of};
+ghost use Rattle.command_words.specs.RecordWords.{are_workers, number_of, number_or, record_app, sound_numbers, taken_words, words_in, words_of};
 ghost use Rattle.command_words.specs.NamesView.{record_words_of};
 
+use crate::arguments::{Argument, refused, simple_command};
 use claims::Workers;
-use clap::error::ErrorKind;
-use clap::{Arg, ArgMatches, Command};
+use clap::{ArgMatches, Command};
 use std::alloc::{AllocError, Global};
 
 /// What `record` is asked: the names of its files, with that of the turns where there is one, how
@@ -33,10 +33,7 @@ pub(crate) fn taken_words(
 {
     match record_command(alloc)?.try_get_matches_from(words) {
         Ok(matches) => found_words(alloc, &matches),
-        Err(error) => match error.kind() {
-            ErrorKind::OutOfMemory => Err(AllocError),
-            _ => Ok(None),
-        },
+        Err(error) => refused(error),
     }
 }
 
@@ -62,20 +59,39 @@ fn sound_words<'a>(
     ensures { let value = first_value (found_of matches.now) in
         option_map record_words_of result ≡ words_of value workers seed }
 {
-    let words = RecordWords {
-        program: matches.get_str("program")?,
-        state: matches.get_str("state")?,
-        requests: matches.get_str("requests")?,
-        trace: matches.get_str("trace")?,
-        report: matches.get_str("report")?,
+    let program = matches.get_str("program")?;
+    let state = matches.get_str("state")?;
+    let requests = matches.get_str("requests")?;
+    let trace = matches.get_str("trace")?;
+    let report = matches.get_str("report")?;
+    let (workers, seed) = sound_numbers(trace, report, workers, seed)?;
+    Some(RecordWords {
+        program,
+        state,
+        requests,
+        trace,
+        report,
         turns: matches.get_str("turns"),
-        workers: workers_of(workers?)?,
-        seed: seed?,
-    };
-    if words.trace == words.report {
+        workers,
+        seed,
+    })
+}
+
+/// The numbers, where they are in their range and these names are of two files.
+fn sound_numbers(
+    trace: &str,
+    report: &str,
+    workers: Option<u64>,
+    seed: Option<u64>,
+) -> Option<(Workers, u64)>
+    ensures { result ≡ sound_numbers trace.now report.now workers seed }
+{
+    let workers = workers_of(workers?)?;
+    let seed = seed?;
+    if trace == report {
         None
     } else {
-        Some(words)
+        Some((workers, seed))
     }
 }
 
@@ -122,14 +138,18 @@ fn number_of(alloc: Global, text: &str) -> Result<Option<u64>, AllocError>
 fn record_command<'a>(alloc: Global) -> Result<Command<'a>, AllocError>
     ensures { IfOk result (λ command. app_of command ≡ record_app) }
 {
-    Command::new(alloc, "record")
-        .no_binary_name(true)
-        .arg(Arg::new(alloc, "program").required(true))?
-        .arg(Arg::new(alloc, "state").required(true))?
-        .arg(Arg::new(alloc, "requests").required(true))?
-        .arg(Arg::new(alloc, "trace").required(true))?
-        .arg(Arg::new(alloc, "report").required(true))?
-        .arg(Arg::new(alloc, "workers").long("workers"))?
-        .arg(Arg::new(alloc, "turns").long("turns"))?
-        .arg(Arg::new(alloc, "seed").long("seed"))
+    simple_command(
+        alloc,
+        "record",
+        &[
+            Argument::Required("program"),
+            Argument::Required("state"),
+            Argument::Required("requests"),
+            Argument::Required("trace"),
+            Argument::Required("report"),
+            Argument::Optional("workers"),
+            Argument::Optional("turns"),
+            Argument::Optional("seed"),
+        ],
+    )
 }

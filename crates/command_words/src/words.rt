@@ -6,10 +6,10 @@ ghost use Rattle.command_words.specs.Words.{in_four, in_one, is_option, names_in
 ghost use Rattle.command_words.specs.WordsApp.{found_names, replay_app};
 ghost use Rattle.command_words.specs.NamesView.{audit_words_of, names_of, record_words_of};
 
+use crate::arguments::{Argument, refused, simple_command};
 use crate::audit_words::{self, AuditWords};
 use crate::record_words::{RecordWords, taken_words};
-use clap::error::ErrorKind;
-use clap::{Arg, ArgMatches, Command};
+use clap::{ArgMatches, Command};
 use std::alloc::{AllocError, Global};
 use std::env::Args;
 use std::marker::Model;
@@ -171,10 +171,7 @@ fn four_names(alloc: Global, words: &[String]) -> Result<Option<ReplayNames<'_>>
 {
     match replay_command(alloc)?.try_get_matches_from(words) {
         Ok(matches) => Ok(found_names(&matches)),
-        Err(error) => match error.kind() {
-            ErrorKind::OutOfMemory => Err(AllocError),
-            _ => Ok(None),
-        },
+        Err(error) => refused(error),
     }
 }
 
@@ -193,10 +190,14 @@ fn found_names<'a>(matches: &ArgMatches<'a>) -> Option<ReplayNames<'a>>
 fn replay_command<'a>(alloc: Global) -> Result<Command<'a>, AllocError>
     ensures { IfOk result (λ command. app_of command ≡ replay_app) }
 {
-    Command::new(alloc, "replay")
-        .no_binary_name(true)
-        .arg(Arg::new(alloc, "program").required(true))?
-        .arg(Arg::new(alloc, "state").required(true))?
-        .arg(Arg::new(alloc, "trace").required(true))?
-        .arg(Arg::new(alloc, "schedule").required(true))
+    simple_command(
+        alloc,
+        "replay",
+        &[
+            Argument::Required("program"),
+            Argument::Required("state"),
+            Argument::Required("trace"),
+            Argument::Required("schedule"),
+        ],
+    )
 }

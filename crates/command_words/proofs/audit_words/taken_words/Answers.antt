@@ -1,4 +1,5 @@
 use Rattle.std.proofs.Common.{◌≡◌, ◌∙◌, map, option_map, string_bytes, refl, ap}
+use Rattle.std.proofs.lemmas.Result.{IfOk-weaker}
 use Rattle.clap.specs.Faults.{is_simple_and_free}
 use Rattle.clap.specs.Matches.{first_value, found_of}
 use Rattle.command_words.specs.NamesView.{audit_words_of}
@@ -16,9 +17,9 @@ returns-in-Ok c =
     (c.in-Ok.ensures.kinds (ap is_simple_and_free is ∙ refl)) c.in-Ok.ensures.matches in
     takes_found (option_map audit_words_of) c.found_words.result (words_in value) (taken_words words) taken c.found_words.ensures
 
-pub returns : goal.returns
-returns c =
+pub returns-in-Err : goal.returns-in-Err
+returns-in-Err c =
     let is = c.in_ok-audit_command.ensures in
-    refuses_words audit_app words_in _ c.args.words.now c.in-Err.error is
-    (c.in-Err.ensures.kinds (ap is_simple_and_free is ∙ refl))
-    (λ out. c.in_default.not-OutOfMemory (c.kind.ensures ∙ out))
+    let kinds = c.in-Err.ensures.kinds (ap is_simple_and_free is ∙ refl) in
+    IfOk-weaker c.refused.result _ _ (λ found h.
+    ap (option_map audit_words_of) h.0 ∙ refuses_words audit_app words_in _ c.args.words.now c.in-Err.error is kinds h.1) c.refused.ensures

@@ -1,5 +1,6 @@
 pub mod ActFields
 pub mod Limits
+pub mod Lists
 pub mod ObjectFields
 pub mod ReadAgain
 pub mod RecordFields

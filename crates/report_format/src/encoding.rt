@@ -1,11 +1,13 @@
-ghost use Rattle.std.specs.Prelude.{◌≡◌, ◌<◌, ◌++◌, ◌^◌, length, IfOk, OnOk};
+ghost use Rattle.std.specs.Prelude.{◌≡◌, ◌<◌, ◌++◌, ◌^◌, length, map, IfOk, OnOk};
 ghost use Rattle.wire.specs.Files.{LeavesRoom};
+ghost use Rattle.report_format.specs.Parts.{AllAllowed};
 ghost use Rattle.report_format.specs.Reports.{report_format, records_of, IsSpellable, EncodesReport, IsReadAgain};
 ghost use Rattle.report_format.specs.Reports.{count_field, log_field, group_field};
 ghost use Rattle.report_format.specs.declared.format.ReportRecord.TheVariants as it;
 
 use crate::fields::FieldKind;
 use crate::format::{COUNT_TAG, GROUP_TAG, LOG_TAG, ReportRecords};
+use crate::parts::write_one;
 use crate::records::{CountField, GroupField, LogField};
 use basis::{Items, OrMemory};
 use period::group::Group;
@@ -16,7 +18,6 @@ use wire::fault::PastLimit;
 use wire::file::write_file_within;
 use wire::limits::MOST_FILE_BYTES;
 use wire::record::{RecordFormat, RecordWriter};
-use wire::writing::write_u8;
 
 /// A record that is lent, and may be spelled. Contracts see the record.
 #[derive(Drop)]
@@ -108,18 +109,9 @@ impl<'a> RecordWriter for LentRecords<'a> {
         ensures { OnOk result (out.new.items ≡ out.old.items ++ report_format.payload lent.now) }
     {
         match &lent.part {
-            Part::Count(count) => {
-                write_u8(out, COUNT_TAG)?;
-                CountField::write(out, count)
-            }
-            Part::Log(log) => {
-                write_u8(out, LOG_TAG)?;
-                LogField::write(out, log)
-            }
-            Part::Group(group) => {
-                write_u8(out, GROUP_TAG)?;
-                GroupField::write(out, group)
-            }
+            Part::Count(count) => write_one::<CountField>(out, COUNT_TAG, count),
+            Part::Log(log) => write_one::<LogField>(out, LOG_TAG, log),
+            Part::Group(group) => write_one::<GroupField>(out, GROUP_TAG, group),
         }
     }
 }
@@ -130,16 +122,43 @@ fn lent_records(alloc: Global, report: &Report) -> Result<Items<LentRecord<'_>>,
     ensures { IfOk result (λ records. records ≡ records_of report.now) }
 {
     let mut records = Vec::new(alloc);
-    for count in report.counts.as_slice() {
+    lend_counts(&mut records, report.counts.as_slice())?;
+    lend_logs(&mut records, report.logs.as_slice())?;
+    lend_groups(&mut records, report.groups.as_slice())?;
+    Ok(Items::from_vec(records))
+}
+
+/// Adds the counts of a report.
+fn lend_counts<'a>(records: &mut Vec<LentRecord<'a>>, counts: &'a [Count]) -> Result<(), AllocError>
+    requires { AllAllowed count_field counts.now }
+    ensures { OnOk result (records.new.items ≡ records.old.items ++ map it.Count counts.now) }
+{
+    for count in counts {
         records.push(LentRecord::count(count))?;
     }
-    for log in report.logs.as_slice() {
+    Ok(())
+}
+
+/// Adds its logs.
+fn lend_logs<'a>(records: &mut Vec<LentRecord<'a>>, logs: &'a [Log]) -> Result<(), AllocError>
+    requires { AllAllowed log_field logs.now }
+    ensures { OnOk result (records.new.items ≡ records.old.items ++ map it.Log logs.now) }
+{
+    for log in logs {
         records.push(LentRecord::log(log))?;
     }
-    for group in report.groups.as_slice() {
+    Ok(())
+}
+
+/// Adds its groups.
+fn lend_groups<'a>(records: &mut Vec<LentRecord<'a>>, groups: &'a [Group]) -> Result<(), AllocError>
+    requires { AllAllowed group_field groups.now }
+    ensures { OnOk result (records.new.items ≡ records.old.items ++ map it.Group groups.now) }
+{
+    for group in groups {
         records.push(LentRecord::group(group))?;
     }
-    Ok(Items::from_vec(records))
+    Ok(())
 }
 
 /// The file that spells the report, or the first record that would end past the limit of a file.

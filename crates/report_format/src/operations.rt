@@ -1,10 +1,14 @@
 //! Fields of operations: objects, acts, and the statements of transactions.
-ghost use Rattle.std.specs.Prelude.{◌≡◌, ◌++◌, ◌<◌, ◌^◌, length, OnOk};
+ghost use Rattle.std.specs.Prelude.{◌≡◌, ◌∷◌, ◌++◌, ◌<◌, ◌^◌, length, OnOk};
 ghost use Rattle.wire.specs.Files.{LeavesRoom};
 ghost use Rattle.wire.specs.Spellings.{TakesPart};
+ghost use Rattle.report_format.specs.Operations.{insert_field};
 
 use crate::fields::{ComparisonField, FieldKind, I64Field, TextField, U32Field, ValueField};
-use crate::parts::{List, Pair, room_behind_list, write_list};
+use crate::parts::{
+    List, Pair, room_behind_list, room_behind_three, room_behind_two, write_list, write_one,
+    write_three, write_two,
+};
 use basis::OrMemory;
 use script_tree::operation::{Act, Object};
 use script_tree::transaction::{Change, Statement, Test};
@@ -169,88 +173,72 @@ impl FieldKind for StatementField {
     fn room_behind(room: usize, statement: &Statement) -> Option<usize> {
         let left = room.checked_sub(1)?;
         match statement {
-            Statement::Insert { table, row } => {
-                let left = U32Field::room_behind(left, table)?;
-                room_behind_list::<ValueField>(left, row.as_slice())
-            }
+            Statement::Insert { table, row } => room_behind_insert(left, table, row),
             Statement::Select {
                 table,
                 columns,
                 tests,
-            } => {
-                let left = U32Field::room_behind(left, table)?;
-                let left = List::<U32Field>::room_behind(left, columns)?;
-                Tests::room_behind(left, tests)
-            }
+            } => room_behind_three::<U32Field, List<U32Field>, Tests>(left, table, columns, tests),
             Statement::Update {
                 table,
                 changes,
                 tests,
             } => {
-                let left = U32Field::room_behind(left, table)?;
-                let left = List::<ChangeField>::room_behind(left, changes)?;
-                Tests::room_behind(left, tests)
+                room_behind_three::<U32Field, List<ChangeField>, Tests>(left, table, changes, tests)
             }
             Statement::Delete { table, tests } => {
-                let left = U32Field::room_behind(left, table)?;
-                Tests::room_behind(left, tests)
+                room_behind_two::<U32Field, Tests>(left, table, tests)
             }
             Statement::Expect {
                 count,
                 table,
                 tests,
-            } => {
-                let left = I64Field::room_behind(left, count)?;
-                let left = U32Field::room_behind(left, table)?;
-                Tests::room_behind(left, tests)
-            }
+            } => room_behind_three::<I64Field, U32Field, Tests>(left, count, table, tests),
         }
     }
 
     fn write(out: &mut Vec<u8>, statement: &Statement) -> Result<(), AllocError> {
         match statement {
-            Statement::Insert { table, row } => {
-                write_u8(out, 1)?;
-                U32Field::write(out, table)?;
-                write_list::<ValueField>(out, row.as_slice())
-            }
+            Statement::Insert { table, row } => write_insert(out, table, row),
             Statement::Select {
                 table,
                 columns,
                 tests,
-            } => {
-                write_u8(out, 2)?;
-                U32Field::write(out, table)?;
-                List::<U32Field>::write(out, columns)?;
-                Tests::write(out, tests)
-            }
+            } => write_three::<U32Field, List<U32Field>, Tests>(out, 2, table, columns, tests),
             Statement::Update {
                 table,
                 changes,
                 tests,
-            } => {
-                write_u8(out, 3)?;
-                U32Field::write(out, table)?;
-                List::<ChangeField>::write(out, changes)?;
-                Tests::write(out, tests)
-            }
+            } => write_three::<U32Field, List<ChangeField>, Tests>(out, 3, table, changes, tests),
             Statement::Delete { table, tests } => {
-                write_u8(out, 4)?;
-                U32Field::write(out, table)?;
-                Tests::write(out, tests)
+                write_two::<U32Field, Tests>(out, 4, table, tests)
             }
             Statement::Expect {
                 count,
                 table,
                 tests,
-            } => {
-                write_u8(out, 5)?;
-                I64Field::write(out, count)?;
-                U32Field::write(out, table)?;
-                Tests::write(out, tests)
-            }
+            } => write_three::<I64Field, U32Field, Tests>(out, 5, count, table, tests),
         }
     }
+}
+
+/// What is left of so much room behind an insertion's table and row.
+fn room_behind_insert(room: usize, table: &u32, row: &Values) -> Option<usize>
+    ensures { LeavesRoom room (insert_field.spelling (table.now, row.now)) result }
+{
+    let left = U32Field::room_behind(room, table)?;
+    room_behind_list::<ValueField>(left, row.as_slice())
+}
+
+/// Writes the tag of an insertion, its table and its row.
+fn write_insert(out: &mut Vec<u8>, table: &u32, row: &Values) -> Result<(), AllocError>
+    requires { insert_field.allows (table.now, row.now) }
+    ensures { OnOk result
+        (out.new.items ≡ out.old.items ++ 1 ∷ insert_field.spelling (table.now, row.now)) }
+{
+    write_u8(out, 1)?;
+    U32Field::write(out, table)?;
+    write_list::<ValueField>(out, row.as_slice())
 }
 
 pub(crate) struct ObjectField;
@@ -297,14 +285,8 @@ impl FieldKind for ObjectField {
 
     fn write(out: &mut Vec<u8>, object: &Object) -> Result<(), AllocError> {
         match object {
-            Object::Register(name) => {
-                write_u8(out, 1)?;
-                TextField::write(out, name)
-            }
-            Object::Store(name) => {
-                write_u8(out, 2)?;
-                TextField::write(out, name)
-            }
+            Object::Register(name) => write_one::<TextField>(out, 1, name),
+            Object::Store(name) => write_one::<TextField>(out, 2, name),
             Object::Tables => write_u8(out, 3),
             Object::Clock => write_u8(out, 4),
             Object::Dice => write_u8(out, 5),
@@ -363,10 +345,7 @@ impl FieldKind for ActField {
             Act::Read | Act::Now => Some(left),
             Act::Write(value) => ValueField::room_behind(left, value),
             Act::Get(key) | Act::Remove(key) => TextField::room_behind(left, key),
-            Act::Put(key, value) => {
-                let left = TextField::room_behind(left, key)?;
-                ValueField::room_behind(left, value)
-            }
+            Act::Put(key, value) => room_behind_two::<TextField, ValueField>(left, key, value),
             Act::Transact(statements) => List::<StatementField>::room_behind(left, statements),
             Act::Roll(bound) => I64Field::room_behind(left, bound),
         }
@@ -375,32 +354,13 @@ impl FieldKind for ActField {
     fn write(out: &mut Vec<u8>, act: &Act) -> Result<(), AllocError> {
         match act {
             Act::Read => write_u8(out, 1),
-            Act::Write(value) => {
-                write_u8(out, 2)?;
-                ValueField::write(out, value)
-            }
-            Act::Get(key) => {
-                write_u8(out, 3)?;
-                TextField::write(out, key)
-            }
-            Act::Put(key, value) => {
-                write_u8(out, 4)?;
-                TextField::write(out, key)?;
-                ValueField::write(out, value)
-            }
-            Act::Remove(key) => {
-                write_u8(out, 5)?;
-                TextField::write(out, key)
-            }
-            Act::Transact(statements) => {
-                write_u8(out, 6)?;
-                List::<StatementField>::write(out, statements)
-            }
+            Act::Write(value) => write_one::<ValueField>(out, 2, value),
+            Act::Get(key) => write_one::<TextField>(out, 3, key),
+            Act::Put(key, value) => write_two::<TextField, ValueField>(out, 4, key, value),
+            Act::Remove(key) => write_one::<TextField>(out, 5, key),
+            Act::Transact(statements) => write_one::<List<StatementField>>(out, 6, statements),
             Act::Now => write_u8(out, 7),
-            Act::Roll(bound) => {
-                write_u8(out, 8)?;
-                I64Field::write(out, bound)
-            }
+            Act::Roll(bound) => write_one::<I64Field>(out, 8, bound),
         }
     }
 }

@@ -1,7 +1,7 @@
-ghost use Rattle.std.specs.Prelude.{◌≡◌, ◌++◌, ◌<◌, ◌^◌, length, OnOk};
+ghost use Rattle.std.specs.Prelude.{◌≡◌, ◌∷◌, ◌++◌, ◌<◌, ◌^◌, length, OnOk};
 ghost use Rattle.wire.specs.Files.{LeavesRoom};
 ghost use Rattle.wire.specs.Spellings.{TakesPart};
-ghost use Rattle.report_format.specs.Parts.{list_field, row_field};
+ghost use Rattle.report_format.specs.Parts.{both, list_field, row_field};
 ghost use Rattle.report_format.specs.RowLaws.{list_one};
 ghost use Rattle.report_format.specs.PairLaws.{both_one};
 
@@ -11,7 +11,7 @@ use std::alloc::{AllocError, Global};
 use std::marker::PhantomData;
 use wire::fault::Unreadable;
 use wire::field::read_u32;
-use wire::writing::write_u32;
+use wire::writing::{write_u8, write_u32};
 
 /// For how many fields of a row there is room before one is read: a file at fault may count more
 /// than it has.
@@ -24,8 +24,6 @@ pub(crate) struct Pair<F, G> {
 }
 
 impl<F: FieldKind, G: FieldKind> FieldKind for Pair<F, G> {
-    ghost use Rattle.report_format.specs.Parts.{both};
-
     type Item = (F::Item, G::Item);
 
     ghost field = { both F.field G.field };
@@ -110,6 +108,80 @@ pub(crate) fn write_list<F: FieldKind>(
         F::write(out, item)?;
     }
     Ok(())
+}
+
+/// What is left of so much room behind two fields.
+pub(crate) fn room_behind_two<F: FieldKind, G: FieldKind>(
+    room: usize,
+    first: &F::Item,
+    second: &G::Item,
+) -> Option<usize>
+    ensures { LeavesRoom room ((both F.field G.field).spelling (first.now, second.now)) result }
+{
+    let left = F::room_behind(room, first)?;
+    G::room_behind(left, second)
+}
+
+/// What is left of it behind three.
+pub(crate) fn room_behind_three<F: FieldKind, G: FieldKind, H: FieldKind>(
+    room: usize,
+    first: &F::Item,
+    second: &G::Item,
+    third: &H::Item,
+) -> Option<usize>
+    ensures { LeavesRoom room
+        ((both F.field (both G.field H.field)).spelling (first.now, (second.now, third.now)))
+        result }
+{
+    let left = F::room_behind(room, first)?;
+    room_behind_two::<G, H>(left, second, third)
+}
+
+/// Writes a tag and a field.
+pub(crate) fn write_one<F: FieldKind>(
+    out: &mut Vec<u8>,
+    tag: u8,
+    item: &F::Item,
+) -> Result<(), AllocError>
+    requires { F.field.allows item.now }
+    ensures { OnOk result
+        (out.new.items ≡ out.old.items ++ tag ∷ F.field.spelling item.now) }
+{
+    write_u8(out, tag)?;
+    F::write(out, item)
+}
+
+/// Writes a tag and two fields.
+pub(crate) fn write_two<F: FieldKind, G: FieldKind>(
+    out: &mut Vec<u8>,
+    tag: u8,
+    first: &F::Item,
+    second: &G::Item,
+) -> Result<(), AllocError>
+    requires { (both F.field G.field).allows (first.now, second.now) }
+    ensures { OnOk result (out.new.items
+        ≡ out.old.items ++ tag ∷ (both F.field G.field).spelling (first.now, second.now)) }
+{
+    write_one::<F>(out, tag, first)?;
+    G::write(out, second)
+}
+
+/// Writes a tag and three fields.
+pub(crate) fn write_three<F: FieldKind, G: FieldKind, H: FieldKind>(
+    out: &mut Vec<u8>,
+    tag: u8,
+    first: &F::Item,
+    second: &G::Item,
+    third: &H::Item,
+) -> Result<(), AllocError>
+    requires { (both F.field (both G.field H.field)).allows
+        (first.now, (second.now, third.now)) }
+    ensures { OnOk result (out.new.items ≡ out.old.items
+        ++ tag ∷ (both F.field (both G.field H.field)).spelling
+        (first.now, (second.now, third.now))) }
+{
+    write_two::<F, G>(out, tag, first, second)?;
+    H::write(out, third)
 }
 
 /// So many fields of a kind, one behind the other.

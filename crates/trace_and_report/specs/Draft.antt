@@ -3,6 +3,7 @@ use Rattle.std.specs.Prelude.{◌≡◌, ℕ, ◌+◌, List, [], ◌∷◌, ◌+
 use Rattle.std.specs.declared.alloc.AllocError.{AllocError}
 use Rattle.script_tree.specs.Objects.{is_same}
 use Rattle.script_tree.specs.Requests.{IsRequestWithinLimits}
+use Rattle.script_tree.specs.declared.operation.Act.{Act}
 use Rattle.script_tree.specs.declared.operation.Choice.{Choice}
 use Rattle.script_tree.specs.declared.operation.Object.{Object}
 use Rattle.script_tree.specs.declared.operation.Op.{Op}
@@ -44,6 +45,10 @@ count_at operations r = record { rid = r; operations = counted operations r }
 -- the entry of an operation in the log of its object
 abbrev pub entry_of : ℕ → ℕ → Op → Choice → LogEntry
 entry_of r k op choice = record { rid = r; number = k; act = op.act; choice = choice }
+
+-- the operation that is this act at this object
+abbrev pub at_object : Object → Act → Op
+at_object object act = record { object = object; act = act }
 
 -- an object with its log, as that is kept
 abbrev pub spelled_log : Object × List LogEntry → Object × Spelled

@@ -1,5 +1,5 @@
 -- The records of a report, written one behind the other.
-use Rattle.std.specs.Prelude.{◌≡◌, ℕ, ◌≤◌, ◌<◌, List, ◌++◌, map, filter_map, length, Option, Some, None}
+use Rattle.std.specs.Prelude.{◌≡◌, ℕ, ◌≤◌, ◌<◌, List, [], ◌++◌, map, filter_map, length, Option, Some, None}
 use Rattle.script_tree.specs.declared.operation.Object.{Object}
 use Rattle.script_tree.specs.declared.path.Path.{Path}
 use Rattle.wire.specs.Files.{file_spelling, record_spelling, records_spelling}
@@ -25,6 +25,18 @@ use Rattle.trace_and_report.specs.declared.recorded.TooLong.TheVariants as past
 pub record AreAdded (records : List ReportRecord) (old new : List ℕ) : Type 0 where
   pub behind : new ≡ old ++ records_spelling report_format records
   pub allowed : AllAllowed any_record_field records
+
+-- The logs stand behind the bytes, and the groups behind these.
+pub record AreBehind (logs groups : List ReportRecord) (old new : List ℕ) : Type 0 where
+  pub between : List ℕ
+  pub logged : AreAdded logs old between
+  pub grouped : AreAdded groups between new
+
+-- The report begins with the counts, and the logs and the groups stand behind them.
+pub record AreWritten (counts logs groups : List ReportRecord) (report : List ℕ) : Type 0 where
+  pub first : List ℕ
+  pub counted : AreAdded counts (file_spelling report_format []) first
+  pub rest : AreBehind logs groups first report
 
 -- A log stands behind the bytes, and its object and its count are as wide as a report has them.
 pub record IsLogWritten (object : Object) (entries : Spelled) (old new : List ℕ) : Type 0 where

@@ -6,7 +6,7 @@ ghost use Rattle.script_tree.specs.declared.request.Response.{Response as Answer
 ghost use Rattle.script_fit.specs.FitsOperation.{FitsOperation};
 ghost use Rattle.history.specs.Journals.{CanHappen};
 ghost use Rattle.history.specs.Names.{Named, came, did, went, name};
-ghost use Rattle.trace_and_report.specs.Draft.{IsOfNames, TakesIn};
+ghost use Rattle.trace_and_report.specs.Draft.{IsOfNames, TakesIn, at_object};
 ghost use Rattle.trace_and_report.specs.Grouped.{groups_in, HaveMembers};
 ghost use Rattle.trace_and_report.specs.Written.{AreFiles};
 
@@ -15,11 +15,10 @@ use crate::grouped::{Grouped, add_member, no_groups};
 use crate::logs::{Logs, add_entry, no_logs};
 use crate::recorded::Recorded;
 use crate::widths::Wide;
-use crate::writing::{write_counts, write_groups, write_logs};
+use crate::writing::write_report;
 use history::Happening;
 use period::report::LogEntry;
-use report_format::appending::begin as begin_report;
-use script_tree::operation::{Choice, Op};
+use script_tree::operation::{Choice, Object, Op};
 use script_tree::path::Path;
 use script_tree::request::Response;
 use std::alloc::{AllocError, Global};
@@ -108,9 +107,19 @@ impl Draft {
             act,
             choice,
         };
+        self.add(object, &entry)
+    }
+
+    /// Takes in an operation at an object.
+    fn add(&mut self, object: Object, entry: &LogEntry) -> Result<(), AllocError>
+        requires { (program : Program) × FitsOperation program (at_object object entry.now.act) }
+        ensures { TakesIn
+            (did entry.now.rid entry.now.number (at_object object entry.now.act) entry.now.choice)
+            self.old self.new result }
+    {
         entry.keep_widths()?;
-        count(&mut self.operations, rid)?;
-        add_entry(self.alloc, &mut self.logs, object, &entry)
+        count(&mut self.operations, entry.rid)?;
+        add_entry(self.alloc, &mut self.logs, object, entry)
     }
 
     fn depart(&mut self, rid: u32, response: &Response, path: Path) -> Result<(), AllocError>
@@ -137,10 +146,7 @@ impl Draft {
         } = self;
         let requests = arrived.len();
         let paths = groups.len();
-        let mut report = begin_report(alloc)?;
-        write_counts(&mut report, &arrived, &operations)?;
-        write_logs(&mut report, logs)?;
-        write_groups(&mut report, groups)?;
+        let report = write_report(alloc, &arrived, &operations, logs, groups)?;
         Ok(Recorded {
             trace,
             report,

@@ -1,4 +1,6 @@
-use Rattle.std.proofs.Common.{◌∙◌, length, ap, arith, subst, sym}
+use Rattle.std.proofs.Common.{◌∙◌, [], length, ap, arith, refl, subst, sym}
+use Rattle.wire.specs.Files.{file_spelling}
+use Rattle.report_format.specs.Reports.{report_format}
 use Rattle.trace_and_report.specs.Written.{AreAdded, count_records}
 use Rattle.trace_and_report.proofs.Groups.{as_many}
 use Rattle.trace_and_report.proofs.Reports.{as_many_groups, logs_of, logs_spelled, whole}
@@ -6,11 +8,10 @@ use Rattle.trace_and_report.proofs.draft.Draft.finish.Goals as goal
 
 pub returns : goal.returns
 returns c = λ names of.
-    let is = whole names c.args.self c.in_ok-report.report.items c.write_counts.new.out.items c.write_logs.new.out.items c.write_groups.new.out.items of
-    c.in_ok-report.ensures
-    (subst (λ rs. AreAdded rs c.in_ok-report.report.items c.write_counts.new.out.items)
-    (λ i. count_records (c.deref-2.ensures.value i) (c.deref.ensures.value i)) c.in_ok-write_counts.ensures)
-    (c.in_ok-write_logs.ensures (logs_of names) of.logs (logs_spelled names of.spellings)) c.in_ok-write_groups.ensures in
+    let written = c.in_ok-report.ensures (logs_of names) of.logs (logs_spelled names of.spellings) in
+    let is = whole names c.args.self (file_spelling report_format []) written.first written.rest.between c.in_ok-report.report.items of refl
+    (subst (λ rs. AreAdded rs (file_spelling report_format []) written.first)
+    (λ i. count_records (c.deref-2.ensures.value i) (c.deref.ensures.value i)) written.counted) written.rest.logged written.rest.grouped in
     record {
       trace = of.trace;
       report = is.file;

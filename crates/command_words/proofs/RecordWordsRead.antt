@@ -58,12 +58,12 @@ if_true false o x e = cc
 some_is : {A : Type 0} (x y : A) → Some x ≡ Some y → x ≡ y
 some_is x y e = cc
 
-sound : (v w : RecordWords) → if_sound v ≡ Some w → is_sound w ≡ true
+sound : (v w : RecordWords) → if_sound v ≡ Some w → is_sound w.trace w.report w.workers ≡ true
 sound v w e =
-    let both = if_true (is_sound v) (Some v) w e in
-    subst (λ u. is_sound u ≡ true) (some_is v w both.1) both.0
+    let both = if_true (is_sound v.trace v.report v.workers) (Some v) w e in
+    subst (λ u. is_sound u.trace u.report u.workers ≡ true) (some_is v w both.1) both.0
 
-in_values : (value : List ℕ → Option (List ℕ)) (w : RecordWords) → words_in value ≡ Some w → is_sound w ≡ true
+in_values : (value : List ℕ → Option (List ℕ)) (w : RecordWords) → words_in value ≡ Some w → is_sound w.trace w.report w.workers ≡ true
 in_values value w e =
     let program = bound (value (codes "program")) _ w e in
     let state = bound (value (codes "state")) _ w program.1 in
@@ -84,7 +84,7 @@ in_values value w e =
     } in
     sound found w seed.1
 
-in_words : (words : List (List ℕ)) (w : RecordWords) → record_words words ≡ Some w → is_sound w ≡ true
+in_words : (words : List (List ℕ)) (w : RecordWords) → record_words words ≡ Some w → is_sound w.trace w.report w.workers ≡ true
 unfolding taken
 in_words [] w e = cc
 in_words (command ∷ words) w e =

@@ -52,19 +52,19 @@ record_app =
     fold with_rule (on_top (λ s. record s { no_binary_name = true }) (new_app (codes "record"))) record_rules
 
 -- The trace and the report have different names, and the workers are 1 to the most.
-abbrev pub is_sound : RecordWords → Bool
-is_sound w = not (bytes_eq w.trace w.report) && are_workers w.workers
+abbrev pub is_sound : List ℕ → List ℕ → ℕ → Bool
+is_sound trace report workers = not (bytes_eq trace report) && are_workers workers
 
 -- the words, where they are sound
 abbrev pub if_sound : RecordWords → Option RecordWords
-if_sound w = if is_sound w then Some w else None
+if_sound w = if is_sound w.trace w.report w.workers then Some w else None
 
--- the numbers, where the trace and the report have different names, and there may be so many workers
+-- the numbers of workers and of the seed, where both are given and the words are sound
 abbrev pub sound_numbers : List ℕ → List ℕ → Option ℕ → Option ℕ → Option (ℕ × ℕ)
 sound_numbers trace report workers seed = do
   count ← workers
   number ← seed
-  if not (bytes_eq trace report) && are_workers count then Some (count, number) else None
+  if is_sound trace report count then Some (count, number) else None
 
 -- what the words say whose names and options have these values, with these numbers
 abbrev pub words_of : (List ℕ → Option (List ℕ)) → Option ℕ → Option ℕ → Option RecordWords

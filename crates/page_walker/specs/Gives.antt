@@ -1,11 +1,11 @@
 -- What a function of the walker returned is what the definition gives.
-use Rattle.std.specs.Prelude.{◌≡◌, Result, Ok, Err}
+use Rattle.std.specs.Prelude.{◌≡◌, if◌then◌else◌, Result, Ok, Err}
 use Rattle.basis.specs.declared.or_memory.OrMemory.{OrMemory}
 use Rattle.basis.specs.declared.or_memory.OrMemory.TheVariants as values
-use Rattle.script_tree.specs.Datum.{Datum}
+use Rattle.script_tree.specs.Datum.{Datum, is_within_limits}
 use Rattle.script_tree.specs.declared.fault.ScriptFault.{ScriptFault}
-use Rattle.script_meaning.specs.declared.run.Stop.TheVariants.{Fault as fault}
-use Rattle.script_meaning.specs.Run.{Progress, Ran, goes, stops}
+use Rattle.script_meaning.specs.declared.run.Stop.TheVariants.{Fault as fault, AnswerFault as answer_fault}
+use Rattle.script_meaning.specs.Run.{Progress, Ran, Run, goes, stops}
 use Rattle.page_walker.specs.declared.run.Stopped.{Stopped}
 use Rattle.page_walker.specs.declared.run.Stopped.TheVariants.{Memory, Stop}
 
@@ -23,6 +23,10 @@ Stops (Stop e) p o = o ≡ stops e p
 abbrev pub Gives : {X A : Type 0} → (X → A) → Result X Stopped → Progress → Ran A → Type 0
 Gives view (Ok x) p o = o ≡ goes (view x) p
 Gives view (Err e) p o = Stops e p o
+
+-- The run goes on with an answer that is within the limits of a value, and stops at another.
+abbrev pub admitted : Datum → Run Datum
+admitted d p = if is_within_limits d then goes d p else stops answer_fault p
 
 -- The run goes on with the value that was returned, or it stops.
 abbrev pub GivesValue : Result Datum Stopped → Progress → Ran Datum → Type 0

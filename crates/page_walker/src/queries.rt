@@ -71,10 +71,11 @@ impl Frame<'_, '_, '_> {
             }
             QueryNode::Select(columns, name, conditions) => {
                 let table = table(index, name);
+                let columns = columns_of(self.alloc, table, columns)?;
                 let tests = self.tests(variables, run, table, conditions)?;
                 Ok(Unchecked::Select {
                     table: table.number,
-                    columns: columns_of(self.alloc, table, columns)?,
+                    columns,
                     tests,
                 })
             }

@@ -9,8 +9,8 @@ ghost use Rattle.script_meaning.specs.Evaluate.{issue_unless_fault};
 ghost use Rattle.script_meaning.specs.Operands.{OpAnswer};
 ghost use Rattle.script_meaning.specs.Operators.{Answer};
 ghost use Rattle.script_meaning.specs.Run.{Cost, charge, count_operation, issue, take_answer};
-ghost use Rattle.script_meaning.specs.Run.{decide, decide_by, note};
-ghost use Rattle.page_walker.specs.Gives.{Gives, GivesValue, stopped_by};
+ghost use Rattle.script_meaning.specs.Run.{Progress, decide, decide_by, note};
+ghost use Rattle.page_walker.specs.Gives.{Gives, GivesValue, admitted, stopped_by};
 ghost use Rattle.script_values.specs.CallsMade.{made};
 ghost use Rattle.script_values.specs.Outputs.{set_status_in};
 
@@ -183,14 +183,9 @@ impl<'a> Run<'a> {
         match self.answers.split_first() {
             None => Err(Stopped::Stop(Stop::Wants(op))),
             Some((answer, rest)) => {
-                let answer = answer.clone()?;
                 self.trail.push(Mark::Issued(op))?;
                 self.answers = rest;
-                if answer.is_within_limits() {
-                    Ok(answer)
-                } else {
-                    Err(Stopped::Stop(Stop::AnswerFault))
-                }
+                admitted(answer)
             }
         }
     }
@@ -255,6 +250,17 @@ impl<'a> Run<'a> {
     {
         let Run { output, .. } = self;
         output.into_response()
+    }
+}
+
+/// An answer, if it is within the limits of a value.
+fn admitted(answer: &Value) -> Result<Value, Stopped>
+    ensures { (p : Progress) → GivesValue result p (admitted answer.now p) }
+{
+    if answer.is_within_limits() {
+        Ok(answer.clone()?)
+    } else {
+        Err(Stopped::Stop(Stop::AnswerFault))
     }
 }
 

@@ -255,7 +255,7 @@ impl Frame<'_, '_, '_> {
             (turn_at self.now x.now.text value.now body.now variables.old run.old) }
     {
         let kept = variables.len();
-        variables.declare(&x.text, value.clone()?)?;
+        variables.declare_copy(&x.text, value)?;
         let flow = self.block(variables, run, body)?;
         variables.truncate(kept);
         Ok(flow)

@@ -93,6 +93,14 @@ impl Variables {
         Ok(())
     }
 
+    /// One variable more, with a copy of this value.
+    pub fn declare_copy(&mut self, name: &Text, value: &Value) -> Result<(), AllocError>
+        ensures { OnOk result (self.new ≡ declared self.old name.now value.now) }
+    {
+        let value = value.clone()?;
+        self.declare(name, value)
+    }
+
     /// Another value of the variable of this name.
     pub fn assign(&mut self, name: &Text, value: Value)
         ensures { self.new ≡ assigned self.old name.now value }

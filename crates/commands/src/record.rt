@@ -10,6 +10,7 @@ use crate::answer::Answer;
 use crate::leaving::leave;
 use crate::outcome::{Outcome, Output};
 use crate::recording::{Way, record_jobs};
+use crate::system::System;
 use basis::OrMemory;
 use claims::Workers;
 use command_inputs::{InputError, read_program, read_requests, read_state, read_turns};
@@ -26,121 +27,106 @@ use workload::Requests;
 
 /// What comes of the jobs of these files: the trace and the report of them. They are read in the order
 /// of the words, the turns last, up to the first one at fault.
-pub fn record_files<'w, R: Threads + Wait + Sync, F: Shelf, C: Clock + Sync, G: Gate + Sync>(
-    rt: &R,
-    alloc: Global,
+pub(crate) fn record_files<'w, R: Threads + Wait + Sync, F: Shelf, C: Clock + Sync, G: Gate + Sync>(
+    system: &System<'_, R, C, G>,
     shelf: &mut F,
     words: &RecordWords<'w>,
-    clock: &C,
-    gate: &G,
 ) -> Result<Outcome<'w>, InputError>
     ensures outcome { let words = record_words_of words.now in
         ForSome (F.told shelf.old).files (λ files.
-        IfRecorded (C.reading clock.now) files words result) }
+        IfRecorded (C.reading system.now.clock.now) files words result) }
     ensures asked { IfOk result (λ outcome. MayAnswer a_recording outcome.answer) }
     ensures found { IfOk result (λ outcome. ¬ SaysAbsent outcome) }
     ensures used { UsesToRead (F.told shelf.old) (F.told shelf.new) result }
 {
-    let program = read_program(alloc, shelf, words.program, MOST_FILE_BYTES)?;
-    let outcome = record_with_program(rt, alloc, shelf, words, &program, clock, gate);
+    let program = read_program(system.alloc, shelf, words.program, MOST_FILE_BYTES)?;
+    let outcome = record_with_program(system, shelf, words, &program);
     leave(program);
     outcome
 }
 
 /// What comes of the jobs where this program was read.
 fn record_with_program<'w, R: Threads + Wait + Sync, F: Shelf, C: Clock + Sync, G: Gate + Sync>(
-    rt: &R,
-    alloc: Global,
+    system: &System<'_, R, C, G>,
     shelf: &mut F,
     words: &RecordWords<'w>,
     program: &Program,
-    clock: &C,
-    gate: &G,
 ) -> Result<Outcome<'w>, InputError>
     ensures outcome { let words = record_words_of words.now in
-        ForSome (F.told shelf.old).files (λ files. let reading = C.reading clock.now in
+        ForSome (F.told shelf.old).files (λ files. let reading = C.reading system.now.clock.now in
         IfFound (λ o. o) (RecordWithProgram reading files words program.now) result) }
     ensures asked { IfOk result (λ outcome. MayAnswer a_recording outcome.answer) }
     ensures found { IfOk result (λ outcome. ¬ SaysAbsent outcome) }
     ensures used { UsesToRead (F.told shelf.old) (F.told shelf.new) result }
 {
-    let start = read_state(alloc, shelf, words.state, MOST_FILE_BYTES, program)?;
-    record_with_state(rt, alloc, shelf, words, program, start, clock, gate)
+    let start = read_state(system.alloc, shelf, words.state, MOST_FILE_BYTES, program)?;
+    record_with_state(system, shelf, words, program, start)
 }
 
 /// What comes of the jobs where the program and this state were read.
 fn record_with_state<'w, R: Threads + Wait + Sync, F: Shelf, C: Clock + Sync, G: Gate + Sync>(
-    rt: &R,
-    alloc: Global,
+    system: &System<'_, R, C, G>,
     shelf: &mut F,
     words: &RecordWords<'w>,
     program: &Program,
     start: ObjectSet,
-    clock: &C,
-    gate: &G,
 ) -> Result<Outcome<'w>, InputError>
     requires { IsSetOf program.now start }
     ensures outcome { let words = record_words_of words.now in
         let program = program.now in
         let objects = objects_of start in
-        ForSome (F.told shelf.old).files (λ files. let reading = C.reading clock.now in
+        ForSome (F.told shelf.old).files (λ files. let reading = C.reading system.now.clock.now in
         IfFound (λ o. o) (RecordWithState reading files words program objects) result) }
     ensures asked { IfOk result (λ outcome. MayAnswer a_recording outcome.answer) }
     ensures found { IfOk result (λ outcome. ¬ SaysAbsent outcome) }
     ensures used { UsesToRead (F.told shelf.old) (F.told shelf.new) result }
 {
-    let jobs = read_requests(alloc, shelf, words.requests, MOST_FILE_BYTES)?;
-    record_with_jobs(rt, alloc, shelf, words, program, start, jobs, clock, gate)
+    let jobs = read_requests(system.alloc, shelf, words.requests, MOST_FILE_BYTES)?;
+    record_with_jobs(system, shelf, words, program, start, jobs)
 }
 
 /// What comes of these jobs where the program and the state were read.
 fn record_with_jobs<'w, R: Threads + Wait + Sync, F: Shelf, C: Clock + Sync, G: Gate + Sync>(
-    rt: &R,
-    alloc: Global,
+    system: &System<'_, R, C, G>,
     shelf: &mut F,
     words: &RecordWords<'w>,
     program: &Program,
     start: ObjectSet,
     jobs: Requests,
-    clock: &C,
-    gate: &G,
 ) -> Result<Outcome<'w>, InputError>
     requires { IsSetOf program.now start }
     ensures outcome { let words = record_words_of words.now in
         let program = program.now in
         let objects = objects_of start in
-        ForSome (F.told shelf.old).files (λ files. let reading = C.reading clock.now in
+        ForSome (F.told shelf.old).files (λ files. let reading = C.reading system.now.clock.now in
         IfFound (λ o. o) (RecordWithJobs reading files words program objects jobs) result) }
     ensures asked { IfOk result (λ outcome. MayAnswer a_recording outcome.answer) }
     ensures found { IfOk result (λ outcome. ¬ SaysAbsent outcome) }
     ensures used { UsesToRead (F.told shelf.old) (F.told shelf.new) result }
 {
-    let way = read_way(alloc, shelf, words.turns, words.workers)?;
-    Ok(recorded_in(rt, alloc, words, program, start, jobs, way, clock, gate)?)
+    let way = read_way(system.alloc, shelf, words.turns, words.workers)?;
+    Ok(recorded_in(system, words, program, start, jobs, way)?)
 }
 
 /// The outcome of jobs that run in this way.
 fn recorded_in<'w, R: Threads + Wait + Sync, C: Clock + Sync, G: Gate + Sync>(
-    rt: &R,
-    alloc: Global,
+    system: &System<'_, R, C, G>,
     words: &RecordWords<'w>,
     program: &Program,
     start: ObjectSet,
     jobs: Requests,
     way: Way,
-    clock: &C,
-    gate: &G,
 ) -> Result<Outcome<'w>, AllocError>
     requires { IsSetOf program.now start }
     ensures outcome { let words = record_words_of words.now in
         let program = program.now in
         let objects = objects_of start in
-        IfOk result (IsOfJobs (C.reading clock.now) words program objects jobs way) }
+        IfOk result (IsOfJobs (C.reading system.now.clock.now) words program objects jobs way) }
     ensures asked { IfOk result (λ outcome. MayAnswer a_recording outcome.answer) }
     ensures found { IfOk result (λ outcome. ¬ SaysAbsent outcome) }
 {
-    let seed = words.seed;
-    match record_jobs(rt, alloc, program, start, jobs, way, seed, clock, gate) {
+    let alloc = system.alloc;
+    match record_jobs(system, program, start, jobs, way, words.seed) {
         Ok(recorded) => written(alloc, words, recorded),
         Err(OrMemory::Memory) => Err(AllocError),
         Err(OrMemory::Other(which)) => Ok(Outcome::says(alloc, Answer::TooLong(which))),

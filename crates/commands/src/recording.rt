@@ -4,6 +4,7 @@ ghost use Rattle.trace_and_report.specs.Recorded.{IsRecorded};
 ghost use Rattle.turns.specs.Run.{KeepsRun};
 ghost use Rattle.commands.specs.Ways.{IsRunBy};
 
+use crate::system::System;
 use basis::OrMemory;
 use claims::Workers;
 use history::Journal;
@@ -28,26 +29,21 @@ pub enum Way {
 
 /// The trace and the report of jobs that run in a way. Ids, counts and lengths that 32 bits don't hold
 /// are answered as want of memory.
-pub fn record_jobs<R: Threads + Wait + Sync, C: Clock + Sync, G: Gate + Sync>(
-    rt: &R,
-    alloc: Global,
+pub(crate) fn record_jobs<R: Threads + Wait + Sync, C: Clock + Sync, G: Gate + Sync>(
+    system: &System<'_, R, C, G>,
     program: &Program,
     start: ObjectSet,
     jobs: Requests,
     way: Way,
     seed: u64,
-    clock: &C,
-    gate: &G,
 ) -> Result<Recorded, OrMemory<TooLong>>
     requires { IsSetOf program.now start }
     ensures { let objects = objects_of start in
-        let IsRun = IsRunBy way program.now objects jobs seed (C.reading clock.now) in
+        let IsRun = IsRunBy way program.now objects jobs seed (C.reading system.now.clock.now) in
         IsRecorded IsRun result }
 {
-    let journal = FileJournal::new(alloc)?;
-    let journal = run_jobs(
-        rt, alloc, program, start, jobs, way, seed, clock, gate, journal,
-    )?;
+    let journal = FileJournal::new(system.alloc)?;
+    let journal = run_jobs(system, program, start, jobs, way, seed, journal)?;
     let recorded = journal.finish()?;
     match recorded.too_long() {
         Some(which) => Err(OrMemory::Other(which)),
@@ -57,33 +53,41 @@ pub fn record_jobs<R: Threads + Wait + Sync, C: Clock + Sync, G: Gate + Sync>(
 
 /// Runs the jobs in a way, and gives what happens to the journal.
 fn run_jobs<R: Threads + Wait + Sync, C: Clock + Sync, G: Gate + Sync, J: Journal + Send>(
-    rt: &R,
-    alloc: Global,
+    system: &System<'_, R, C, G>,
     program: &Program,
     start: ObjectSet,
     jobs: Requests,
     way: Way,
     seed: u64,
-    clock: &C,
-    gate: &G,
     journal: J,
 ) -> Result<J, AllocError>
     requires start { IsSetOf program.now start }
     requires nothing_kept { J.keeps [] journal }
     ensures { let objects = objects_of start in
-        let IsRun = IsRunBy way program.now objects jobs seed (C.reading clock.now) in
+        let IsRun = IsRunBy way program.now objects jobs seed (C.reading system.now.clock.now) in
         IfOk result (KeepsRun J.keeps IsRun) }
 {
+    let alloc = system.alloc;
     match way {
         Way::ByTurns(turns) => {
             let turns = turns.as_slice();
             let code = translate(alloc, program)?;
+            let clock = system.clock;
             run_turns(
                 alloc, program, &code, start, jobs, turns, seed, clock, journal,
             )
         }
         Way::ByWorkers(workers) => serve_jobs(
-            rt, alloc, program, start, jobs, workers, seed, clock, gate, journal,
+            system.rt,
+            alloc,
+            program,
+            start,
+            jobs,
+            workers,
+            seed,
+            system.clock,
+            system.gate,
+            journal,
         ),
     }
 }

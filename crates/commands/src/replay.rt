@@ -92,11 +92,11 @@ fn replay_with_trace<F: Shelf>(
     ensures used { UsesToRead (F.told shelf.old) (F.told shelf.new) result }
 {
     let schedule = read_schedule(alloc, shelf, names.schedule, MOST_SCHEDULE_BYTES)?;
-    Ok(found_by(alloc, program, start, trace, &schedule)?)
+    Ok(replay_schedule(alloc, program, start, trace, &schedule)?)
 }
 
 /// How many moments a schedule that was read has, and what its replay finds.
-fn found_by(
+fn replay_schedule(
     alloc: Global,
     program: &Program,
     start: ObjectSet,

@@ -17,6 +17,7 @@ use crate::outcome::{Outcome, write_outputs};
 use crate::print::print_line;
 use crate::record::record_files;
 use crate::replay::replay_files;
+use crate::system::System;
 use audit_completeness::law::recorded_is_accepted;
 use audit_meaning::law::accepted_explains;
 use command_inputs::law::one_way;
@@ -81,7 +82,13 @@ pub fn run<R: Threads + Wait + Sync, F: Shelf, O: Sink, H: House, C: Clock + Syn
     recorded_is_accepted();
     traces_are_balanced();
     one_way();
-    match outcome_of(rt, alloc, words, shelf, clock, gate) {
+    let system = System {
+        rt,
+        alloc,
+        clock,
+        gate,
+    };
+    match outcome_of(&system, words, shelf) {
         Ok(outcome) => carry_out(alloc, shelf, out, &outcome),
         Err(halt) => halt.status(),
     }
@@ -111,42 +118,37 @@ fn carry_out<F: Shelf, O: Sink>(
 
 /// The outcome of the words over the files. The fault of an input is an answer too.
 fn outcome_of<'w, R: Threads + Wait + Sync, F: Shelf, C: Clock + Sync, G: Gate + Sync>(
-    rt: &R,
-    alloc: Global,
+    system: &System<'_, R, C, G>,
     words: &'w Words,
     shelf: &mut F,
-    clock: &C,
-    gate: &G,
 ) -> Result<Outcome<'w>, Halt>
-    ensures outcome { let outcome = IsOutcome words.now (C.reading clock.now) in
+    ensures outcome { let outcome = IsOutcome words.now (C.reading system.now.clock.now) in
         ForSome (F.told shelf.old).files (λ files. IfOk result (outcome files)) }
     ensures asked { IfOk result (λ outcome. MayAnswer (asked_of words.now) outcome.answer) }
     ensures used { UsesShelf (F.told shelf.old) (F.told shelf.new) (result ≡ Err Failed)
         (IsOkAnd result SaysAbsent) }
 {
-    match found_by(rt, alloc, words, shelf, clock, gate) {
+    match found_by(system, words, shelf) {
         Ok(outcome) => Ok(outcome),
-        Err(InputError::Fault(fault)) => Ok(Outcome::says(alloc, Answer::Input(fault))),
+        Err(InputError::Fault(fault)) => Ok(Outcome::says(system.alloc, Answer::Input(fault))),
         Err(InputError::Halt(halt)) => Err(halt),
     }
 }
 
 /// The outcome of the words over the files, where no input is at fault.
 fn found_by<'w, R: Threads + Wait + Sync, F: Shelf, C: Clock + Sync, G: Gate + Sync>(
-    rt: &R,
-    alloc: Global,
+    system: &System<'_, R, C, G>,
     words: &'w Words,
     shelf: &mut F,
-    clock: &C,
-    gate: &G,
 ) -> Result<Outcome<'w>, InputError>
-    ensures outcome { let outcome = IsOutcome words.now (C.reading clock.now) in
+    ensures outcome { let outcome = IsOutcome words.now (C.reading system.now.clock.now) in
         ForSome (F.told shelf.old).files (λ files. IfFound (λ o. o) (outcome files) result) }
     ensures asked { let asked = asked_of words.now in
         IfFound (λ o. o) (λ outcome. MayAnswer asked outcome.answer) result }
     ensures found { IfOk result (λ outcome. ¬ SaysAbsent outcome) }
     ensures used { UsesToRead (F.told shelf.old) (F.told shelf.new) result }
 {
+    let alloc = system.alloc;
     if let Some(names) = words.replay_names(alloc)? {
         let (moments, replayed) = replay_files(alloc, shelf, names)?;
         return Ok(Outcome::says(alloc, Answer::Replay { moments, replayed }));
@@ -155,34 +157,32 @@ fn found_by<'w, R: Threads + Wait + Sync, F: Shelf, C: Clock + Sync, G: Gate + S
         let counts = check_file(alloc, shelf, name)?;
         return Ok(Outcome::says(alloc, Answer::Checked(counts)));
     }
-    found_by_options(rt, alloc, words, shelf, clock, gate)
+    recorded_or_audited(system, words, shelf)
 }
 
-/// The same where they ask for no replay and no check.
-fn found_by_options<'w, R: Threads + Wait + Sync, F: Shelf, C: Clock + Sync, G: Gate + Sync>(
-    rt: &R,
-    alloc: Global,
+/// The same where they ask for no replay and no check, but for a recording, an audit or nothing.
+fn recorded_or_audited<'w, R: Threads + Wait + Sync, F: Shelf, C: Clock + Sync, G: Gate + Sync>(
+    system: &System<'_, R, C, G>,
     words: &'w Words,
     shelf: &mut F,
-    clock: &C,
-    gate: &G,
 ) -> Result<Outcome<'w>, InputError>
     requires no_replay { replay_names words.now ≡ None }
     requires no_check { check_name words.now ≡ None }
-    ensures outcome { let outcome = IsOutcome words.now (C.reading clock.now) in
+    ensures outcome { let outcome = IsOutcome words.now (C.reading system.now.clock.now) in
         ForSome (F.told shelf.old).files (λ files. IfFound (λ o. o) (outcome files) result) }
     ensures asked { let asked = asked_of words.now in
         IfFound (λ o. o) (λ outcome. MayAnswer asked outcome.answer) result }
     ensures found { IfOk result (λ outcome. ¬ SaysAbsent outcome) }
     ensures used { UsesToRead (F.told shelf.old) (F.told shelf.new) result }
 {
+    let alloc = system.alloc;
     match words.record_words(alloc) {
-        Ok(Some(words)) => return record_files(rt, alloc, shelf, &words, clock, gate),
+        Ok(Some(words)) => return record_files(system, shelf, &words),
         Ok(None) => {}
         Err(error) => return Err(error.into()),
     }
     match words.audit_words(alloc) {
-        Ok(Some(words)) => audit_files(alloc, shelf, &words, gate),
+        Ok(Some(words)) => audit_files(alloc, shelf, &words, system.gate),
         Ok(None) => Ok(Outcome::says(alloc, Answer::Usage)),
         Err(error) => Err(error.into()),
     }

@@ -1,6 +1,7 @@
 mod Completely
 mod Soundly
 mod DifferenceTests
+mod Moments
 pub mod HeadFacts
 pub mod Wants
 pub mod StageFacts

@@ -1,12 +1,10 @@
-use Rattle.std.proofs.Common.{◌≡◌, ◌∙◌, ap, sym, subst, refl, ◌+◌, ◌<◌, [], ◌∷◌, ◌++◌, Some, length, take, drop, get_or, arith}
-use Rattle.std.proofs.lemmas.List.{take_more, drop_more, length-take-le, drop_all}
-use Rattle.basis.proofs.Options.{some_is}
-use Rattle.basis.proofs.Places.{nth-get_or}
-use Rattle.period.specs.declared.schedule.Moment.TheVariants.{Arrive}
+use Rattle.std.proofs.Common.{◌≡◌, ◌∙◌, ap, sym, subst, refl, ◌+◌, ◌<◌, [], ◌∷◌, Some, length, take, drop, arith}
+use Rattle.std.proofs.lemmas.List.{length-take-le, drop_all}
 use Rattle.script_meaning.specs.Replay.{opening, after}
 use Rattle.replayer.specs.Differences.{difference_from}
 use Rattle.replayer.specs.Stages.{Shows, departed_of}
 use Rattle.replayer.specs.declared.reason.ReplayReason.TheVariants.{AtMoment}
+use Rattle.replayer.proofs.Moments.{comes_next, comes_last}
 use Rattle.replayer.proofs.StageFacts.{stops_here, ends_here, steps_on}
 use Rattle.replayer.proofs.replay.difference_on.Goals as goal
 
@@ -20,11 +18,12 @@ returns-in-Some g c = λ objects opened.
     let place = c.loop-place.place in
     let m = c.moment-moment.result in
     let inside : place < length ms = omega (arith, c.loop-place-test.true, c.len-place-end.ensures) in
-    let is : get_or ms place (Arrive 0) ≡ m = some_is (sym (nth-get_or (Arrive 0) ms place inside) ∙ c.moment-moment.ensures) in
-    let here : drop place ms ≡ m ∷ drop (place + 1) ms = drop_more ms place (Arrive 0) inside ∙ ap (λ n. n ∷ drop (place + 1) ms) is in
+    let here = comes_next ms place m inside c.moment-moment.ensures in
     let shown = c.loop-place.invariant objects opened in
     let s = c.in_ok-reason.ensures.step (take place ms) shown.0 shown.1 in
-    let stop = ap (difference_from stage.index.now stage.trace (take place ms) shown.0) here ∙ stops_here stage.index.now stage.trace (take place ms) shown.0 m (drop (place + 1) ms) c.in-Some.reason (s.named ∙ c.in-Some.is) in
+    let stop =
+    ap (difference_from stage.index.now stage.trace (take place ms) shown.0) here
+    ∙ stops_here stage.index.now stage.trace (take place ms) shown.0 m (drop (place + 1) ms) c.in-Some.reason (s.named ∙ c.in-Some.is) in
     let long : length (take place ms) ≡ place = length-take-le place ms (omega arith) in
     ap (λ k. Some (AtMoment c.in-Some.reason k c.rid_of.result)) (sym long)
     ∙ ap (λ r. Some (AtMoment c.in-Some.reason (length (take place ms)) r)) c.rid_of.ensures
@@ -37,12 +36,11 @@ loop-place-preserved g c = λ objects opened.
     let place = c.loop-place.place in
     let m = c.moment-moment.result in
     let inside : place < length ms = omega (arith, c.loop-place-test.true, c.len-place-end.ensures) in
-    let is : get_or ms place (Arrive 0) ≡ m = some_is (sym (nth-get_or (Arrive 0) ms place inside) ∙ c.moment-moment.ensures) in
-    let here : drop place ms ≡ m ∷ drop (place + 1) ms = drop_more ms place (Arrive 0) inside ∙ ap (λ n. n ∷ drop (place + 1) ms) is in
+    let here = comes_next ms place m inside c.moment-moment.ensures in
     let shown = c.loop-place.invariant objects opened in
     let s = c.in_ok-reason.ensures.step (take place ms) shown.0 shown.1 in
     let next = after stage.index.now stage.trace shown.0 m in
-    let taken : take (place + 1) ms ≡ take place ms ++ m ∷ [] = take_more ms place (Arrive 0) inside ∙ ap (λ n. take place ms ++ n ∷ []) is in (
+    let taken = comes_last ms place m inside c.moment-moment.ensures in (
       next,
       subst (λ past. Shows past next c.step.new.self) (sym taken) (s.shown c.in_default.is),
       steps_on _ stage c.step.new.self (take place ms) shown.0 m (drop (place + 1) ms)

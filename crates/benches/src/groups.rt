@@ -15,7 +15,7 @@ use object_set::ObjectSet;
 use outside_os::FileShelf;
 use period::report::Report;
 use script_check::program::Program;
-use script_code::translate::translate;
+use script_code::translate::{Code, translate};
 use std::io::{self, ErrorKind};
 use trace_format::trace_file::TraceFile;
 use trace_index::IndexedTrace;
@@ -57,12 +57,22 @@ fn run_files(
     names: Names<'_>,
     times: u32,
 ) -> Result<io::Result<()>, InputError> {
-    let alloc = rt.alloc();
-    let program = read_program(alloc, shelf, names.program, MOST_FILE_BYTES)?;
-    let start = read_state(alloc, shelf, names.state, MOST_FILE_BYTES, &program)?;
-    let trace = read_trace(alloc, shelf, names.trace, MOST_FILE_BYTES)?;
-    match read_report(alloc, shelf, names.report, MOST_FILE_BYTES)? {
-        Ok(report) => Ok(run_report(rt, &program, &start, &trace, &report, times)),
+    let program = read_program(rt.alloc(), shelf, names.program, MOST_FILE_BYTES)?;
+    run_program(rt, shelf, names, times, &program)
+}
+
+/// The same where this program was read.
+fn run_program(
+    rt: &HostRuntime,
+    shelf: &mut FileShelf,
+    names: Names<'_>,
+    times: u32,
+    program: &Program,
+) -> Result<io::Result<()>, InputError> {
+    let start = read_state(rt.alloc(), shelf, names.state, MOST_FILE_BYTES, program)?;
+    let trace = read_trace(rt.alloc(), shelf, names.trace, MOST_FILE_BYTES)?;
+    match read_report(rt.alloc(), shelf, names.report, MOST_FILE_BYTES)? {
+        Ok(report) => Ok(run_report(rt, program, &start, &trace, &report, times)),
         Err(_) => Ok(Err(ErrorKind::InvalidData.into())),
     }
 }
@@ -88,9 +98,14 @@ fn run_report(
     }
     let code = translate(alloc, program)?;
     let evidence = Evidence::gather(alloc, &trace, start, report, &map)?;
-    let mut comparison = Comparison::new(alloc);
+    compare(rt, &code, &evidence, times)
+}
+
+/// Runs the groups so many times, and tells what came of it.
+fn compare(rt: &HostRuntime, code: &Code, evidence: &Evidence<'_>, times: u32) -> io::Result<()> {
+    let mut comparison = Comparison::new(rt.alloc());
     for _ in 0..times {
-        comparison.run_both(rt, &code, &evidence)?;
+        comparison.run_both(rt, code, evidence)?;
     }
     comparison.tell(rt, evidence.groups().len())
 }

@@ -88,8 +88,9 @@ fn order_times(
     for _ in 0..times {
         let start = Instant::now(rt)?;
         let answer = answer_of(rt.alloc(), trace, report)?;
-        took = took.saturating_add(start.elapsed(rt)?);
-        length = answer.length();
+        let elapsed = start.elapsed(rt);
+        length = answer.into_length();
+        took = took.saturating_add(elapsed?);
     }
     println!(rt;
         "events {}, times {times}, answer of {length} nodes",

@@ -23,8 +23,8 @@ pub enum Answer {
 }
 
 impl Answer {
-    /// How many nodes it names.
-    pub fn length(&self) -> usize {
+    /// How many nodes it named.
+    pub fn into_length(self) -> usize {
         match self {
             Answer::Order(nodes) | Answer::Rejected(Reason::Cycle(nodes)) => nodes.len(),
             Answer::Rejected(_) => 0,
@@ -51,19 +51,32 @@ pub fn answer_of(
 ) -> Result<Answer, AllocError>
     requires { IsBalanced trace.now }
 {
-    let start = ObjectSet::new(alloc, &[])?;
-    let map = match check_logs(alloc, &start, trace, report) {
-        Ok(map) => map,
-        Err(OrMemory::Memory) => return Err(AllocError),
-        Err(OrMemory::Other(reason)) => return Ok(Answer::Rejected(reason)),
-    };
-    let nodes = match order_events(alloc, trace, report, &map)? {
-        Ordered::Order(nodes) => nodes,
-        Ordered::Cycle(nodes) => return Ok(Answer::Rejected(Reason::Cycle(nodes))),
-    };
-    match check_groups(alloc, trace, report) {
-        Ok(()) => Ok(Answer::Order(nodes)),
+    match order_of(alloc, trace, report) {
+        Ok(nodes) => Ok(Answer::Order(nodes)),
         Err(OrMemory::Memory) => Err(AllocError),
         Err(OrMemory::Other(reason)) => Ok(Answer::Rejected(reason)),
+    }
+}
+
+/// The order of its events, where nothing is wrong with it.
+fn order_of(
+    alloc: Global,
+    trace: &IndexedTrace<'_>,
+    report: &Report,
+) -> Result<Nodes, OrMemory<Reason>>
+    requires { IsBalanced trace.now }
+{
+    let start = ObjectSet::new(alloc, &[])?;
+    let map = check_logs(alloc, &start, trace, report)?;
+    let nodes = acyclic(order_events(alloc, trace, report, &map)?)?;
+    check_groups(alloc, trace, report)?;
+    Ok(nodes)
+}
+
+/// An order, if it is one.
+fn acyclic(ordered: Ordered) -> Result<Nodes, OrMemory<Reason>> {
+    match ordered {
+        Ordered::Order(nodes) => Ok(nodes),
+        Ordered::Cycle(nodes) => Err(OrMemory::Other(Reason::Cycle(nodes))),
     }
 }

@@ -1,4 +1,6 @@
 //! What runs a page.
+ghost use Rattle.machine.specs.Follows.{IsReady};
+
 use crate::pages::inputs::request_of;
 use machine::{Machine, MachineStep};
 use page_walker::{Walker, WalkerStep};
@@ -29,6 +31,13 @@ pub fn steps_by_machine(
 /// The steps of the request's run by the machine.
 fn machine_run(alloc: Global, code: &Code, request: Request) -> Result<u32, AllocError> {
     let mut machine = Machine::start(alloc, code, request);
+    run_to_end(&mut machine)
+}
+
+/// The steps of this run, from its start to its end.
+fn run_to_end(machine: &mut Machine<'_>) -> Result<u32, AllocError>
+    requires { IsReady machine.old }
+{
     for _ in 0..=MOST_OPERATIONS {
         match machine.run()? {
             MachineStep::Wants(_) => machine.answer(Value::null())?,

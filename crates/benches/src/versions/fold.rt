@@ -23,12 +23,22 @@ fn op_of(alloc: Global, name: &str, entry: &str) -> io::Result<Op> {
     Ok(Op { object, act })
 }
 
+/// Does the operation of an entry of the object of this name, and gives its answer.
+fn answer_to(
+    alloc: Global,
+    objects: &mut ObjectSet,
+    object: &str,
+    entry: &str,
+) -> io::Result<Value> {
+    let op = op_of(alloc, object, entry)?;
+    answer_of(objects, &op).ok_or(ErrorKind::InvalidData.into())
+}
+
 /// Does the operations of entries one after the other, and tells what they answer.
 fn run(alloc: Global, objects: &mut ObjectSet, object: &str, entries: &str) -> io::Result<String> {
     let mut answers = String::new(alloc);
     for entry in entries.split_whitespace() {
-        let op = op_of(alloc, object, entry)?;
-        let answer = answer_of(objects, &op).ok_or(ErrorKind::InvalidData)?;
+        let answer = answer_to(alloc, objects, object, entry)?;
         tell(alloc, &mut answers, &answer)?;
         answers.push(' ')?;
     }

@@ -1,6 +1,6 @@
 -- Worked examples of long runs, computed. Their endings are compared part by part: a list of 49,998 decisions is too long to
 -- be compared at once.
-use Rattle.std.proofs.Common.{◌≡◌, ℕ, Bool, List, [], ◌∷◌, codes, length, refl}
+use Rattle.std.proofs.Common.{◌≡◌, ℕ, List, [], ◌∷◌, codes, length, refl}
 use Rattle.std.specs.Fmt.{digits}
 use Rattle.script_tree.specs.Datum.{null}
 use Rattle.script_tree.specs.declared.fault.ScriptFault.TheVariants.{OutOfSteps}
@@ -10,27 +10,19 @@ use Rattle.script_tree.specs.declared.request.Response.{Response}
 use Rattle.script_meaning.specs.Conduct.{conduct, Ending, Ends}
 use Rattle.script_meaning.proofs.Programs as p
 
-abbrev decisions_of : Ending → List Bool
-decisions_of (Ends response path) = path.decisions
-decisions_of ending = []
-
--- all but the decisions
-abbrev rest_of : Ending → Response × (ℕ × End)
-rest_of (Ends response path) = (response, (path.steps, path.end))
-rest_of ending = (record { status = 0; body = [] }, (0, Normal))
+-- its response, its steps and its end, and how many decisions it took
+abbrev summary_of : Ending → Response × (ℕ × (End × ℕ))
+summary_of (Ends response path) = (response, (path.steps, (path.end, length path.decisions)))
+summary_of ending = (record { status = 0; body = [] }, (0, (Normal, 0)))
 
 abbrev body_of : Ending → List ℕ
 body_of (Ends response path) = response.body
 body_of ending = []
 
-endless : rest_of (conduct p.endless_page (p.get (codes "/w")) (null ∷ [])).ending
-    ≡ (record { status = 500; body = codes "fault 6\n" }, (100000, Fault OutOfSteps))
+endless : summary_of (conduct p.endless_page (p.get (codes "/w")) (null ∷ [])).ending
+    ≡ (record { status = 500; body = codes "fault 6\n" }, (100000, (Fault OutOfSteps, 49998)))
 unfolding digits
 endless = refl
-
-endless_decisions : length (decisions_of (conduct p.endless_page (p.get (codes "/w")) (null ∷ [])).ending) ≡ 49998
-unfolding digits
-endless_decisions = refl
 
 doubling : body_of (conduct p.doubling_page (p.get (codes "/s")) []).ending ≡ codes "65535"
 unfolding digits

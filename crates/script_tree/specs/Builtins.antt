@@ -1,18 +1,30 @@
 -- The functions that every program of a version has, by name.
-use Rattle.std.specs.Prelude.{ℕ, Bool, true, false, if◌then◌else◌, List, [], ◌∷◌, Option, Some, None, codes}
+use Rattle.std.specs.Prelude.{ℕ, Bool, true, false, if◌then◌else◌, List, [], ◌∷◌, ◌++◌, Option, Some, None, codes}
 use Rattle.std.specs.Str.{bytes_eq}
 use Rattle.script_tree.specs.declared.syntax.builtin.Builtin.{Builtin}
 use Rattle.script_tree.specs.declared.syntax.tree.Version.{Version}
 use Rattle.script_tree.specs.declared.syntax.tree.Version.TheVariants.{First}
 use Rattle.script_tree.specs.declared.syntax.builtin.Builtin.TheVariants.{Len, Str, Escape, Num, Slice, Append, Kind, Param, Method, Path, Body, Read, Write, Get, Put, Remove, Clock, Random}
 
+-- the functions of values of the first version, each with its name
+abbrev pub of_values : List (List ℕ × Builtin)
+of_values =
+    (codes "len", Len) ∷ (codes "str", Str) ∷ (codes "escape", Escape) ∷ (codes "num", Num) ∷ (codes "slice", Slice)
+    ∷ (codes "append", Append) ∷ (codes "kind", Kind) ∷ []
+
+-- those of the request
+abbrev pub of_request : List (List ℕ × Builtin)
+of_request = (codes "param", Param) ∷ (codes "method", Method) ∷ (codes "path", Path) ∷ (codes "body", Body) ∷ []
+
+-- those that are operations on objects
+abbrev pub of_objects : List (List ℕ × Builtin)
+of_objects =
+    (codes "read", Read) ∷ (codes "write", Write) ∷ (codes "get", Get) ∷ (codes "put", Put)
+    ∷ (codes "remove", Remove) ∷ (codes "clock", Clock) ∷ (codes "random", Random) ∷ []
+
 -- the built-in functions of a version, each with its name
 abbrev pub builtins : Version → List (List ℕ × Builtin)
-builtins First =
-    (codes "len", Len) ∷ (codes "str", Str) ∷ (codes "escape", Escape) ∷ (codes "num", Num) ∷ (codes "slice", Slice)
-    ∷ (codes "append", Append) ∷ (codes "kind", Kind) ∷ (codes "param", Param) ∷ (codes "method", Method) ∷ (codes "path", Path)
-    ∷ (codes "body", Body) ∷ (codes "read", Read) ∷ (codes "write", Write) ∷ (codes "get", Get) ∷ (codes "put", Put)
-    ∷ (codes "remove", Remove) ∷ (codes "clock", Clock) ∷ (codes "random", Random) ∷ []
+builtins First = (of_values ++ of_request) ++ of_objects
 
 -- the first function of a name
 abbrev pub named_in : List (List ℕ × Builtin) → List ℕ → Option Builtin

@@ -1,3 +1,5 @@
+use Rattle.std.proofs.Common.{arith}
+use Rattle.std.proofs.lemmas.Grind.{common_steps}
 use Rattle.std.proofs.Common.{◌∙◌, option_map, ap, sym}
 use Rattle.basis.specs.Lists.{nth}
 use Rattle.script_tree.specs.Declarations.{table_from}
@@ -12,3 +14,6 @@ put_rows-requires-clause-there c =
     ∙ width_there c.in-Some.name c.args.index.now.declarations t
     (ap (option_map table_of) (sym c.in-Some-table.is) ∙ c.table.ensures
     ∙ ap (λ name. table_from 0 name c.args.index.now.declarations) c.as_bytes.ensures)
+
+pub returns-clause-put : goal.returns-clause-put
+returns-clause-put c = grind (arith, common_steps)

@@ -1,3 +1,4 @@
+use Rattle.std.proofs.lemmas.Grind.{common_steps}
 use Rattle.std.proofs.Common.{◌≤◌, arith}
 use Rattle.script_tree.specs.Datum.{size, members_size, data_of}
 use Rattle.wire.proofs.ValueSizes.{members_len, member_size, list_written}
@@ -14,3 +15,12 @@ write_all-write_any-requires t c =
 pub write_node-returns-in_ok-write_u8-in-List-clause-ok : goal.write_node-returns-in_ok-write_u8-in-List-clause-ok
 write_node-returns-in_ok-write_u8-in-List-clause-ok t c =
     rw c.in-List.is (list_written c.write_all.result c.in-List.values c.as_slice.result.now c.args.out.now.items c.write_u8-in-List.new.out.items c.write_all.new.out.items c.as_slice.ensures c.in_ok-write_u8-in-List.ensures.ok c.write_all.ensures.ok)
+
+pub write_all-loop-value-init : goal.write_all-loop-value-init
+write_all-loop-value-init c = grind (arith, common_steps)
+
+pub write_all-loop-value-preserved : goal.write_all-loop-value-preserved
+write_all-loop-value-preserved c = grind (arith, common_steps)
+
+pub write_all-returns-clause-ok : goal.write_all-returns-clause-ok
+write_all-returns-clause-ok c = grind (arith, common_steps)

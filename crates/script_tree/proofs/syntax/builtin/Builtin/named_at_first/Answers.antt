@@ -1,30 +1,9 @@
-use Rattle.std.proofs.Common.{codes, refl, rules, arith}
-use Rattle.std.proofs.lemmas.Slice.Eq.{text_from_reads}
+use Rattle.std.proofs.Common.{refl, sym, ◌∙◌, ◌++◌, ap}
+use Rattle.std.specs.Option.{option_or}
+use Rattle.script_tree.specs.Builtins.{of_values, of_request, of_objects, named_in}
+use Rattle.script_tree.proofs.Builtins.{in_either}
 use Rattle.script_tree.proofs.syntax.builtin.Builtin.named_at_first.Goals as goal
 
-pub returns-in-slice : goal.returns-in-slice
-returns-in-slice c = rw (text_from_reads c.args.name.now (codes "slice") (omega arith) (search rules)) refl
-
-pub returns-in-param : goal.returns-in-param
-returns-in-param c = rw (text_from_reads c.args.name.now (codes "param") (omega arith) (search rules)) refl
-
-pub returns-in-write : goal.returns-in-write
-returns-in-write c = rw (text_from_reads c.args.name.now (codes "write") (omega arith) (search rules)) refl
-
-pub returns-in-clock : goal.returns-in-clock
-returns-in-clock c = rw (text_from_reads c.args.name.now (codes "clock") (omega arith) (search rules)) refl
-
-pub returns-in-escape : goal.returns-in-escape
-returns-in-escape c = rw (text_from_reads c.args.name.now (codes "escape") (omega arith) (search rules)) refl
-
-pub returns-in-append : goal.returns-in-append
-returns-in-append c = rw (text_from_reads c.args.name.now (codes "append") (omega arith) (search rules)) refl
-
-pub returns-in-method : goal.returns-in-method
-returns-in-method c = rw (text_from_reads c.args.name.now (codes "method") (omega arith) (search rules)) refl
-
-pub returns-in-remove : goal.returns-in-remove
-returns-in-remove c = rw (text_from_reads c.args.name.now (codes "remove") (omega arith) (search rules)) refl
-
-pub returns-in-random : goal.returns-in-random
-returns-in-random c = rw (text_from_reads c.args.name.now (codes "random") (omega arith) (search rules)) refl
+pub returns : goal.returns
+returns c = rw c.or-2.ensures (rw c.or.ensures (rw c.of_objects.ensures (rw c.of_request.ensures (rw c.of_values.ensures (
+    sym (in_either (of_values ++ of_request) of_objects c.args.name.now ∙ ap (λ o. option_or o (named_in of_objects c.args.name.now)) (in_either of_values of_request c.args.name.now)))))))

@@ -72,22 +72,32 @@ impl Frame<'_, '_, '_> {
             QueryNode::Select(columns, name, conditions) => {
                 let table = table(index, name);
                 let columns = columns_of(self.alloc, table, columns)?;
-                let tests = self.tests(variables, run, table, conditions)?;
-                Ok(Unchecked::Select {
-                    table: table.number,
-                    columns,
-                    tests,
-                })
+                match self.tests(variables, run, table, conditions) {
+                    Ok(tests) => Ok(Unchecked::Select {
+                        table: table.number,
+                        columns,
+                        tests,
+                    }),
+                    Err(stopped) => {
+                        drop(columns);
+                        Err(stopped)
+                    }
+                }
             }
             QueryNode::Update(name, assignments, conditions) => {
                 let table = table(index, name);
                 let changes = self.changes(variables, run, table, assignments)?;
-                let tests = self.tests(variables, run, table, conditions)?;
-                Ok(Unchecked::Update {
-                    table: table.number,
-                    changes,
-                    tests,
-                })
+                match self.tests(variables, run, table, conditions) {
+                    Ok(tests) => Ok(Unchecked::Update {
+                        table: table.number,
+                        changes,
+                        tests,
+                    }),
+                    Err(stopped) => {
+                        drop(changes);
+                        Err(stopped)
+                    }
+                }
             }
             QueryNode::Delete(name, conditions) => {
                 let table = table(index, name);
@@ -100,12 +110,17 @@ impl Frame<'_, '_, '_> {
             QueryNode::Expect(count, name, conditions) => {
                 let table = table(index, name);
                 let count = self.eval(variables, run, count)?;
-                let tests = self.tests(variables, run, table, conditions)?;
-                Ok(Unchecked::Expect {
-                    count,
-                    table: table.number,
-                    tests,
-                })
+                match self.tests(variables, run, table, conditions) {
+                    Ok(tests) => Ok(Unchecked::Expect {
+                        count,
+                        table: table.number,
+                        tests,
+                    }),
+                    Err(stopped) => {
+                        drop(count);
+                        Err(stopped)
+                    }
+                }
             }
         }
     }

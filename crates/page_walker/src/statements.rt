@@ -136,7 +136,9 @@ impl Frame<'_, '_, '_> {
             variables.old run.old) }
     {
         let value = self.eval(variables, run, e)?;
-        if run.decide(&value)? {
+        let holds = run.decide(&value);
+        drop(value);
+        if holds? {
             self.scoped(variables, run, body)
         } else {
             self.exec_else(variables, run, other)
@@ -180,7 +182,9 @@ impl Frame<'_, '_, '_> {
                 depth: self.depth,
             };
             let value = frame.eval(variables, run, e)?;
-            if !run.decide(&value)? {
+            let holds = run.decide(&value);
+            drop(value);
+            if !holds? {
                 return Ok(Flow::On);
             }
             match frame.scoped(variables, run, body)? {
@@ -209,8 +213,13 @@ impl Frame<'_, '_, '_> {
     {
         let whole = self.eval(variables, run, e)?;
         match as_list(&whole) {
-            Some(values) => self.turns(variables, run, x, values.as_slice(), body),
+            Some(values) => {
+                let flow = self.turns(variables, run, x, values.as_slice(), body);
+                drop(whole);
+                flow
+            }
             None => {
+                drop(whole);
                 run.charge()?;
                 Err(Stopped::fault(ScriptFault::WrongKind))
             }

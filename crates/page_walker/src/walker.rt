@@ -82,13 +82,25 @@ impl<'a, 'p> Walker<'a, 'p> {
         };
         let mut variables = Variables::new(alloc);
         let mut run = Run::new(alloc, answers);
-        match frame.block(&mut variables, &mut run, body) {
-            Ok(_flow) => {
-                let path = run.path(alloc, page, End::Normal)?;
-                Ok(WalkerStep::Ends(run.into_response(), path))
+        let outcome = frame.block(&mut variables, &mut run, body);
+        drop(variables);
+        match outcome {
+            Ok(_flow) => match run.path(alloc, page, End::Normal) {
+                Ok(path) => Ok(WalkerStep::Ends(run.into_response(), path)),
+                Err(error) => {
+                    drop(run);
+                    Err(error)
+                }
+            },
+            Err(Stopped::Memory) => {
+                drop(run);
+                Err(AllocError)
             }
-            Err(Stopped::Memory) => Err(AllocError),
-            Err(Stopped::Stop(stop)) => stopped(alloc, page, &run, stop),
+            Err(Stopped::Stop(stop)) => {
+                let step = stopped(alloc, page, &run, stop);
+                drop(run);
+                step
+            }
         }
     }
 }

@@ -1,5 +1,6 @@
 ghost use Rattle.std.specs.Prelude.{◌≡◌, ◌+◌};
 ghost use Rattle.basis.specs.UnlessMemory.{Answers};
+ghost use Rattle.script_meaning.specs.Operands.{first, second};
 ghost use Rattle.script_nodes.specs.Evaluated.{evaluated};
 
 use crate::filling::all_filled;
@@ -42,15 +43,31 @@ fn answer(
 {
     let absent = Value::null();
     let Arguments { first, second, .. } = Arguments::new(operands, &absent);
+    answer_of(alloc, primitive, first, second, operands, request)
+}
+
+/// The same, where the first two operands, or null in their places, are known.
+fn answer_of(
+    alloc: Global,
+    primitive: Primitive,
+    left: &Value,
+    right: &Value,
+    operands: &[Value],
+    request: &Request,
+) -> Result<Called, Faulted>
+    requires left { left.now ≡ first operands.now }
+    requires right { right.now ≡ second operands.now }
+    ensures { Answers (λ c. c) (evaluated request.now primitive.entry operands.now) result }
+{
     match primitive {
         Primitive::Literal(value) => Ok(Called::Value(value.clone()?)),
-        Primitive::Pass => Ok(Called::Value(first.clone()?)),
-        Primitive::Unary(operator) => Ok(Called::Value(unary(operator, first)?)),
+        Primitive::Pass => Ok(Called::Value(left.clone()?)),
+        Primitive::Unary(operator) => Ok(Called::Value(unary(operator, left)?)),
         Primitive::Binary(operator) => {
-            let (left, right) = (Operand::lent(first), Operand::lent(second));
+            let (left, right) = (Operand::lent(left), Operand::lent(right));
             Ok(Called::Value(binary(alloc, operator, left, right)?))
         }
-        Primitive::Index => Ok(Called::Value(indexed(alloc, first, second)?)),
+        Primitive::Index => Ok(Called::Value(indexed(alloc, left, right)?)),
         Primitive::List => Ok(Called::Value(listed(copied(alloc, operands)?)?)),
         Primitive::Builtin(builtin) => call_of(alloc, request, &[], builtin, operands),
         Primitive::OnStore(builtin, store) => {
@@ -60,12 +77,12 @@ fn answer(
             let statements = all_filled(alloc, shapes, operands)?;
             Ok(Called::Operation(transact_op(alloc, statements)?))
         }
-        Primitive::Decide => Ok(Called::Value(Value::bool(bool_in(first)?))),
-        Primitive::Status => Ok(Called::Value(Value::number(status_in(first)? as i64))),
-        Primitive::Echo => Ok(Called::Value(Value::shared_text(printed(alloc, first)?))),
+        Primitive::Decide => Ok(Called::Value(Value::bool(bool_in(left)?))),
+        Primitive::Status => Ok(Called::Value(Value::number(status_in(left)? as i64))),
+        Primitive::Echo => Ok(Called::Value(Value::shared_text(printed(alloc, left)?))),
         Primitive::Call => Ok(Called::Value(Value::null())),
         Primitive::Unknown => Err(OrMemory::Other(ScriptFault::WrongKind)),
-        Primitive::Member(passed) => match as_list(first) {
+        Primitive::Member(passed) => match as_list(left) {
             None => Err(OrMemory::Other(ScriptFault::WrongKind)),
             Some(values) => Ok(Called::Value(Value::bool(passed < values.as_slice().len()))),
         },

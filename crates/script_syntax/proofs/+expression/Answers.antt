@@ -1,3 +1,4 @@
+use Rattle.std.proofs.lemmas.Grind.{common_steps}
 use Rattle.std.proofs.Common.{◌∙◌, ap, sym, refl, arith, ◌∷◌, [], ◌++◌, List, ◌≡◌, ◌-◌, length, map}
 use Rattle.std.proofs.lemmas.Result.{err_from_is_err_and}
 use Rattle.script_tree.specs.Syntax as tree
@@ -454,3 +455,27 @@ query::query_of-returns-in-Update-clause-gives t c =
     (a_name ∷ word w.Set ∷ act (puts (of_sets [])) ∷ assignment
     (more_sets ∷ filtered (act (updated c.args.at) ∷ []))) [] c.update.new.tokens c.update.result
     (λ k vs. refl) c.update.ensures.gives)
+
+pub expression::bracket-returns-clause-shorter : goal.expression::bracket-returns-clause-shorter
+expression::bracket-returns-clause-shorter c = grind (arith, common_steps)
+
+pub expression::prefixed-returns-clause-shorter : goal.expression::prefixed-returns-clause-shorter
+expression::prefixed-returns-clause-shorter c = grind (arith, common_steps)
+
+pub query::delete-returns-clause-shorter : goal.query::delete-returns-clause-shorter
+query::delete-returns-clause-shorter c = grind (arith, common_steps)
+
+pub query::expect-returns-clause-shorter : goal.query::expect-returns-clause-shorter
+query::expect-returns-clause-shorter c = grind (arith, common_steps)
+
+pub query::insert-returns-clause-shorter : goal.query::insert-returns-clause-shorter
+query::insert-returns-clause-shorter c = grind (arith, common_steps)
+
+pub query::select-returns-clause-shorter : goal.query::select-returns-clause-shorter
+query::select-returns-clause-shorter c = grind (arith, common_steps)
+
+pub query::transact-returns-clause-shorter : goal.query::transact-returns-clause-shorter
+query::transact-returns-clause-shorter c = grind (arith, common_steps)
+
+pub query::update-returns-clause-shorter : goal.query::update-returns-clause-shorter
+query::update-returns-clause-shorter c = grind (arith, common_steps)

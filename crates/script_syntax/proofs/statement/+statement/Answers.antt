@@ -1,3 +1,4 @@
+use Rattle.std.proofs.lemmas.Grind.{common_steps}
 use Rattle.std.proofs.Common.{◌∙◌, ap, sym, refl, arith, ◌∷◌, [], ◌≡◌}
 use Rattle.std.proofs.lemmas.Result.{err_from_is_err_and}
 use Rattle.script_tree.specs.Syntax as tree
@@ -91,3 +92,12 @@ statement_of-returns-in-Return-clause-gives t c =
 pub statement_of-returns-in-Do-clause-gives : goal.statement_of-returns-in-Do-clause-gives
 statement_of-returns-in-Do-clause-gives t c =
     rw c.in-Do.is (begin_follows statement_value (word_token c.args.at w.Do) (begin_statement c.args.at w.Do) c.args.tokens.now (operand 6 ∷ word w.Semicolon ∷ act (said (tree.do_ c.args.at)) ∷ []) [] c.do_statement.new.tokens c.do_statement.result (λ k vs. refl) c.do_statement.ensures.gives)
+
+pub for_statement-returns-clause-shorter : goal.for_statement-returns-clause-shorter
+for_statement-returns-clause-shorter c = grind (arith, common_steps)
+
+pub if_statement-returns-clause-shorter : goal.if_statement-returns-clause-shorter
+if_statement-returns-clause-shorter c = grind (arith, common_steps)
+
+pub while_statement-returns-clause-shorter : goal.while_statement-returns-clause-shorter
+while_statement-returns-clause-shorter c = grind (arith, common_steps)

@@ -1,3 +1,4 @@
+use Rattle.std.proofs.lemmas.Grind.{common_steps}
 use Rattle.std.proofs.Common.{◌≡◌, Some, ap, sym, refl, ◌∙◌, subst, map, arith}
 use Rattle.std.proofs.lemmas.Result.{err_from_is_err_and}
 use Rattle.script_tree.specs.Declarations.{callee_in}
@@ -187,9 +188,9 @@ exec_while-loop-value-preserved t c = record {
   within = omega (arith, c.loop-value.invariant.within);
   told = λ at.
       sym (while_turn c.args.self.now.walker.now c.loop-value.left c.args.self.now.depth at c.args.e.now (statements_of c.args.body.now)
-      c.loop-value.variables c.scoped.new.variables c.loop-value.run c.eval.new.run c.decide.new.self c.scoped.new.run c.in_ok-value.value (omega arith)
+      c.loop-value.variables c.scoped.new.variables c.loop-value.run c.eval.new.run c.decide-holds.new.self c.scoped.new.run c.in_ok-value.value (omega arith)
       c.in_ok-value.ensures
-      (c.in_ok-decide.ensures ∙ ap (λ b. goes b c.decide.new.self) c.if-not-branch.false)
+      (c.in_ok-holds.ensures ∙ ap (λ b. goes b c.decide-holds.new.self) c.if-not-branch.false)
       (c.in_ok-scoped.ensures ∙ ap (λ f. goes (flow_of c.scoped.new.variables f) c.scoped.new.run) c.in-On.is))
       ∙ c.loop-value.invariant.told at;
 }
@@ -200,13 +201,13 @@ exec_while-returns-then-left-eq0 t c =
     rw c.fault.ensures
     (sym (c.loop-value.invariant.told at)
     ∙ while_out c.args.self.now.walker.now c.loop-value.left c.args.self.now.depth at c.args.e.now (statements_of c.args.body.now)
-    c.loop-value.variables c.scoped.new.variables c.loop-value.run c.eval.new.run c.decide.new.self c.scoped.new.run c.in_ok-value.value c.if-left-eq0.true
+    c.loop-value.variables c.scoped.new.variables c.loop-value.run c.eval.new.run c.decide-holds.new.self c.scoped.new.run c.in_ok-value.value c.if-left-eq0.true
     c.in_ok-value.ensures
-    (c.in_ok-decide.ensures ∙ ap (λ b. goes b c.decide.new.self) c.if-not-branch.false)
+    (c.in_ok-holds.ensures ∙ ap (λ b. goes b c.decide-holds.new.self) c.if-not-branch.false)
     (c.in_ok-scoped.ensures ∙ ap (λ f. goes (flow_of c.scoped.new.variables f) c.scoped.new.run) c.in-On.is))
 
 pub exec_for-returns-in-Some : goal.exec_for-returns-in-Some
-exec_for-returns-in-Some t c = λ at. rw (c.in_ok-whole.ensures, c.in-Some.ensures, ← c.as_slice.ensures) (c.turns.ensures c.in_ok-whole.whole)
+exec_for-returns-in-Some t c = λ at. rw (c.in_ok-whole.ensures, c.in-Some.ensures, ← c.as_slice.ensures) (c.turns-flow.ensures c.in_ok-whole.whole)
 
 pub eval_call-returns-in-Builtin : goal.eval_call-returns-in-Builtin
 eval_call-returns-in-Builtin t c =
@@ -216,3 +217,78 @@ eval_call-returns-in-Builtin t c =
     let same = c.in-Builtin.ensures.callee ∙ ap (λ program. callee_in program name) c.index.ensures in
     λ at. subst (λ callee. GivesValue c.call_builtin.result c.call_builtin.new.run
     (call_at f c.args.variables.now callee c.args.operands.now p)) same c.call_builtin.ensures
+
+pub all_operands-returns-in_err-operands : goal.all_operands-returns-in_err-operands
+all_operands-returns-in_err-operands c = grind (arith, common_steps)
+
+pub all_operands-loop-query-preserved : goal.all_operands-loop-query-preserved
+all_operands-loop-query-preserved c = grind (arith, common_steps)
+
+pub all_operands-returns : goal.all_operands-returns
+all_operands-returns c = grind (arith, common_steps)
+
+pub arguments-returns-in-None : goal.arguments-returns-in-None
+arguments-returns-in-None c = grind (arith, common_steps)
+
+pub block-returns-in_err-exec : goal.block-returns-in_err-exec
+block-returns-in_err-exec c = grind (arith, common_steps)
+
+pub block-returns-in-Back : goal.block-returns-in-Back
+block-returns-in-Back c = grind (arith, common_steps)
+
+pub block-loop-statement-preserved : goal.block-loop-statement-preserved
+block-loop-statement-preserved c = grind (arith, common_steps)
+
+pub block-returns : goal.block-returns
+block-returns c = grind (arith, common_steps)
+
+pub changes-returns-in_err-value : goal.changes-returns-in_err-value
+changes-returns-in_err-value c = grind (arith, common_steps)
+
+pub changes-loop-assignment-preserved : goal.changes-loop-assignment-preserved
+changes-loop-assignment-preserved c = grind (arith, common_steps)
+
+pub changes-returns : goal.changes-returns
+changes-returns c = grind (arith, common_steps)
+
+pub eval_all-returns-in_err-eval : goal.eval_all-returns-in_err-eval
+eval_all-returns-in_err-eval c = grind (arith, common_steps)
+
+pub eval_all-loop-operand-preserved : goal.eval_all-loop-operand-preserved
+eval_all-loop-operand-preserved c = grind (arith, common_steps)
+
+pub eval_all-returns : goal.eval_all-returns
+eval_all-returns c = grind (arith, common_steps)
+
+pub exec_else-returns-in-None : goal.exec_else-returns-in-None
+exec_else-returns-in-None c = grind (arith, common_steps)
+
+pub exec_while-loop-value-smaller : goal.exec_while-loop-value-smaller
+exec_while-loop-value-smaller c = grind (arith, common_steps)
+
+pub tests-returns-in_err-value : goal.tests-returns-in_err-value
+tests-returns-in_err-value c = grind (arith, common_steps)
+
+pub tests-loop-condition-preserved : goal.tests-loop-condition-preserved
+tests-loop-condition-preserved c = grind (arith, common_steps)
+
+pub tests-returns : goal.tests-returns
+tests-returns c = grind (arith, common_steps)
+
+pub turns-returns-in_err-decide_so : goal.turns-returns-in_err-decide_so
+turns-returns-in_err-decide_so c = grind (arith, common_steps)
+
+pub turns-returns-in_err-turn : goal.turns-returns-in_err-turn
+turns-returns-in_err-turn c = grind (arith, common_steps)
+
+pub turns-returns-in-Back : goal.turns-returns-in-Back
+turns-returns-in-Back c = grind (arith, common_steps)
+
+pub turns-loop-value-preserved : goal.turns-loop-value-preserved
+turns-loop-value-preserved c = grind (arith, common_steps)
+
+pub turns-returns-in_err-decide_so-2 : goal.turns-returns-in_err-decide_so-2
+turns-returns-in_err-decide_so-2 c = grind (arith, common_steps)
+
+pub turns-returns : goal.turns-returns
+turns-returns c = grind (arith, common_steps)

@@ -65,6 +65,7 @@ impl Bodies {
     {
         if self.own.len() != members {
             // No caller comes here.
+            drop(texts);
             return Err(Apart::Memory);
         }
         let room = MOST_BODY_BYTES - self.common;
@@ -75,12 +76,17 @@ impl Bodies {
                 return Ok(());
             }
         }
-        let own = grown(alloc, &texts, self.own.as_slice())?;
+        let Ok(own) = grown(alloc, &texts, self.own.as_slice()) else {
+            drop(texts);
+            return Err(Apart::Memory);
+        };
         let Bounds { least, most } = bounds_of(own.as_slice());
         if room < least {
+            drop(texts);
             return Err(Apart::Fault(ScriptFault::TooLarge));
         }
         if room < most {
+            drop(texts);
             return Err(Apart::Differ);
         }
         self.pieces.push(texts)?;

@@ -151,14 +151,27 @@ fn values<L: Ledger>(
         (answer_at group.now primitive.entry operands.now) result }
 {
     let members = group.requests().len();
-    let mut values = Vec::with_capacity(alloc, members)?;
+    let Ok(mut values) = Vec::with_capacity(alloc, members) else {
+        drop(first);
+        return Err(Apart::Memory);
+    };
     values.push(first)?;
     for member in 1..members {
         match of_member(alloc, primitive, operands, group, member, own, evaluations) {
             Ok(Called::Value(value)) => values.push(value)?,
-            Ok(Called::Operation(_op)) => return Err(Apart::Differ),
-            Err(OrMemory::Other(_fault)) => return Err(Apart::Differ),
-            Err(OrMemory::Memory) => return Err(Apart::Memory),
+            Ok(Called::Operation(op)) => {
+                drop(op);
+                drop(values);
+                return Err(Apart::Differ);
+            }
+            Err(OrMemory::Other(_fault)) => {
+                drop(values);
+                return Err(Apart::Differ);
+            }
+            Err(OrMemory::Memory) => {
+                drop(values);
+                return Err(Apart::Memory);
+            }
         }
     }
     members_keep_their_values();
@@ -185,14 +198,27 @@ fn operations<L: Ledger>(
         (answer_at group.now primitive.entry operands.now) result }
 {
     let members = group.requests().len();
-    let mut ops = Vec::with_capacity(alloc, members)?;
+    let Ok(mut ops) = Vec::with_capacity(alloc, members) else {
+        drop(first);
+        return Err(Apart::Memory);
+    };
     ops.push(first)?;
     for member in 1..members {
         match of_member(alloc, primitive, operands, group, member, own, evaluations) {
             Ok(Called::Operation(op)) => ops.push(op)?,
-            Ok(Called::Value(_value)) => return Err(Apart::Differ),
-            Err(OrMemory::Other(_fault)) => return Err(Apart::Differ),
-            Err(OrMemory::Memory) => return Err(Apart::Memory),
+            Ok(Called::Value(value)) => {
+                drop(value);
+                drop(ops);
+                return Err(Apart::Differ);
+            }
+            Err(OrMemory::Other(_fault)) => {
+                drop(ops);
+                return Err(Apart::Differ);
+            }
+            Err(OrMemory::Memory) => {
+                drop(ops);
+                return Err(Apart::Memory);
+            }
         }
     }
     Ok(Items::from_vec(ops))
@@ -218,7 +244,10 @@ fn faults<L: Ledger>(
     let members = group.requests().len();
     for member in 1..members {
         match of_member(alloc, primitive, operands, group, member, own, evaluations) {
-            Ok(_called) => return Err(Apart::Differ),
+            Ok(called) => {
+                drop(called);
+                return Err(Apart::Differ);
+            }
             Err(OrMemory::Memory) => return Err(Apart::Memory),
             Err(OrMemory::Other(other)) => {
                 if other != fault {
@@ -260,12 +289,14 @@ fn evaluate_so<L: Ledger>(
         }
         Ok(Called::Operation(op)) => {
             if agreed && !may_issue {
+                drop(op);
                 return Ok(Together::TooMany);
             }
             let ops = operations(alloc, primitive, operands, group, op, own, evaluations)?;
             if may_issue {
                 Ok(Together::Operations(ops))
             } else {
+                drop(ops);
                 Ok(Together::TooMany)
             }
         }

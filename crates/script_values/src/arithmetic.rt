@@ -11,26 +11,31 @@ use crate::texts::{grown_text, joined_texts};
 use basis::OrMemory;
 use script_tree::fault::ScriptFault;
 use script_tree::value::{Node, Value};
-use std::alloc::Global;
+use std::alloc::{AllocError, Global};
 
 /// The sum of two numbers, or two texts or two lists behind one another.
 pub fn plus(alloc: Global, a: Operand, b: Operand) -> Result<Value, Faulted>
     ensures { Answers (λ v. v) (plus a.entry b.entry) result }
 {
-    match a.held {
+    let answer = match a.held {
         Held::Lent(value) => match &value.node {
             Node::Number(m) => sum(*m, b.value()),
-            Node::Text(text) => joined_texts(alloc, text, b),
-            Node::List(values) => joined_lists(values.clone()?, b.value()),
+            Node::Text(text) => return joined_texts(alloc, text, b),
+            Node::List(values) => match values.clone() {
+                Ok(values) => joined_lists(values, b.value()),
+                Err(AllocError) => Err(OrMemory::Memory),
+            },
             Node::Null | Node::Bool(_) => wrong_kind(),
         },
         Held::Own(value) => match value.node {
             Node::Number(m) => sum(m, b.value()),
-            Node::Text(text) => grown_text(alloc, text, b),
+            Node::Text(text) => return grown_text(alloc, text, b),
             Node::List(values) => joined_lists(values, b.value()),
             Node::Null | Node::Bool(_) => wrong_kind(),
         },
-    }
+    };
+    drop(b);
+    answer
 }
 
 fn sum(m: i64, b: &Value) -> Result<Value, Faulted>

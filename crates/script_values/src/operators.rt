@@ -34,14 +34,17 @@ pub fn binary(
 ) -> Result<Value, Faulted>
     ensures { Answers (λ v. v) (binary_answer operator left.entry right.entry) result }
 {
-    match operator {
+    let answer = match operator {
         BinaryOperator::Compare(comparison) => compared(comparison, left.value(), right.value()),
-        BinaryOperator::Plus => plus(alloc, left, right),
+        BinaryOperator::Plus => return plus(alloc, left, right),
         BinaryOperator::Minus => minus(left.value(), right.value()),
         BinaryOperator::Times => times(left.value(), right.value()),
         BinaryOperator::Quotient => quotient(left.value(), right.value()),
         BinaryOperator::Remainder => remainder(left.value(), right.value()),
-    }
+    };
+    drop(left);
+    drop(right);
+    answer
 }
 
 fn inverted(operand: &Value) -> Result<Value, Faulted>

@@ -9,6 +9,7 @@ use crate::faults::{Faulted, if_within_limits};
 use crate::kinds::{text_in, wrong_kind};
 use crate::lists::part;
 use crate::operand::Operand;
+use basis::OrMemory;
 use itoa::Buffer;
 use script_tree::text::Text;
 use script_tree::value::{Node, Value};
@@ -32,10 +33,23 @@ fn text_of(alloc: Global, bytes: Vec<u8>) -> Result<Value, Faulted>
 pub fn grown_text(alloc: Global, mut text: Arc<Text>, more: Operand) -> Result<Value, Faulted>
     ensures { Answers (λ v. v) (plus (texted text.value) more.entry) result }
 {
-    if grows(alloc, &mut text, text_in(more.value())?)? {
-        if_within_limits(Value::shared_text(text))
-    } else {
-        joined_texts(alloc, &text, more)
+    let grown = match text_in(more.value()) {
+        Ok(behind) => grows(alloc, &mut text, behind),
+        Err(fault) => {
+            drop(more);
+            return Err(fault);
+        }
+    };
+    match grown {
+        Ok(true) => {
+            drop(more);
+            if_within_limits(Value::shared_text(text))
+        }
+        Ok(false) => joined_texts(alloc, &text, more),
+        Err(AllocError) => {
+            drop(more);
+            Err(OrMemory::Memory)
+        }
     }
 }
 
@@ -60,12 +74,31 @@ fn grows(alloc: Global, text: &mut Arc<Text>, more: &Text) -> Result<bool, Alloc
 pub fn joined_texts(alloc: Global, text: &Text, more: Operand) -> Result<Value, Faulted>
     ensures { Answers (λ v. v) (plus (texted text.now) more.entry) result }
 {
-    let behind = text_in(more.value())?.as_bytes();
-    let room = text.len().saturating_add(behind.len());
-    let mut bytes = Vec::with_capacity(alloc, room.max(LEAST_ROOM))?;
-    bytes.extend_from_slice(text.as_bytes())?;
-    bytes.extend_from_slice(behind)?;
-    if_within_limits(more.replaced(alloc, Text::from_vec(bytes))?)
+    let joined = match text_in(more.value()) {
+        Ok(behind) => joined_bytes(alloc, text.as_bytes(), behind.as_bytes()),
+        Err(fault) => {
+            drop(more);
+            return Err(fault);
+        }
+    };
+    match joined {
+        Ok(bytes) => if_within_limits(more.replaced(alloc, Text::from_vec(bytes))?),
+        Err(AllocError) => {
+            drop(more);
+            Err(OrMemory::Memory)
+        }
+    }
+}
+
+/// Bytes, and others behind them.
+fn joined_bytes(alloc: Global, bytes: &[u8], behind: &[u8]) -> Result<Vec<u8>, AllocError>
+    ensures { IfOk result (λ joined. joined.items ≡ bytes.now ++ behind.now) }
+{
+    let room = bytes.len().saturating_add(behind.len());
+    let mut joined = Vec::with_capacity(alloc, room.max(LEAST_ROOM))?;
+    joined.extend_from_slice(bytes)?;
+    joined.extend_from_slice(behind)?;
+    Ok(joined)
 }
 
 /// The part of a text between two places.

@@ -91,11 +91,21 @@ fn checked(statement: Unchecked) -> Result<Statement, Faulted>
             count,
             table,
             tests,
-        } => Ok(Statement::Expect {
-            count: number_in(&count)?,
-            table,
-            tests,
-        }),
+        } => {
+            let told = number_in(&count);
+            drop(count);
+            match told {
+                Ok(count) => Ok(Statement::Expect {
+                    count,
+                    table,
+                    tests,
+                }),
+                Err(fault) => {
+                    drop(tests);
+                    Err(fault)
+                }
+            }
+        }
     }
 }
 

@@ -29,7 +29,7 @@ loop-member-preserved g c =
 pub returns-in-Ok-clause-apart : goal.returns-in-Ok-clause-apart
 returns-in-Ok-clause-apart g c =
     let f = answer_at c.args.group.now c.args.primitive c.args.operands.now in
-    goes_alone (length c.args.group.now) f c.loop-member.member (search rules) c.in-Ok._called c.args.fault c.requires c.in-Ok.ensures.answers
+    goes_alone (length c.args.group.now) f c.loop-member.member (search rules) c.in-Ok.called c.args.fault c.requires c.in-Ok.ensures.answers
 
 pub returns-then-ne-clause-apart : goal.returns-then-ne-clause-apart
 returns-then-ne-clause-apart g c =

@@ -24,7 +24,7 @@ returns-in-Ok-Value-clause-apart g c =
     let qs = c.args.group.now in
     let ms = c.args.operands.now in
     let i = c.loop-member.member in
-    absurd (one_kind (request_at qs i) (request_at qs 0) c.args.primitive (members_at i ms) (members_at 0 ms) c.in-Ok-Value._value c.args.first
+    absurd (one_kind (request_at qs i) (request_at qs 0) c.args.primitive (members_at i ms) (members_at 0 ms) c.in-Ok-Value.value c.args.first
     (c.in-Ok-Value.ensures.answers ∙ ap Ok c.in-Ok-Value.field-0-is) c.requires)
 
 pub returns-in-Err-Other-clause-apart : goal.returns-in-Err-Other-clause-apart

@@ -24,7 +24,7 @@ returns-in-Ok-Operation-clause-apart g c =
     let qs = c.args.group.now in
     let ms = c.args.operands.now in
     let i = c.loop-member.member in
-    absurd (one_kind (request_at qs 0) (request_at qs i) c.args.primitive (members_at 0 ms) (members_at i ms) c.args.first c.in-Ok-Operation._op
+    absurd (one_kind (request_at qs 0) (request_at qs i) c.args.primitive (members_at 0 ms) (members_at i ms) c.args.first c.in-Ok-Operation.op
     c.requires (c.in-Ok-Operation.ensures.answers ∙ ap Ok c.in-Ok-Operation.field-0-is))
 
 pub returns-in-Err-Other-clause-apart : goal.returns-in-Err-Other-clause-apart

@@ -3,11 +3,12 @@ ghost use Rattle.script_tree.specs.Programs.{Program as AnyProgram};
 ghost use Rattle.script_code.specs.Translated.{IsCodeOf};
 ghost use Rattle.log_checker.specs.Faults.{IsFaultOr};
 ghost use Rattle.period.specs.Groups.{IsSome};
-ghost use Rattle.group_runner.specs.MembersTold.{IsGroupRunOf};
+ghost use Rattle.group_runner.specs.MembersTold.{IsGroupRunOf, IsMemberOf};
 ghost use Rattle.group_runner.specs.Told.{fault_of, steps_of};
 
 use crate::evidence::Evidence;
 use crate::findings::Findings;
+use crate::member::Member;
 use crate::runner::Runner;
 use audit_meaning::reason::Reason;
 use basis::OrMemory;
@@ -33,15 +34,33 @@ fn run_members(runner: Runner<'_>, first_rid: u32, others: &[u32]) -> Result<Gro
     ensures { (program : AnyProgram) → IsCodeOf program runner.entry.code.now
         → IfOk result (IsGroupRunOf program runner.entry.evidence.now first_rid others.now) }
 {
-    let evidence = runner.evidence;
     let first = runner.member(first_rid)?;
+    let run = run_beside(runner, &first, first_rid, others);
+    drop(first);
+    run
+}
+
+/// The same, where this is what the first member leaves.
+fn run_beside(
+    runner: Runner<'_>,
+    first: &Member,
+    first_rid: u32,
+    others: &[u32],
+) -> Result<GroupRun, AllocError>
+    ensures { (program : AnyProgram) → IsCodeOf program runner.entry.code.now
+        → IsMemberOf program runner.entry.evidence.now first_rid first.now
+        → IfOk result (IsGroupRunOf program runner.entry.evidence.now first_rid others.now) }
+{
+    let evidence = runner.evidence;
     let mut findings = first.findings(first_rid, evidence.count(first_rid))?;
     let mut steps = u64::from(first.steps);
     for rid in others {
         let member = runner.member(*rid)?;
-        let beside = member.findings_beside(&first, *rid, evidence.count(*rid))?;
-        findings = findings.and(beside);
-        steps = together(steps, u64::from(member.steps))?;
+        let more = u64::from(member.steps);
+        let beside = member.findings_beside(first, *rid, evidence.count(*rid));
+        drop(member);
+        findings = findings.and(beside?);
+        steps = together(steps, more)?;
     }
     Ok(GroupRun { findings, steps })
 }

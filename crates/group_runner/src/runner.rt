@@ -1,4 +1,4 @@
-ghost use Rattle.std.specs.Prelude.{◌≡◌, ℕ, List, Some, None, is_some, IfOk, IsTrue};
+ghost use Rattle.std.specs.Prelude.{◌≡◌, ℕ, List, [], Some, None, is_some, IfOk, IsTrue};
 ghost use Rattle.script_tree.specs.Datum.{Datum};
 ghost use Rattle.script_tree.specs.Programs.{Program as AnyProgram};
 ghost use Rattle.script_tree.specs.Requests.{Request as AnyRequest};
@@ -85,23 +85,37 @@ impl<'a> Runner<'a> {
             → IfOk result (IsRunOf program self.now.evidence.now rid request) }
         ensures stopped { IfOk result (λ run. IsStopped run.machine) }
     {
-        let count = self.evidence.count(rid);
         let mut machine = Machine::start(self.alloc, self.code, request);
+        match self.run_on(&mut machine, rid) {
+            Ok((done, step)) => Ok(Run {
+                machine,
+                done,
+                step,
+            }),
+            Err(error) => {
+                drop(machine);
+                Err(error)
+            }
+        }
+    }
+
+    /// Runs a machine from its start in the same way. How many operations were answered is told, and
+    /// what the machine wants then, or how its run ended.
+    fn run_on(&self, machine: &mut Machine<'a>, rid: u32) -> Result<(u32, MachineStep), AllocError>
+        requires { IsReady machine.old }
+        ensures run { (program : AnyProgram) (q : AnyRequest) → Follows program q [] machine.old
+            → IfOk result (λ ran. IsRunOf program self.now.evidence.now rid q
+            (record { machine = machine.new; done = ran.0; step = ran.1 })) }
+        ensures stopped { IfOk result (λ ran. IsStopped machine.new) }
+    {
+        let count = self.evidence.count(rid);
         for done in 0..count {
-            if let Some(step) = self.go_on(&mut machine, rid, done + 1)? {
-                return Ok(Run {
-                    machine,
-                    done,
-                    step,
-                });
+            if let Some(step) = self.go_on(machine, rid, done + 1)? {
+                return Ok((done, step));
             }
         }
         let step = machine.run()?;
-        Ok(Run {
-            machine,
-            done: count,
-            step,
-        })
+        Ok((count, step))
     }
 
     /// Runs a machine up to its next operation, and answers that where it is the one of this number
@@ -120,12 +134,17 @@ impl<'a> Runner<'a> {
             → IfOk result (GoesOn program q answers self.now.evidence.now rid number machine.new) }
     {
         let step = machine.run()?;
-        match self.answer(rid, number, &step)? {
-            Some(answer) => {
+        match self.answer(rid, number, &step) {
+            Ok(Some(answer)) => {
+                drop(step);
                 machine.answer(answer)?;
                 Ok(None)
             }
-            None => Ok(Some(step)),
+            Ok(None) => Ok(Some(step)),
+            Err(error) => {
+                drop(step);
+                Err(error)
+            }
         }
     }
 
@@ -176,7 +195,9 @@ impl<'a> Runner<'a> {
         let request = self.evidence.trace().request(self.alloc, place)?;
         let page = page_number(self.code, request.path());
         let run = self.run(rid, request)?;
-        self.left_by(place, page, &run)
+        let member = self.left_by(place, page, &run);
+        drop(run);
+        member
     }
 
     /// What a run leaves of the request that stands here, on the page of this number.

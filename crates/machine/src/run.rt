@@ -73,13 +73,15 @@ impl<'c> Run<'c> {
         ensures charges { Charges self.old result self.new }
     {
         let operand = self.state.pop()?;
-        if self.state.account.decide(operand.value())? {
-            self.place = place + 1;
-            Ok(Went::On)
-        } else {
+        let holds = self.state.account.decide(operand.value());
+        if let Ok(false) = holds {
             self.state.stack.push(operand)?;
-            self.jump(place, count, len)
+            return self.jump(place, count, len);
         }
+        drop(operand);
+        holds?;
+        self.place = place + 1;
+        Ok(Went::On)
     }
 
     #[inline(never)]
@@ -89,13 +91,15 @@ impl<'c> Run<'c> {
         ensures charges { Charges self.old result self.new }
     {
         let operand = self.state.pop()?;
-        if self.state.account.decide(operand.value())? {
+        let holds = self.state.account.decide(operand.value());
+        if let Ok(true) = holds {
             self.state.stack.push(operand)?;
-            self.jump(place, count, len)
-        } else {
-            self.place = place + 1;
-            Ok(Went::On)
+            return self.jump(place, count, len);
         }
+        drop(operand);
+        holds?;
+        self.place = place + 1;
+        Ok(Went::On)
     }
 
     #[inline(always)]
@@ -105,7 +109,9 @@ impl<'c> Run<'c> {
         ensures charges { Charges self.old result self.new }
     {
         let operand = self.state.pop()?;
-        if self.state.account.decide(operand.value())? {
+        let holds = self.state.account.decide(operand.value());
+        drop(operand);
+        if holds? {
             self.place = place + 1;
             Ok(Went::On)
         } else {
@@ -120,7 +126,9 @@ impl<'c> Run<'c> {
         ensures charges { Charges self.old result self.new }
     {
         let operand = self.state.pop()?;
-        if self.state.account.decide(operand.value())? {
+        let holds = self.state.account.decide(operand.value());
+        drop(operand);
+        if holds? {
             self.place = place.saturating_sub(count);
         } else {
             self.place = place + 1;
@@ -151,10 +159,23 @@ impl<'c> Run<'c> {
         ensures turns { Turns whole.entry left.entry out back self.old result self.new }
         ensures charges { Charges self.old result self.new }
     {
-        match left.next()? {
-            NextMember::NoList => self.no_list(),
-            NextMember::Over => self.go_out(out),
-            NextMember::Member(value) => self.go_back(whole, left, value, back),
+        match left.next() {
+            Ok(NextMember::Member(value)) => self.go_back(whole, left, value, back),
+            Ok(NextMember::NoList) => {
+                drop(whole);
+                drop(left);
+                self.no_list()
+            }
+            Ok(NextMember::Over) => {
+                drop(whole);
+                drop(left);
+                self.go_out(out)
+            }
+            Err(_) => {
+                drop(whole);
+                drop(left);
+                Err(Stopped::Memory)
+            }
         }
     }
 
@@ -192,7 +213,12 @@ impl<'c> Run<'c> {
             → Turns whole.entry left' out back self.old result self.new }
         ensures charges { Charges self.old result self.new }
     {
-        self.state.account.decide_so(true)?;
+        if let Err(stopped) = self.state.account.decide_so(true) {
+            drop(whole);
+            drop(left);
+            drop(value);
+            return Err(stopped);
+        }
         self.state.begin_turn(whole, left, value)?;
         self.place = back;
         Ok(Went::On)
@@ -217,12 +243,26 @@ impl<'c> Run<'c> {
     {
         let alloc = self.state.alloc;
         let (stack, room) = self.frames.room(alloc);
-        let values = self.state.stack.take_into(alloc, count, room)?;
-        self.state.account.charge()?;
+        let values = match self.state.stack.take_into(alloc, count, room) {
+            Ok(values) => values,
+            Err(_) => {
+                drop(stack);
+                return Err(Stopped::Memory);
+            }
+        };
+        if let Err(stopped) = self.state.account.charge() {
+            drop(values);
+            drop(stack);
+            return Err(stopped);
+        }
         let Some(start) = functions.get(function) else {
+            drop(values);
+            drop(stack);
             return Err(Stopped::Fault(ScriptFault::OutOfSteps));
         };
         if self.frames.len() == MOST_CALL_DEPTH as usize {
+            drop(values);
+            drop(stack);
             return Err(Stopped::Fault(ScriptFault::TooDeep));
         }
         let frame = Frame {

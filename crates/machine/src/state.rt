@@ -70,8 +70,20 @@ impl<'c> State<'c> {
         ensures rises { Rises self.old result self.new }
     {
         let operand = self.pop()?;
+        let done = self.unary_of(operator, operand.value());
+        drop(operand);
+        done
+    }
+
+    /// Does a unary operator on a value that was taken.
+    #[inline(always)]
+    fn unary_of(&mut self, operator: UnaryOperator, operand: &Value) -> Result<Went, Stopped>
+        ensures does { Does (instruction.Unary operator)
+            (record self.old { stack = operand.now ∷ self.old.stack }) result self.new }
+        ensures rises { Rises self.old result self.new }
+    {
         self.account.charge()?;
-        let value = script_values::unary(operator, operand.value())?;
+        let value = script_values::unary(operator, operand)?;
         self.stack.push(Operand::own(value))?;
         Ok(Went::On)
     }
@@ -82,8 +94,18 @@ impl<'c> State<'c> {
         ensures rises { Rises self.old result self.new }
     {
         let right = self.pop()?;
-        let left = self.pop()?;
-        self.account.charge()?;
+        let left = match self.pop() {
+            Ok(left) => left,
+            Err(stopped) => {
+                drop(right);
+                return Err(stopped);
+            }
+        };
+        if let Err(stopped) = self.account.charge() {
+            drop(left);
+            drop(right);
+            return Err(stopped);
+        }
         let value = script_values::binary(self.alloc, operator, left, right)?;
         self.stack.push(Operand::own(value))?;
         Ok(Went::On)
@@ -102,7 +124,10 @@ impl<'c> State<'c> {
     {
         self.account.charge()?;
         let left = self.pop()?;
-        self.account.charge()?;
+        if let Err(stopped) = self.account.charge() {
+            drop(left);
+            return Err(stopped);
+        }
         let value = script_values::binary(self.alloc, operator, left, Operand::lent(value))?;
         self.stack.push(Operand::own(value))?;
         Ok(Went::On)
@@ -121,7 +146,10 @@ impl<'c> State<'c> {
     {
         self.account.charge()?;
         let left = self.pop()?;
-        self.account.charge()?;
+        if let Err(stopped) = self.account.charge() {
+            drop(left);
+            return Err(stopped);
+        }
         let right = match self.slots.get(slot) {
             Some(value) => Operand::lent(value),
             None => Operand::own(Value::null()),
@@ -140,8 +168,18 @@ impl<'c> State<'c> {
         ensures rises { Rises self.old result self.new }
     {
         let right = self.pop()?;
-        let left = self.pop()?;
-        self.account.charge()?;
+        let left = match self.pop() {
+            Ok(left) => left,
+            Err(stopped) => {
+                drop(right);
+                return Err(stopped);
+            }
+        };
+        if let Err(stopped) = self.account.charge() {
+            drop(left);
+            drop(right);
+            return Err(stopped);
+        }
         self.let_go(slot);
         let value = script_values::binary(self.alloc, operator, left, right)?;
         self.account.charge()?;
@@ -178,9 +216,34 @@ impl<'c> State<'c> {
         ensures rises { Rises self.old result self.new }
     {
         let place = self.pop()?;
+        let done = self.index_at(place.value());
+        drop(place);
+        done
+    }
+
+    /// Does an index by a value that was taken.
+    #[inline(always)]
+    fn index_at(&mut self, place: &Value) -> Result<Went, Stopped>
+        ensures does { Does instruction.Index
+            (record self.old { stack = place.now ∷ self.old.stack }) result self.new }
+        ensures rises { Rises self.old result self.new }
+    {
         let whole = self.pop()?;
+        let done = self.index_of(whole.value(), place);
+        drop(whole);
+        done
+    }
+
+    /// The same where what has the index was taken too.
+    #[inline(always)]
+    fn index_of(&mut self, whole: &Value, place: &Value) -> Result<Went, Stopped>
+        ensures does { Does instruction.Index
+            (record self.old { stack = place.now ∷ whole.now ∷ self.old.stack })
+            result self.new }
+        ensures rises { Rises self.old result self.new }
+    {
         self.account.charge()?;
-        let value = script_values::indexed(self.alloc, whole.value(), place.value())?;
+        let value = script_values::indexed(self.alloc, whole, place)?;
         self.stack.push(Operand::own(value))?;
         Ok(Went::On)
     }
@@ -247,7 +310,10 @@ impl<'c> State<'c> {
             → Calls c self.old result self.new }
         ensures rises { Rises self.old result self.new }
     {
-        self.account.charge()?;
+        if let Err(stopped) = self.account.charge() {
+            drop(called);
+            return Err(stopped);
+        }
         match called? {
             Called::Value(value) => {
                 self.stack.push(Operand::own(value))?;

@@ -70,18 +70,29 @@ impl<'c> Waiting<'c> {
             code,
             group,
             mut run,
-            ops: _,
+            ops,
         } = self;
+        drop(ops);
         match run.answer(answers, group.requests().len()) {
             Ok(true) => go_on(code, group, run, evaluations),
             Ok(false) => {
                 let ended = Ended::at_fault(&run, End::AnswerFault, ScriptFault::TooLarge);
+                drop(run);
+                drop(group);
                 Ok(GroupStep::Ends(ended))
             }
-            Err(Apart::Differ) => Ok(GroupStep::Differ),
+            Err(Apart::Differ) => {
+                drop(run);
+                drop(group);
+                Ok(GroupStep::Differ)
+            }
             // An answer is no fault of its own.
             Err(Apart::Fault(_)) => unreachable!(),
-            Err(Apart::Memory) => Err(AllocError),
+            Err(Apart::Memory) => {
+                drop(run);
+                drop(group);
+                Err(AllocError)
+            }
         }
     }
 }
@@ -173,13 +184,26 @@ fn go_on<'c, L: Ledger>(
             run,
             ops,
         })),
-        Ok(Went::Over) => Ok(GroupStep::Ends(Ended::normal(run))),
+        Ok(Went::Over) => {
+            drop(group);
+            Ok(GroupStep::Ends(Ended::normal(run)))
+        }
         Err(Apart::Fault(fault)) => {
             let ended = Ended::at_fault(&run, End::Fault(fault), fault);
+            drop(run);
+            drop(group);
             Ok(GroupStep::Ends(ended))
         }
-        Err(Apart::Differ) => Ok(GroupStep::Differ),
+        Err(Apart::Differ) => {
+            drop(run);
+            drop(group);
+            Ok(GroupStep::Differ)
+        }
         // No run stops where there is more to do.
-        Ok(Went::On) | Err(Apart::Memory) => Err(AllocError),
+        Ok(Went::On) | Err(Apart::Memory) => {
+            drop(run);
+            drop(group);
+            Err(AllocError)
+        }
     }
 }

@@ -58,6 +58,7 @@ impl Run {
             .decide(alloc, Primitive::Decide, operands, group, evaluations)
         {
             Ok(true) => {
+                drop(values);
                 self.pass(0)?;
                 Ok(Went::On)
             }
@@ -66,7 +67,10 @@ impl Run {
                 self.pass(count)?;
                 Ok(Went::On)
             }
-            Err(apart) => Err(apart),
+            Err(apart) => {
+                drop(values);
+                Err(apart)
+            }
         }
     }
 
@@ -94,10 +98,14 @@ impl Run {
                 Ok(Went::On)
             }
             Ok(false) => {
+                drop(values);
                 self.pass(0)?;
                 Ok(Went::On)
             }
-            Err(apart) => Err(apart),
+            Err(apart) => {
+                drop(values);
+                Err(apart)
+            }
         }
     }
 

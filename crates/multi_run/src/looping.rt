@@ -45,6 +45,7 @@ impl Run {
         let alloc = self.state.alloc;
         let (lists, passed) = self.state.stack.pop_loop()?;
         let Some(more) = passed.checked_add(1) else {
+            drop(lists);
             return Err(Apart::Memory);
         };
         let operands = slice::from_ref(&lists);
@@ -63,10 +64,14 @@ impl Run {
                 Ok(Went::On)
             }
             Ok(false) => {
+                drop(lists);
                 self.pass(0)?;
                 Ok(Went::On)
             }
-            Err(apart) => Err(apart),
+            Err(apart) => {
+                drop(lists);
+                Err(apart)
+            }
         }
     }
 }

@@ -35,7 +35,9 @@ pub fn replay_by<R: Runner>(
 {
     let events = IndexedTrace::new(alloc, trace)?;
     let mut stage = Stage::new(alloc, index, start, events)?;
-    difference_on(alloc, runner, &mut stage, schedule)
+    let difference = difference_on(alloc, runner, &mut stage, schedule);
+    drop(stage);
+    difference
 }
 
 /// Where the schedule first differs, played on this stage.
@@ -74,7 +76,9 @@ fn difference(
     ensures { IfOk result (IsDifference program.now start trace.now schedule.now) }
 {
     let index = Index::new(alloc, program)?;
-    replay_by(alloc, &PlainRunner, &index, start, trace, schedule)
+    let difference = replay_by(alloc, &PlainRunner, &index, start, trace, schedule);
+    drop(index);
+    difference
 }
 
 /// Replays a schedule against a trace, moment by moment, from what these objects hold; the offset

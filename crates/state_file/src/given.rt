@@ -1,7 +1,7 @@
-ghost use Rattle.std.specs.Prelude.{◌≡◌, pos, Some, IfOk, IfSome, option_map};
+ghost use Rattle.std.specs.Prelude.{◌≡◌, true, pos, Some, IfOk, IfSome, option_map};
 ghost use Rattle.serde_json.specs.View.{view, members_view};
-ghost use Rattle.json_texts.specs.Shapes.{read_or, StandOnce};
-ghost use Rattle.state_file.specs.Givens.{clock_of, whole};
+ghost use Rattle.json_texts.specs.Shapes.{have_names, read_or, StandOnce};
+ghost use Rattle.state_file.specs.Givens.{clock_of, member_names, whole};
 ghost use Rattle.state_file.specs.Givens.{given_in, given_of};
 
 use crate::value::{value_of, values_of};
@@ -38,18 +38,28 @@ fn given_in(alloc: Global, mut members: Map<String, Json>) -> Result<Option<Give
     ensures once { IfOk result (λ o. IfSome o (λ given. StandOnce given.stores)) }
 {
     if !have_names(&members, &["registers", "stores", "tables", "clock"]) {
+        drop(members);
         return Ok(None);
     }
+    let given = parts_in(alloc, &mut members);
+    drop(members);
+    given
+}
+
+/// The same where no member has another name; the members that are read are taken out.
+fn parts_in(alloc: Global, members: &mut Map<String, Json>) -> Result<Option<Given>, AllocError>
+    requires { have_names member_names (members_view members.old.entries) ≡ true }
+    ensures given { IfOk result (λ o. o ≡ given_in (members_view members.old.entries)) }
+    ensures once { IfOk result (λ o. IfSome o (λ given. StandOnce given.stores)) }
+{
     let registers = members.remove("registers");
+    let registers = array_or_empty::<EntryShape>(alloc, registers)?;
     let stores = members.remove("stores");
+    let stores = object_or_empty::<EntriesShape>(alloc, stores)?;
     let tables = members.remove("tables");
+    let tables = object_or_empty::<RowsShape>(alloc, tables)?;
     let clock = members.remove("clock");
-    Ok(whole(
-        array_or_empty::<EntryShape>(alloc, registers)?,
-        object_or_empty::<EntriesShape>(alloc, stores)?,
-        object_or_empty::<RowsShape>(alloc, tables)?,
-        given_clock(clock),
-    ))
+    Ok(whole(registers, stores, tables, given_clock(clock)))
 }
 
 /// All parts together, where each is there.

@@ -42,7 +42,9 @@ pub fn stored(
 {
     let index = Index::new(alloc, program)?;
     let objects = ObjectSet::new(alloc, program.declarations())?;
-    stored_in(objects, &index, given)
+    let stored = stored_in(objects, &index, given);
+    drop(index);
+    stored
 }
 
 /// These objects, which hold nothing yet, with what is given.
@@ -57,9 +59,13 @@ fn stored_in(
     ensures { UnlessMemory (IsStored index.now given) (HasGivenFault index.now given) result }
 {
     if !are_declared(&objects, index, &given) {
+        drop(objects);
+        drop(given);
         return Err(OrMemory::Other(StateFault::Undeclared));
     }
     if !are_within_limits(&given) {
+        drop(objects);
+        drop(given);
         return Err(OrMemory::Other(StateFault::BeyondLimit));
     }
     all_stored_in(objects, index, given)
@@ -78,10 +84,16 @@ fn all_stored_in(
     requires within { are_within_limits given ≡ true }
     ensures { UnlessMemory (IsStored index.now given) (HasGivenFault index.now given) result }
 {
-    if put_all(&mut objects, index, given)? {
-        Ok(objects)
-    } else {
-        Err(OrMemory::Other(StateFault::Unstorable))
+    match put_all(&mut objects, index, given) {
+        Ok(true) => Ok(objects),
+        Ok(false) => {
+            drop(objects);
+            Err(OrMemory::Other(StateFault::Unstorable))
+        }
+        Err(AllocError) => {
+            drop(objects);
+            Err(OrMemory::Memory)
+        }
     }
 }
 
@@ -133,11 +145,20 @@ fn put_all(objects: &mut ObjectSet, index: &Index, given: Given) -> Result<bool,
         tables,
         clock,
     } = given;
-    if !put_registers(objects, registers.into_vec())? {
-        return Ok(false);
+    match put_registers(objects, registers.into_vec()) {
+        Ok(true) => {}
+        unstored => {
+            drop(stores);
+            drop(tables);
+            return unstored;
+        }
     }
-    if !put_stores(objects, stores.into_vec())? {
-        return Ok(false);
+    match put_stores(objects, stores.into_vec()) {
+        Ok(true) => {}
+        unstored => {
+            drop(tables);
+            return unstored;
+        }
     }
     if !put_tables(objects, index, tables.into_vec())? {
         return Ok(false);

@@ -1,9 +1,9 @@
-ghost use Rattle.std.specs.Prelude.{◌≡◌, IfOk, option_and_then, option_map};
+ghost use Rattle.std.specs.Prelude.{◌≡◌, true, IfOk, option_and_then, option_map};
 ghost use Rattle.serde_json.specs.View.{view, members_view};
-ghost use Rattle.json_texts.specs.Shapes.{read_or};
+ghost use Rattle.json_texts.specs.Shapes.{have_names, read_or};
 ghost use Rattle.json_texts.specs.Texts.{text_of};
 ghost use Rattle.script_tree.specs.Requests.{IsRequestOf};
-ghost use Rattle.workload.specs.Jobs.{job_in, job_with};
+ghost use Rattle.workload.specs.Jobs.{job_in, job_with, member_names};
 
 use json_texts::shape::{Shape, array_or_empty, have_names, pair_of};
 use json_texts::text::text_of;
@@ -69,18 +69,28 @@ fn job_in(alloc: Global, mut members: Map<String, Json>) -> Result<Option<Job>, 
     ensures { IfOk result (λ o. o ≡ job_in (members_view members.entries)) }
 {
     if !have_names(&members, &["path", "method", "params", "body"]) {
+        drop(members);
         return Ok(None);
     }
+    let job = parts_in(alloc, &mut members);
+    drop(members);
+    job
+}
+
+/// The same where no member has another name; the members that are read are taken out.
+fn parts_in(alloc: Global, members: &mut Map<String, Json>) -> Result<Option<Job>, AllocError>
+    requires { have_names member_names (members_view members.old.entries) ≡ true }
+    ensures { IfOk result (λ o. o ≡ job_in (members_view members.old.entries)) }
+{
     let method = members.remove("method");
+    let method = text_or(alloc, method, "GET")?;
     let path = members.remove("path");
+    let path = text_there(alloc, path)?;
     let parameters = members.remove("params");
+    let parameters = array_or_empty::<ParameterShape>(alloc, parameters)?;
     let body = members.remove("body");
-    Ok(job_with(
-        text_or(alloc, method, "GET")?,
-        text_there(alloc, path)?,
-        array_or_empty::<ParameterShape>(alloc, parameters)?,
-        text_or(alloc, body, "")?,
-    ))
+    let body = text_or(alloc, body, "")?;
+    Ok(job_with(method, path, parameters, body))
 }
 
 /// All parts together, where each is there.

@@ -7,7 +7,7 @@ ghost use Rattle.workload.specs.Files.{AreRequests};
 ghost use Rattle.workload.specs.OneByOne.{BeginWithJob, BeginWithJobs};
 
 use crate::job::JobShape;
-use crate::requests::Requests;
+use crate::requests::{Requests, packed};
 use crate::tree::tree_of;
 use basis::Items;
 use json::{Error, Reader, Scratch, Token, Value as Borrowed};
@@ -16,7 +16,6 @@ use script_tree::limits::MOST_REQUESTS;
 use script_tree::request::Request;
 use std::alloc::{AllocError, Global};
 use std::str::from_utf8;
-use trace_format::packed::PackedRequest;
 
 /// How deep a job may nest: `serde_json` takes 127 levels, of which the array of jobs is one.
 const JOB_DEPTH: usize = 126;
@@ -63,13 +62,6 @@ fn jobs_left(alloc: Global, reader: &mut Reader<'_>) -> Result<Option<Requests>,
     Ok(Some(Items::from_vec(requests)))
 }
 
-/// The request in one piece of memory; the one with many is let go.
-fn packed(alloc: Global, request: Request) -> Result<PackedRequest, AllocError>
-    ensures { IfOk result (λ packed. packed ≡ request) }
-{
-    PackedRequest::pack(alloc, &request)
-}
-
 /// The request of the job that comes next.
 fn next_job(alloc: Global, reader: &mut Reader<'_>) -> Result<Option<Request>, AllocError>
     ensures read { IfOk result
@@ -82,7 +74,9 @@ fn next_job(alloc: Global, reader: &mut Reader<'_>) -> Result<Option<Request>, A
         Err(Error::OutOfMemory) => return Err(AllocError),
         Err(Error::Invalid | Error::TooLong | Error::DuplicateKey) => return Ok(None),
     };
-    let Some(tree) = tree_of(alloc, &value)? else {
+    let tree = tree_of(alloc, &value);
+    drop(value);
+    let Some(tree) = tree? else {
         return Ok(None);
     };
     match JobShape::read(alloc, tree)? {

@@ -13,6 +13,7 @@ use basis::{Items, OrMemory};
 use json_texts::shape::array_of;
 use json_texts::{NotJson, read_json};
 use script_tree::limits::MOST_REQUESTS;
+use script_tree::request::Request;
 use std::alloc::{AllocError, Global};
 use trace_format::packed::PackedRequest;
 
@@ -64,9 +65,18 @@ fn all_requests(alloc: Global, jobs: Vec<Job>) -> Result<Option<Requests>, Alloc
     let mut requests = Vec::with_capacity(alloc, jobs.len())?;
     for job in jobs {
         match job.into_request() {
-            Some(request) => requests.push(PackedRequest::pack(alloc, &request)?)?,
+            Some(request) => requests.push(packed(alloc, request)?)?,
             None => return Ok(None),
         }
     }
     Ok(Some(Items::from_vec(requests)))
+}
+
+/// The request in one piece of memory; the one with many is let go.
+pub(crate) fn packed(alloc: Global, request: Request) -> Result<PackedRequest, AllocError>
+    ensures { IfOk result (λ packed. packed ≡ request) }
+{
+    let packed = PackedRequest::pack(alloc, &request);
+    drop(request);
+    packed
 }

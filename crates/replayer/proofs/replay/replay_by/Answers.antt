@@ -9,7 +9,7 @@ pub returns : goal.returns
 returns g c =
     let objects = objects_of c.args.start in
     let ms = c.args.schedule.now in
-    IfOk-weaker c.difference_on.result _ _
+    IfOk-weaker c.difference_on-difference.result _ _
     (λ difference is. is ∙ sym (opens_with c.args.index.now c.args.start c.in_ok-events.events c.in_ok-stage.stage ms c.in_ok-stage.ensures)
     ∙ ap (λ es. difference_of c.args.index.now objects es ms) c.in_ok-events.ensures)
-    (c.difference_on.ensures objects c.in_ok-stage.ensures.shown)
+    (c.difference_on-difference.ensures objects c.in_ok-stage.ensures.shown)

@@ -15,7 +15,7 @@ pub put_stores-requires-clause-there : goal.put_stores-requires-clause-there
 put_stores-requires-clause-there c =
     let old = c.args.objects.now in
     let mid = c.put_registers.new.objects in
-    let put : PutsRegisters c.into_vec.result.items old mid = subst (λ done. OnTrue done (PutsRegisters c.into_vec.result.items old mid)) c.if-not-branch.false c.in_ok-put_registers.ensures.put in
+    let put : PutsRegisters c.into_vec.result.items old mid = subst (λ done. OnTrue done (PutsRegisters c.into_vec.result.items old mid)) c.in-Ok-true.field-0-test c.in-Ok-true.ensures.put in
     ap (list_all (λ s. has_store mid.stores s.0)) c.into_vec-2.ensures
     ∙ there_still c.args.index.now c.args.given old mid c.requires.set put.stores c.requires.declared
 
@@ -35,10 +35,10 @@ returns-clause-put c =
     let a = c.put_registers.new.objects in
     let b = c.put_stores.new.objects in
     let d = c.put_tables.new.objects in
-    let registers : PutsRegisters given.registers old a = subst (λ es. PutsRegisters es old a) c.into_vec.ensures (subst (λ done. OnTrue done (PutsRegisters c.into_vec.result.items old a)) c.if-not-branch.false c.in_ok-put_registers.ensures.put) in
-    let stores : PutsStores given.stores a b = subst (λ ss. PutsStores ss a b) c.into_vec-2.ensures (subst (λ done. OnTrue done (PutsStores c.into_vec-2.result.items a b)) c.if-not-branch-2.false c.in_ok-put_stores.ensures.put) in
+    let registers : PutsRegisters given.registers old a = subst (λ es. PutsRegisters es old a) c.into_vec.ensures (subst (λ done. OnTrue done (PutsRegisters c.into_vec.result.items old a)) c.in-Ok-true.field-0-test c.in-Ok-true.ensures.put) in
+    let stores : PutsStores given.stores a b = subst (λ ss. PutsStores ss a b) c.into_vec-2.ensures (subst (λ done. OnTrue done (PutsStores c.into_vec-2.result.items a b)) c.in-Ok-true-put_stores.field-0-test c.in-Ok-true-put_stores.ensures.put) in
     let tables : with_tables program.declarations given.tables b.tables.tables ≡ Some d.tables.tables =
     ap (λ ts. with_tables program.declarations ts b.tables.tables) (sym c.into_vec-3.ensures)
-    ∙ c.in_ok-put_tables.ensures.put ∙ ap (λ done. if_done done d.tables.tables) c.if-not-branch-3.false in
+    ∙ c.in_ok-put_tables.ensures.put ∙ ap (λ done. if_done done d.tables.tables) c.if-not-branch.false in
     let clock : given.clock ≡ to_z w64 (of_z w64 given.clock) = search rules in
     subst (Holds program given) (ap (λ z. record d { clock = z }) clock ∙ sym c.set_clock.ensures) (holds program given old a b d c.requires.empty c.requires.set registers stores tables c.in_ok-put_tables.ensures.others)

@@ -16,7 +16,7 @@ returns-in-Operation-clause-does c call answers then' ops more =
     let came : made call ≡ Ok (Operation op) = subst (λ r. Answers (λ x. x) (made call) r) is answers in
     let p = progress_of c.args.self.now.account ops more in
     let r = progress_of c.charge.new.self ops more in
-    let e : (spend >> call_made call) p ≡ issue op r = ap (λ o. after o (λ u. call_made call)) (c.in_ok-charge.ensures.gives ops more) ∙ calls_issue call op r came in
+    let e : (spend >> call_made call) p ≡ issue op r = ap (λ o. after o (λ u. call_made call)) (c.in_default.ensures.gives ops more) ∙ calls_issue call op r came in
     subst (λ o. Leaves then' ops more c.issue.result c.issue.new.self o)
     (sym (ap (λ o. after o (λ d. then' (d ∷ c.args.self.now.stack) c.args.self.now.slots.items)) e))
     (c.issue.ensures.does then' ops more)

@@ -2,8 +2,9 @@ ghost use Rattle.std.specs.Prelude.{◌≡◌, IfOk};
 ghost use Rattle.basis.specs.UnlessMemory.{Answers};
 ghost use Rattle.script_tree.specs.Datum.{text};
 ghost use Rattle.script_meaning.specs.BuiltinCalls.{built_in, parameter, parameter_in};
-ghost use Rattle.script_meaning.specs.Operators.{length_of, sliced, part_of};
-ghost use Rattle.script_values.specs.CallsMade.{made, call_with};
+ghost use Rattle.script_meaning.specs.Operands.{OpAnswer};
+ghost use Rattle.script_meaning.specs.Operators.{Answer, length_of, sliced, part_of};
+ghost use Rattle.script_values.specs.CallsMade.{made, call_with, value_made, operation_made};
 
 use crate::arguments::Arguments;
 use crate::faults::Faulted;
@@ -59,25 +60,41 @@ fn call_with(
         third,
     } = arguments;
     match builtin {
-        Builtin::Len => Ok(Called::Value(length_of(first)?)),
-        Builtin::Str => Ok(Called::Value(as_text(alloc, first)?)),
-        Builtin::Escape => Ok(Called::Value(escaped(alloc, first)?)),
-        Builtin::Num => Ok(Called::Value(as_number(alloc, first)?)),
-        Builtin::Slice => Ok(Called::Value(sliced(alloc, first, second, third)?)),
-        Builtin::Append => Ok(Called::Value(appended(alloc, first, second)?)),
+        Builtin::Len => value_made(length_of(first)),
+        Builtin::Str => value_made(as_text(alloc, first)),
+        Builtin::Escape => value_made(escaped(alloc, first)),
+        Builtin::Num => value_made(as_number(alloc, first)),
+        Builtin::Slice => value_made(sliced(alloc, first, second, third)),
+        Builtin::Append => value_made(appended(alloc, first, second)),
         Builtin::Kind => Ok(Called::Value(kind_of(alloc, first)?)),
-        Builtin::Param => Ok(Called::Value(parameter_in(alloc, request, first)?)),
+        Builtin::Param => value_made(parameter_in(alloc, request, first)),
         Builtin::Method => Ok(Called::Value(copy_of(alloc, request.method())?)),
         Builtin::Path => Ok(Called::Value(copy_of(alloc, request.path())?)),
         Builtin::Body => Ok(Called::Value(copy_of(alloc, request.body())?)),
-        Builtin::Read => Ok(Called::Operation(read_op(first)?)),
-        Builtin::Write => Ok(Called::Operation(write_op(first, second)?)),
-        Builtin::Get => Ok(Called::Operation(get_op(alloc, store, first)?)),
-        Builtin::Put => Ok(Called::Operation(put_op(alloc, store, first, second)?)),
-        Builtin::Remove => Ok(Called::Operation(remove_op(alloc, store, first)?)),
+        Builtin::Read => operation_made(read_op(first)),
+        Builtin::Write => operation_made(write_op(first, second)),
+        Builtin::Get => operation_made(get_op(alloc, store, first)),
+        Builtin::Put => operation_made(put_op(alloc, store, first, second)),
+        Builtin::Remove => operation_made(remove_op(alloc, store, first)),
         Builtin::Clock => Ok(Called::Operation(clock_op())),
-        Builtin::Random => Ok(Called::Operation(random_op(first)?)),
+        Builtin::Random => operation_made(random_op(first)),
     }
+}
+
+/// A value as what a call comes to, or its fault.
+fn value_made(told: Result<Value, Faulted>) -> Result<Called, Faulted>
+    ensures { (answer : Answer) → Answers (λ v. v) answer told
+        → Answers (λ c. c) (value_made answer) result }
+{
+    Ok(Called::Value(told?))
+}
+
+/// An operation as what a call comes to, or its fault.
+fn operation_made(told: Result<Op, Faulted>) -> Result<Called, Faulted>
+    ensures { (answer : OpAnswer) → Answers (λ op. op) answer told
+        → Answers (λ c. c) (operation_made answer) result }
+{
+    Ok(Called::Operation(told?))
 }
 
 /// How many bytes a text has, or members a list.

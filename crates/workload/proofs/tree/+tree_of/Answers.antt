@@ -1,4 +1,5 @@
-use Rattle.std.proofs.Common.{◌≡◌, ◌∙◌, ◌+◌, ◌∷◌, take, drop, map, string_bytes, sym, ap, rules}
+use Rattle.std.proofs.Common.{◌≡◌, ◌∙◌, ◌+◌, ◌∷◌, take, drop, map, string_bytes, sym, ap, rules, arith}
+use Rattle.std.proofs.lemmas.Grind.{common_steps}
 use Rattle.std.proofs.lemmas.List.{take_all, drop_more}
 use Rattle.json.specs.Value as borrowed
 use Rattle.serde_json.specs.Data.{put}
@@ -32,3 +33,9 @@ members_of-loop-name-preserved t c =
     let next = next_member m (drop (i + 1) ms) (view tree) old (rw c.in-Some.is at c.in_ok-tree.ensures) in
     c.loop-name.invariant ∙ ap (λ ns. of_members (borrowed.members_view ns) old) left ∙ next
     ∙ ap (of_members (borrowed.members_view (drop (i + 1) ms))) (sym inserted)
+
+pub items_of-loop-item-preserved : goal.items_of-loop-item-preserved
+items_of-loop-item-preserved c = grind (arith, common_steps)
+
+pub members_of-returns : goal.members_of-returns
+members_of-returns c = grind (arith, common_steps)

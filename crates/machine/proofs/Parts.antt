@@ -11,6 +11,7 @@ use Rattle.basis.specs.declared.or_memory.OrMemory.{OrMemory}
 use Rattle.basis.specs.declared.or_memory.OrMemory.TheVariants as values
 use Rattle.script_code.specs.CodeRun.{Frame, Next, step, topmost, all_taken, all_filled}
 use Rattle.script_code.specs.declared.instruction.Shape.{Shape}
+use Rattle.script_code.specs.declared.instruction.Instruction.{Instruction}
 use Rattle.script_code.specs.declared.instruction.Instruction.TheVariants.{And, Or, Branch, Each, Echo, Transact}
 use Rattle.script_values.specs.CallsMade.{made}
 use Rattle.script_values.specs.Outputs.{TellsRan}
@@ -83,6 +84,12 @@ module _ (q : Request) (functions : List ℕ) (next : Next) (fs : List Frame) (p
     (x v : Datum) (p p' r : Progress) (top : st ≡ x ∷ rest) (same : vs' ≡ vs) (account : p' ≡ p) (seen : v ≡ x) where
   pub echo_prints : charge_for x p' ≡ goes tt r → step q functions (Some Echo) next fs pc st vs p ≡ after (print_value v r) (λ u. next fs (pc + 1) rest vs')
   echo_prints d = rw (top, same, ← account, seen, d) refl
+
+-- an instruction does the same with the same stack, slots and progress
+pub steps_alike : (q : Request) (functions : List ℕ) (i : Instruction) (next : Next) (fs : List Frame) (pc : ℕ)
+    (st st' vs vs' : List Datum) (p p' : Progress) → st ≡ st' → vs ≡ vs' → p ≡ p'
+    → step q functions (Some i) next fs pc st vs p ≡ step q functions (Some i) next fs pc st' vs' p'
+steps_alike q functions i next fs pc st st' vs vs' p p' e f g = rw (e, f, g) refl
 
 -- an instruction stops where its part did
 pub stops_leaves : (then' : Then) (ops : List Op) (more : List Datum) (s : State) (e : Stopped) (o : Ran Flow)

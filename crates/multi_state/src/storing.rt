@@ -1,4 +1,4 @@
-ghost use Rattle.std.specs.Prelude.{◌≡◌, ◌+◌, ℕ, List, slice_set, OnOk};
+ghost use Rattle.std.specs.Prelude.{◌≡◌, ◌+◌, ◌∷◌, [], ℕ, List, slice_set, OnOk};
 ghost use Rattle.script_tree.specs.Requests.{Request as Asked};
 ghost use Rattle.multi_state.specs.AllDo.{ValuesDo};
 ghost use Rattle.multi_state.specs.Does.{Does};
@@ -30,6 +30,26 @@ impl State {
             .value(self.alloc, primitive, operands, group, evaluations)
     }
 
+    /// A node of this one operand that is no operation.
+    fn value_of<L: Ledger>(
+        &mut self,
+        primitive: Primitive,
+        operand: Multi,
+        group: &Group,
+        evaluations: &mut Evaluations<L>,
+    ) -> Result<Multi, Apart>
+        ensures does { ValuesDo evaluations.old evaluations.new group.now primitive.entry
+            (operand ∷ []) self.old.account result self.new.account }
+        ensures charges { OnOk result (self.new.account.steps ≡ self.old.account.steps + 1) }
+        ensures stack { self.new.stack ≡ self.old.stack }
+        ensures slots { self.new.slots ≡ self.old.slots }
+    {
+        let operands = [operand];
+        let values = self.value(primitive, &operands, group, evaluations);
+        drop(operands);
+        values
+    }
+
     /// Puts the value in a slot of its own.
     pub(crate) fn declare<L: Ledger>(
         &mut self,
@@ -41,7 +61,7 @@ impl State {
         ensures charges { OnOk result (self.new.account.steps ≡ self.old.account.steps + 1) }
     {
         let operand = self.stack.pop()?;
-        match self.value(Primitive::Pass, &[operand], group, evaluations) {
+        match self.value_of(Primitive::Pass, operand, group, evaluations) {
             Ok(values) => {
                 self.slots.push(values)?;
                 Ok(Went::On)
@@ -62,7 +82,7 @@ impl State {
         ensures charges { OnOk result (self.new.account.steps ≡ self.old.account.steps + 1) }
     {
         let operand = self.stack.pop()?;
-        match self.value(Primitive::Pass, &[operand], group, evaluations) {
+        match self.value_of(Primitive::Pass, operand, group, evaluations) {
             Ok(values) => {
                 self.keep(slot, values);
                 Ok(Went::On)
@@ -92,8 +112,11 @@ impl State {
         ensures charges { OnOk result (self.new.account.steps ≡ self.old.account.steps + 1) }
     {
         let operand = self.stack.pop()?;
-        match self.value(Primitive::Pass, &[operand], group, evaluations) {
-            Ok(_values) => Ok(Went::On),
+        match self.value_of(Primitive::Pass, operand, group, evaluations) {
+            Ok(values) => {
+                drop(values);
+                Ok(Went::On)
+            }
             Err(apart) => Err(apart),
         }
     }
@@ -109,7 +132,7 @@ impl State {
     {
         let alloc = self.alloc;
         let operand = self.stack.pop()?;
-        match self.value(Primitive::Echo, &[operand], group, evaluations) {
+        match self.value_of(Primitive::Echo, operand, group, evaluations) {
             Ok(texts) => match self.account.print(alloc, texts, group.requests().len()) {
                 Ok(()) => Ok(Went::On),
                 Err(apart) => Err(apart),
@@ -128,7 +151,7 @@ impl State {
         ensures charges { OnOk result (self.new.account.steps ≡ self.old.account.steps + 1) }
     {
         let operand = self.stack.pop()?;
-        match self.value(Primitive::Status, &[operand], group, evaluations) {
+        match self.value_of(Primitive::Status, operand, group, evaluations) {
             Ok(statuses) => match self.account.set_status(statuses, group.requests().len()) {
                 Ok(()) => Ok(Went::On),
                 Err(apart) => Err(apart),

@@ -24,6 +24,7 @@ use script_code::translate::Code;
 use script_tree::operation::Op;
 use script_tree::value::Value;
 use std::alloc::{AllocError, Global};
+use std::mem;
 use std::sync::Arc;
 use trace_format::packed::PackedRequest;
 
@@ -77,7 +78,7 @@ pub(crate) fn go_on<C: Clock>(
 fn put<'c>(run: &mut Option<Machine<'c>>, left: Option<Machine<'c>>)
     ensures { run.new ≡ left.entry }
 {
-    *run = left;
+    drop(mem::replace(run, left));
 }
 
 /// The open request of a machine does this operation, and the machine takes the answer. Tells what
@@ -142,6 +143,15 @@ fn take_event(
     ensures happened { IfOk result (λ r. r.0 ≡ happening_by seat event r.1) }
     ensures taken { IfOk result (λ r. Takes recording.old seat event r.1 recording.new) }
 {
-    let (kept, told) = Recorder::step(recording, seat, &event)?;
-    Ok((happening_by(seat, event, &kept), told))
+    match Recorder::step(recording, seat, &event) {
+        Ok((kept, told)) => {
+            let happening = happening_by(seat, event, &kept);
+            drop(kept);
+            Ok((happening, told))
+        }
+        Err(error) => {
+            drop(event);
+            Err(error)
+        }
+    }
 }

@@ -14,21 +14,21 @@ returns-in-Ok-clause-does g c =
     let old = c.args.self.now in
     let m = c.in_ok-operand.operand in
     let mid = record old { stack = c.pop.new.self } in
-    let then' = c.value.new.self in
+    let then' = c.value_of.new.self in
     let new = then' in
-    let x = c.in-Ok._values in
-    value_does c.args.evaluations.now c.value.new.evaluations qs instruction.Discard node.Pass (m ∷ []) old new
+    let x = c.in-Ok.values in
+    value_does c.args.evaluations.now c.value_of.new.evaluations qs instruction.Discard node.Pass (m ∷ []) old new
     (λ a i d. onward a (stack_at i mid.stack) (members_at i mid.slots.items))
     (λ a i r. discard_is qs old mid refl m c.in_ok-operand.ensures a i r) x then'.account refl
     (λ a i. λ z. onward a (stack_at i (sym c.in-Ok.ensures.stack z)) (members_at i (sym c.in-Ok.ensures.slots z).items)) c.in-Ok.ensures.does
 
-pub returns-clause-does : goal.returns-clause-does
-returns-clause-does g c =
+pub returns-in-Err-clause-does : goal.returns-in-Err-clause-does
+returns-in-Err-clause-does g c =
     let qs = c.args.group.now in
     let old = c.args.self.now in
     let m = c.in_ok-operand.operand in
     let mid = record old { stack = c.pop.new.self } in
-    value_halts_so c.args.evaluations.now c.value.new.evaluations qs instruction.Discard node.Pass
-    (m ∷ []) old c.value.new.self (λ a i d. onward a (stack_at i mid.stack) (members_at i mid.slots.items))
+    value_halts_so c.args.evaluations.now c.value_of.new.evaluations qs instruction.Discard node.Pass
+    (m ∷ []) old c.value_of.new.self (λ a i d. onward a (stack_at i mid.stack) (members_at i mid.slots.items))
     (λ a i r. discard_is qs old mid refl m c.in_ok-operand.ensures a i r) c.in-Err.apart
     (λ a next i d. next a.frames (a.place + 1) _ _) c.in-Err.ensures.does

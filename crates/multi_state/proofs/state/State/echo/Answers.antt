@@ -24,12 +24,12 @@ returns-in-Ok-print-clause-does g c =
     let old = c.args.self.now in
     let m = c.in_ok-operand.operand in
     let mid = record old { stack = c.pop.new.self } in
-    let then' = c.value.new.self in
+    let then' = c.value_of.new.self in
     let new = record then' { account = c.print.new.self } in
     let x = c.in-Ok.texts in
     let n : length c.requests.result.now ≡ length qs = ap length c.requests.ensures.requests in
     let done = subst (λ k. AllPrint k x then'.account (Ok tt) c.print.new.self) n c.in-Ok-print.ensures.prints in
-    value_then c.args.evaluations.now c.value.new.evaluations qs instruction.Echo node.Echo (m ∷ []) old new
+    value_then c.args.evaluations.now c.value_of.new.evaluations qs instruction.Echo node.Echo (m ∷ []) old new
     (λ a i d r. after (print_text d r) (λ _. onward a (stack_at i mid.stack) (members_at i mid.slots.items)))
     (λ a i r. echo_is qs old mid refl m c.in_ok-operand.ensures a i r
     ∙ after_both (node_at qs node.Echo (m ∷ []) i r) print_text
@@ -38,19 +38,19 @@ returns-in-Ok-print-clause-does g c =
     (λ _. onward a (stack_at i (sym c.in-Ok.ensures.stack z))
     (members_at i (sym c.in-Ok.ensures.slots z).items))) c.in-Ok.ensures.does done
 
-pub returns-in-Ok-clause-does : goal.returns-in-Ok-clause-does
-returns-in-Ok-clause-does g c =
+pub returns-in-Err-print-clause-does : goal.returns-in-Err-print-clause-does
+returns-in-Err-print-clause-does g c =
     let qs = c.args.group.now in
     let old = c.args.self.now in
     let m = c.in_ok-operand.operand in
     let mid = record old { stack = c.pop.new.self } in
-    let then' = c.value.new.self in
+    let then' = c.value_of.new.self in
     let new = record then' { account = c.print.new.self } in
     let x = c.in-Ok.texts in
     let n : length c.requests.result.now ≡ length qs = ap length c.requests.ensures.requests in
     let e = c.in-Err-print.apart in
     let done = subst (λ k. AllPrint k x then'.account (Err e) c.print.new.self) n c.in-Err-print.ensures.prints in
-    value_stops c.args.evaluations.now c.value.new.evaluations qs instruction.Echo node.Echo (m ∷ []) old new
+    value_stops c.args.evaluations.now c.value_of.new.evaluations qs instruction.Echo node.Echo (m ∷ []) old new
     (λ a i d r. after (print_text d r) (λ _. onward a (stack_at i mid.stack) (members_at i mid.slots.items)))
     (λ a i r. echo_is qs old mid refl m c.in_ok-operand.ensures a i r
     ∙ after_both (node_at qs node.Echo (m ∷ []) i r) print_text
@@ -60,14 +60,14 @@ returns-in-Ok-clause-does g c =
     (λ _. onward a (stack_at i (sym c.in-Ok.ensures.stack z))
     (members_at i (sym c.in-Ok.ensures.slots z).items))) c.in-Ok.ensures.does done
 
-pub returns-clause-does : goal.returns-clause-does
-returns-clause-does g c =
+pub returns-in-Err-clause-does : goal.returns-in-Err-clause-does
+returns-in-Err-clause-does g c =
     let qs = c.args.group.now in
     let old = c.args.self.now in
     let m = c.in_ok-operand.operand in
     let mid = record old { stack = c.pop.new.self } in
-    value_halts c.args.evaluations.now c.value.new.evaluations qs instruction.Echo node.Echo
-    (m ∷ []) old c.value.new.self (λ a i d r. after (print_text d r)
+    value_halts c.args.evaluations.now c.value_of.new.evaluations qs instruction.Echo node.Echo
+    (m ∷ []) old c.value_of.new.self (λ a i d r. after (print_text d r)
     (λ _. onward a (stack_at i mid.stack) (members_at i mid.slots.items)))
     (λ a i r. echo_is qs old mid refl m c.in_ok-operand.ensures a i r
     ∙ after_both (node_at qs node.Echo (m ∷ []) i r) print_text

@@ -74,7 +74,8 @@ pub(crate) fn go_on<C: Clock>(
     }
 }
 
-/// Leaves a machine at a seat, or none.
+/// Leaves a machine at a seat, or none. What was there is dropped by a call, which an assignment isn't for
+/// the prover.
 fn put<'c>(run: &mut Option<Machine<'c>>, left: Option<Machine<'c>>)
     ensures { run.new ≡ left.entry }
 {

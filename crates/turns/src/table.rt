@@ -49,7 +49,14 @@ impl<'c> Table<'c> {
         ensures opened { IfOk result (IsOpened recording jobs.items seed) }
         ensures seed { IfOk result (λ table. table.seed ≡ seed) }
     {
-        let (runs, dice) = seats(alloc, seed)?;
+        let (runs, dice) = match seats(alloc, seed) {
+            Ok(seats) => seats,
+            Err(error) => {
+                drop(recording);
+                drop(jobs);
+                return Err(error);
+            }
+        };
         Ok(Table {
             alloc,
             code,

@@ -10,7 +10,7 @@ use crate::lockstep::Lockstep;
 use crate::spent::Spent;
 use audit_meaning::reason::Reason;
 use basis::OrMemory;
-use cost_laws::law::one_member_costs_its_steps;
+use group_laws::law::one_member_costs_its_steps;
 use group_runner::{Evidence, run_one_by_one};
 use outside::gate::Gate;
 use script_code::translate::Code;

@@ -6,7 +6,7 @@ use script_print::declaration::print;
 use script_syntax::parse::parse;
 use script_tokens::fault::SyntaxFaultKind;
 use std::alloc::{AllocError, Global};
-use text_print::print_text;
+use script_tokens::print::print_text;
 
 /// Whether the text is a program that prints so.
 fn prints(alloc: Global, text: &[u8], printed: &[u8]) -> bool {

@@ -10,8 +10,8 @@ use Rattle.basis.specs.Lists.{nth, or_else, first_answer}
 use Rattle.period.specs.declared.report.Count.{Count}
 use Rattle.audit_meaning.specs.Spots.{operations_in}
 use Rattle.audit_meaning.proofs.Filters.{take_more}
-use Rattle.id_table.specs.Tables.{number_of, Puts}
-use Rattle.id_table.specs.declared.table.IdTable.{IdTable}
+use Rattle.request_tables.specs.IdTables.{number_of, Puts}
+use Rattle.request_tables.specs.declared.id_table.IdTable.{IdTable}
 use Rattle.log_checker.proofs.Firsts.{first_more}
 use Rattle.log_checker.proofs.Tests.{eq_sym}
 

@@ -1,7 +1,7 @@
 -- How the code keeps counts.
 use Rattle.std.specs.Prelude.{◌≡◌, ℕ, Option}
 use Rattle.basis.specs.Lists.{first_answer}
-use Rattle.id_table.specs.Tables.{number_of}
+use Rattle.request_tables.specs.IdTables.{number_of}
 use Rattle.period.specs.declared.report.Report.{Report}
 use Rattle.audit_meaning.specs.Spots.{operations_in}
 use Rattle.log_checker.specs.declared.counting.OperationCounts.{OperationCounts}

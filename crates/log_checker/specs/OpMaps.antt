@@ -1,7 +1,7 @@
 -- Where operations stand, as the code keeps it.
 use Rattle.std.specs.Prelude.{◌≡◌, ℕ, ◌+◌, ◌<◌, false, ◌&&◌, List, take, Option, Some, None, is_none, nat_eq, unwrap_or, if◌then◌else◌}
 use Rattle.basis.specs.Lists.{nth, first_answer}
-use Rattle.operation_table.specs.Tables.{place_of}
+use Rattle.request_tables.specs.OperationTables.{place_of}
 use Rattle.period.specs.declared.report.Log.{Log}
 use Rattle.period.specs.declared.report.LogEntry.{LogEntry}
 use Rattle.period.specs.declared.report.Report.{Report}

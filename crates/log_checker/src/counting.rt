@@ -6,7 +6,7 @@ ghost use Rattle.log_checker.specs.Faults.{IsFaultOr, IsFaultIfAny};
 
 use audit_meaning::reason::Reason;
 use basis::OrMemory;
-use id_table::IdTable;
+use request_tables::IdTable;
 use period::report::Report;
 use std::alloc::Global;
 use trace_format::trace_file::EventHead;

@@ -2,7 +2,7 @@ ghost use Rattle.std.specs.Prelude.{◌≡◌, ℕ, None, is_none, IfOk, IsTrue}
 ghost use Rattle.log_checker.specs.OpMaps.{place_in, count_in, PutsPlace, IsFirstMissing};
 
 use crate::counting::OperationCounts;
-use operation_table::OperationTable;
+use request_tables::OperationTable;
 use std::alloc::{AllocError, Global};
 
 /// How many operations each request of a report issued, and where each of them stands in the logs.

@@ -22,9 +22,9 @@ use Rattle.script_code.specs.Means.{code_conduct}
 use Rattle.script_code.specs.Translated.{IsCodeOf, at_path, entry_of}
 use Rattle.script_code.specs.declared.translate.Code.{Code}
 use Rattle.script_code.specs.declared.translate.PageEntry.{PageEntry}
-use Rattle.steady_runs.specs.Steady.{no_fault}
-use Rattle.steady_runs.proofs.Instructions.{code_is_steady}
-use Rattle.steady_runs.proofs.Parting.{parting_shows}
+use Rattle.group_laws.specs.Steady.{no_fault}
+use Rattle.group_laws.proofs.Instructions.{code_is_steady}
+use Rattle.group_laws.proofs.Parting.{parting_shows}
 use Rattle.multivalue.specs.Many.{Many, member_value}
 use Rattle.multi_nodes.specs.Answers.{nothing}
 use Rattle.multi_nodes.specs.Members.{members_at, request_at}

@@ -16,7 +16,7 @@ use Rattle.script_code.specs.Code.{Entry}
 use Rattle.script_code.specs.Translated.{IsCodeOf, at_path}
 use Rattle.script_code.specs.declared.translate.Code.{Code}
 use Rattle.script_code.specs.declared.translate.PageEntry.{PageEntry}
-use Rattle.steady_runs.specs.Shown.{shown_of}
+use Rattle.group_laws.specs.Shown.{shown_of}
 use Rattle.multi_nodes.specs.Answers.{nothing}
 use Rattle.multi_nodes.specs.Members.{members_at, request_at}
 use Rattle.multi_state.specs.Parting.{TwoOf}

@@ -17,7 +17,7 @@ use Rattle.multivalue.specs.Many.{Many, member_value}
 use Rattle.multi_nodes.specs.Charges.{asks_request, takes_request, agree}
 use Rattle.multi_nodes.specs.Members.{members_at, request_at, answer_at, is_shared, alike_in}
 use Rattle.multi_nodes.proofs.Below.{below_each}
-use Rattle.group_costs.proofs.Same.{value_same, request_same}
+use Rattle.group_laws.proofs.Same.{value_same, request_same}
 
 call_alike : (q r : Request) (store : List ℕ) (b : Builtin) (ds : List Datum) → asks_request b ≡ false → built_in q store b ds ≡ built_in r store b ds
 call_alike q r store Len ds h = refl

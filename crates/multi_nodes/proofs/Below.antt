@@ -5,7 +5,7 @@ use Rattle.script_tree.specs.Datum.{Datum}
 use Rattle.script_tree.specs.Alike.{same_datum}
 use Rattle.multivalue.specs.Many.{Many, all}
 use Rattle.multi_nodes.specs.Members.{all_below, is_shared}
-use Rattle.group_costs.proofs.Same.{value_itself}
+use Rattle.group_laws.proofs.Same.{value_itself}
 
 -- one more
 

@@ -2,7 +2,7 @@
 use Rattle.std.proofs.Common.{◌≡◌, ◌∙◌, ◌<◌, ℕ, Some, None, Result, Ok, Err, ap, sym}
 use Rattle.script_tree.specs.declared.fault.ScriptFault.{ScriptFault}
 use Rattle.script_values.specs.declared.builtins.Called.{Called}
-use Rattle.steady_runs.specs.Nodes.{node_fault}
+use Rattle.group_laws.specs.Nodes.{node_fault}
 use Rattle.multi_nodes.specs.Answers.{Part}
 
 some_is_none : {A : Type 0} (a : A) → Some a ≡ None → ⊥

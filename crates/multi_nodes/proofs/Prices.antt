@@ -13,7 +13,7 @@ use Rattle.multi_nodes.specs.Charges.{cost_by, cost_at, costs_from, price, takes
 use Rattle.multi_nodes.specs.Members.{members_at, request_at, is_shared, alike_in}
 use Rattle.multi_nodes.proofs.Agreed.{operands_shared, requests_alike}
 use Rattle.multi_nodes.proofs.Below.{each_below}
-use Rattle.group_costs.proofs.Same.{values_itself, request_itself}
+use Rattle.group_laws.proofs.Same.{values_itself, request_itself}
 
 -- ---- a list of costs
 

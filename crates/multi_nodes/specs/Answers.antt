@@ -6,7 +6,7 @@ use Rattle.script_tree.specs.declared.operation.Object.TheVariants.{Clock}
 use Rattle.script_tree.specs.declared.operation.Op.{Op}
 use Rattle.script_values.specs.declared.builtins.Called.{Called}
 use Rattle.script_values.specs.declared.builtins.Called.TheVariants.{Value, Operation}
-use Rattle.steady_runs.specs.Nodes.{node_fault}
+use Rattle.group_laws.specs.Nodes.{node_fault}
 use Rattle.multivalue.specs.Many.{member_value}
 use Rattle.multivalue.specs.declared.apart.Apart.{Apart}
 use Rattle.multivalue.specs.declared.apart.Apart.TheVariants.{Memory, Fault, Differ}

@@ -19,9 +19,9 @@ use Rattle.script_nodes.specs.NodeLaws.{noted, without, member_at}
 use Rattle.script_nodes.specs.declared.primitive.Primitive.{Primitive}
 use Rattle.script_nodes.specs.declared.primitive.Primitive.TheVariants as node
 use Rattle.script_nodes.proofs.Nodes.{means_nodes}
-use Rattle.steady_runs.specs.Nodes.{GivesTruth, GoesOn, LacksFaults}
-use Rattle.steady_runs.specs.Steady.{IsSteady, IsSteadyNext, no_fault}
-use Rattle.steady_runs.proofs.Onward.{either}
+use Rattle.group_laws.specs.Nodes.{GivesTruth, GoesOn, LacksFaults}
+use Rattle.group_laws.specs.Steady.{IsSteady, IsSteadyNext, no_fault}
+use Rattle.group_laws.proofs.Onward.{either}
 use Rattle.multivalue.specs.Many.{Many, member_value}
 use Rattle.multivalue.specs.declared.apart.Apart.{Apart}
 use Rattle.multivalue.specs.declared.apart.Apart.TheVariants.{Memory, Fault, Differ}

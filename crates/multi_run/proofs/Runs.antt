@@ -7,9 +7,9 @@ use Rattle.script_code.specs.CodeRun.{Next, step}
 use Rattle.script_code.specs.declared.instruction.Instruction.{Instruction}
 use Rattle.script_code.specs.declared.instruction.Instruction.TheVariants.{Halt}
 use Rattle.script_code.specs.declared.translate.Code.{Code}
-use Rattle.steady_runs.specs.Shown.{shown_of}
-use Rattle.steady_runs.specs.Steady.{IsSteadyNext}
-use Rattle.steady_runs.proofs.Instructions.{code_is_steady}
+use Rattle.group_laws.specs.Shown.{shown_of}
+use Rattle.group_laws.specs.Steady.{IsSteadyNext}
+use Rattle.group_laws.proofs.Instructions.{code_is_steady}
 use Rattle.multivalue.specs.declared.apart.Apart.{Apart}
 use Rattle.multivalue.specs.declared.apart.Apart.TheVariants.{Memory, Fault, Differ}
 use Rattle.multi_nodes.specs.Members.{members_at, request_at}

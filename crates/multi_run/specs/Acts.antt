@@ -7,7 +7,7 @@ use Rattle.script_meaning.specs.Run.{Run, fails}
 use Rattle.script_code.specs.CodeRun as code
 use Rattle.script_code.specs.CodeRun.{Next, step, back_to, enter}
 use Rattle.script_code.specs.declared.instruction.Instruction.{Instruction}
-use Rattle.steady_runs.specs.Steady.{IsSteadyNext}
+use Rattle.group_laws.specs.Steady.{IsSteadyNext}
 use Rattle.multivalue.specs.Many.{Many, member_value}
 use Rattle.multivalue.specs.declared.apart.Apart.{Apart}
 use Rattle.multivalue.specs.declared.apart.Apart.TheVariants.{Memory, Fault, Differ}

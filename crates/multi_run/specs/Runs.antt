@@ -5,7 +5,7 @@ use Rattle.script_meaning.specs.Evaluate.{Flow}
 use Rattle.script_meaning.specs.Run.{Run}
 use Rattle.script_code.specs.CodeRun.{Next, exec}
 use Rattle.script_code.specs.declared.translate.Code.{Code}
-use Rattle.steady_runs.specs.Shown.{shown_of}
+use Rattle.group_laws.specs.Shown.{shown_of}
 use Rattle.multivalue.specs.declared.apart.Apart.{Apart}
 use Rattle.multi_nodes.specs.Members.{request_at}
 use Rattle.multi_state.specs.AllDo.{AllDo, Gives}

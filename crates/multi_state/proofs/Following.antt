@@ -8,9 +8,9 @@ use Rattle.script_meaning.specs.Evaluate.{Flow}
 use Rattle.script_meaning.specs.Run.{Progress, Run, give, goes, after, ◌>>◌}
 use Rattle.script_code.specs.declared.instruction.Instruction.{Instruction}
 use Rattle.script_nodes.specs.declared.primitive.Primitive.{Primitive}
-use Rattle.steady_runs.specs.Nodes.{GoesOn, LacksFaults}
-use Rattle.steady_runs.specs.Steady.{IsSteady, IsSteadyNext, no_fault}
-use Rattle.steady_runs.proofs.NodesGive.{lacks_none}
+use Rattle.group_laws.specs.Nodes.{GoesOn, LacksFaults}
+use Rattle.group_laws.specs.Steady.{IsSteady, IsSteadyNext, no_fault}
+use Rattle.group_laws.proofs.NodesGive.{lacks_none}
 use Rattle.multivalue.specs.Many.{Many, member_value}
 use Rattle.multivalue.specs.declared.apart.Apart.{Apart}
 use Rattle.multivalue.specs.declared.apart.Apart.TheVariants.{Memory, Fault, Differ}

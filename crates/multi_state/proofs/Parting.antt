@@ -15,14 +15,14 @@ use Rattle.script_nodes.specs.Evaluated.{gone_on}
 use Rattle.script_nodes.specs.NodeLaws.{noted}
 use Rattle.script_nodes.specs.declared.primitive.Primitive.{Primitive}
 use Rattle.script_nodes.proofs.ValueFaults.{nodes_fail_by_values}
-use Rattle.steady_runs.specs.Nodes.{GoesOn, LacksFaults}
-use Rattle.steady_runs.specs.Shown.{shown_of}
-use Rattle.steady_runs.specs.Steady.{IsSteady, no_fault}
-use Rattle.steady_runs.proofs.NodesGive.{gave, lacks_none}
-use Rattle.steady_runs.proofs.NodesPart.{nodes_show}
-use Rattle.steady_runs.proofs.Onward.{noting}
-use Rattle.steady_runs.proofs.Parting.{parting_shows}
-use Rattle.group_costs.proofs.Same.{value_itself}
+use Rattle.group_laws.specs.Nodes.{GoesOn, LacksFaults}
+use Rattle.group_laws.specs.Shown.{shown_of}
+use Rattle.group_laws.specs.Steady.{IsSteady, no_fault}
+use Rattle.group_laws.proofs.NodesGive.{gave, lacks_none}
+use Rattle.group_laws.proofs.NodesPart.{nodes_show}
+use Rattle.group_laws.proofs.Onward.{noting}
+use Rattle.group_laws.proofs.Parting.{parting_shows}
+use Rattle.group_laws.proofs.Same.{value_itself}
 use Rattle.multivalue.specs.Many.{Many, member_value}
 use Rattle.multivalue.specs.declared.apart.Apart.{Apart}
 use Rattle.multivalue.specs.declared.apart.Apart.TheVariants.{Memory, Fault, Differ}

@@ -9,8 +9,8 @@ use Rattle.script_meaning.specs.declared.run.Stop.TheVariants.{Fault as fault}
 use Rattle.script_nodes.specs.Evaluated.{node_run}
 use Rattle.script_nodes.specs.NodeLaws.{noted}
 use Rattle.script_nodes.specs.declared.primitive.Primitive.{Primitive}
-use Rattle.steady_runs.specs.Nodes.{GivesTruth, GoesOn, LacksFaults}
-use Rattle.steady_runs.specs.Steady.{IsSteady}
+use Rattle.group_laws.specs.Nodes.{GivesTruth, GoesOn, LacksFaults}
+use Rattle.group_laws.specs.Steady.{IsSteady}
 use Rattle.multivalue.specs.Many.{Many, member_value}
 use Rattle.multivalue.specs.declared.apart.Apart.{Apart}
 use Rattle.multivalue.specs.declared.apart.Apart.TheVariants.{Memory, Fault, Differ}

@@ -7,7 +7,7 @@ use Rattle.script_meaning.specs.Run.{Run, give, take_answer, ◌>>=◌}
 use Rattle.script_code.specs.CodeRun.{Frame, Next, step}
 use Rattle.script_code.specs.declared.instruction.Instruction.{Instruction}
 use Rattle.script_nodes.specs.declared.primitive.Primitive.{Primitive}
-use Rattle.steady_runs.specs.Steady.{IsSteady, IsSteadyNext}
+use Rattle.group_laws.specs.Steady.{IsSteady, IsSteadyNext}
 use Rattle.multivalue.specs.Many.{Many}
 use Rattle.multivalue.specs.declared.apart.Apart.{Apart}
 use Rattle.multi_nodes.specs.Answers.{nothing}

@@ -2,7 +2,7 @@
 use Rattle.std.specs.Prelude.{◌≢◌, ◌<◌, ℕ}
 use Rattle.script_meaning.specs.Evaluate.{Flow}
 use Rattle.script_meaning.specs.Run.{Run}
-use Rattle.steady_runs.specs.Shown.{shown_of}
+use Rattle.group_laws.specs.Shown.{shown_of}
 use Rattle.multi_state.specs.Progress.{Charges, Unseen, progress_at}
 use Rattle.multi_state.specs.declared.account.Account.{Account}
 

@@ -11,7 +11,7 @@ use Rattle.script_meaning.specs.Run.{Cost, Run, charge, goes, stops, give, ◌>>
 use Rattle.script_meaning.specs.declared.run.Mark.TheVariants.{Issued as issued}
 use Rattle.script_meaning.specs.declared.run.Stop.TheVariants.{Fault as fault}
 use Rattle.script_nodes.specs.NodeLaws.{noted, print_text, set_status_to}
-use Rattle.steady_runs.specs.Steady.{IsSteady}
+use Rattle.group_laws.specs.Steady.{IsSteady}
 use Rattle.multivalue.specs.Many.{Many, member_value}
 use Rattle.multivalue.specs.declared.apart.Apart.{Apart}
 use Rattle.multi_state.specs.AllDo.{AllGo, Gives}

@@ -4,7 +4,7 @@ use Rattle.std.proofs.lemmas.Bool.Decides.{nat_tests}
 use Rattle.std.specs.Fmt.{digit_glyph}
 use Rattle.script_tokens.specs.Texts.{text_from, behind, hex_value, between}
 use Rattle.script_tokens.specs.declared.text.Mode.TheVariants.{Plain}
-use Rattle.text_print.specs.PrintedTexts.{printed_byte, printed_content}
+use Rattle.script_tokens.specs.PrintedTexts.{printed_byte, printed_content}
 
 glyph_value : (d : ℕ) → d < 16 → hex_value (digit_glyph false d) ≡ Some d
 glyph_value d h = grind (arith, nat_tests)

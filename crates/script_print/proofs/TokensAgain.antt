@@ -12,7 +12,7 @@ use Rattle.script_tokens.specs.Words.{words, word_of, spelling_of}
 use Rattle.script_tokens.specs.declared.lexeme.Class.TheVariants.{Name as Names, Digit}
 use Rattle.script_tokens.specs.declared.word.Word.{Word}
 use Rattle.script_tokens.specs.declared.word.Word.TheVariants as w
-use Rattle.text_print.specs.PrintedTexts.{printed_content, printed_text}
+use Rattle.script_tokens.specs.PrintedTexts.{printed_content, printed_text}
 use Rattle.script_print.specs.Prints.{printed, separator}
 use Rattle.script_print.proofs.Runs.{AllIn, run_up_to, all_push}
 use Rattle.script_print.proofs.Spelled.{BeginsWithLetter, IsFit}

@@ -3,7 +3,7 @@ use Rattle.std.specs.Prelude.{◌≡◌, ℕ, List, [], ◌∷◌, ◌++◌}
 use Rattle.std.specs.Fmt.{signed_decimal}
 use Rattle.script_tokens.specs.Kinds.{Kind, fixed, name, number, text}
 use Rattle.script_tokens.specs.Words.{spelling_of}
-use Rattle.text_print.specs.PrintedTexts.{printed_text}
+use Rattle.script_tokens.specs.PrintedTexts.{printed_text}
 
 -- how a token is printed
 abbrev pub printed : Kind → List ℕ

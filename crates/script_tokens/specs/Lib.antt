@@ -3,6 +3,7 @@ pub mod Feed
 pub mod Fronts
 pub mod Kinds
 pub mod Laws
+pub mod PrintedTexts
 pub mod Scans
 pub mod Shapes
 pub mod Texts

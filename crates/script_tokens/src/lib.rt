@@ -4,6 +4,7 @@
 pub mod fault;
 pub mod laws;
 mod lexeme;
+pub mod print;
 pub mod scan;
 pub mod shape;
 mod text;

@@ -1,7 +1,7 @@
 -- How objects, entries and events are told.
 use Rattle.std.specs.Prelude.{ℕ, List, ◌++◌, codes, flat_map}
 use Rattle.std.specs.Fmt.{decimal}
-use Rattle.text_print.specs.PrintedTexts.{printed_text}
+use Rattle.script_tokens.specs.PrintedTexts.{printed_text}
 use Rattle.script_tree.specs.declared.operation.Object.{Object}
 use Rattle.script_tree.specs.declared.operation.Object.TheVariants.{Register, Store, Tables, Clock, Dice}
 use Rattle.audit_meaning.specs.declared.node.Node.{Node}

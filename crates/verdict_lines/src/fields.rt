@@ -1,12 +1,12 @@
 ghost use Rattle.std.specs.Prelude.{◌≡◌, ◌++◌, IfOk, string_bytes};
-ghost use Rattle.text_print.specs.PrintedTexts.{printed_text};
+ghost use Rattle.script_tokens.specs.PrintedTexts.{printed_text};
 ghost use Rattle.verdict_lines.specs.Fields.{cycle_text, entry_text, node_text, object_text};
 
 use audit_meaning::node::Node;
 use script_tree::operation::Object;
 use script_tree::text::Text;
 use std::alloc::{AllocError, Global};
-use text_print::print_text;
+use script_tokens::print::print_text;
 
 /// An object, by the word for it and its name where it has one.
 pub(crate) fn object_text(alloc: Global, object: &Object) -> Result<Vec<u8>, AllocError>

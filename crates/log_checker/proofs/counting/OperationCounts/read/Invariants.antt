@@ -1,5 +1,5 @@
 use Rattle.std.proofs.Common.{◌≡◌, ℕ, take}
-use Rattle.id_table.specs.Tables.{number_of}
+use Rattle.request_tables.specs.IdTables.{number_of}
 use Rattle.basis.specs.Lists.{first_answer}
 use Rattle.audit_meaning.specs.Lists.{befores}
 use Rattle.audit_meaning.specs.Spots.{operations_in}

@@ -1,7 +1,7 @@
 use Rattle.std.proofs.Common.{true, false, [], ◌∷◌, Ok, refl, ap, subst}
 use Rattle.script_code.specs.declared.instruction.Instruction.TheVariants as instruction
 use Rattle.script_nodes.specs.declared.primitive.Primitive.TheVariants as node
-use Rattle.steady_runs.proofs.NodesGive.{decides}
+use Rattle.group_laws.proofs.NodesGive.{decides}
 use Rattle.multi_nodes.specs.Members.{members_at, request_at}
 use Rattle.multi_state.specs.AllDo.{AllDecide}
 use Rattle.multi_run.proofs.Running.{decided, decide_halts, passed, passed_one, branch_is, branch_rest, branch_steady}

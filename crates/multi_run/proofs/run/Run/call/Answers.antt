@@ -3,8 +3,8 @@ use Rattle.std.specs.Prelude.{slice_get}
 use Rattle.script_tree.specs.declared.fault.ScriptFault.TheVariants.{TooDeep}
 use Rattle.script_code.specs.declared.instruction.Instruction.TheVariants as instruction
 use Rattle.script_nodes.specs.declared.primitive.Primitive.TheVariants as node
-use Rattle.steady_runs.specs.Steady.{only}
-use Rattle.steady_runs.proofs.Onward.{entering}
+use Rattle.group_laws.specs.Steady.{only}
+use Rattle.group_laws.proofs.Onward.{entering}
 use Rattle.multi_nodes.specs.Members.{members_at}
 use Rattle.multi_state.specs.AllDo.{ValuesDo}
 use Rattle.multi_state.specs.Stacks.{stack_at}

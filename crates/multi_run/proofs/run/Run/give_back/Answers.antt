@@ -2,9 +2,9 @@ use Rattle.std.proofs.Common.{[], ◌∷◌, refl}
 use Rattle.script_code.specs.CodeRun.{back_to}
 use Rattle.script_code.specs.declared.instruction.Instruction.TheVariants as instruction
 use Rattle.script_nodes.specs.declared.primitive.Primitive.TheVariants as node
-use Rattle.steady_runs.specs.Steady.{no_fault}
-use Rattle.steady_runs.proofs.NodesGive.{lacks_none}
-use Rattle.steady_runs.proofs.Onward.{returning}
+use Rattle.group_laws.specs.Steady.{no_fault}
+use Rattle.group_laws.proofs.NodesGive.{lacks_none}
+use Rattle.group_laws.proofs.Onward.{returning}
 use Rattle.multi_nodes.specs.Members.{answer_at}
 use Rattle.multi_run.specs.Acts.{frames_at}
 use Rattle.multi_run.proofs.Running.{value_goes, value_halts, return_is}

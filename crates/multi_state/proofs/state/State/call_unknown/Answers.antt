@@ -4,7 +4,7 @@ use Rattle.script_nodes.specs.declared.primitive.Primitive.TheVariants as node
 use Rattle.script_code.specs.CodeRun.{topmost}
 use Rattle.script_meaning.specs.Evaluate.{on}
 use Rattle.script_meaning.specs.Run.{give}
-use Rattle.steady_runs.proofs.Onward.{ends}
+use Rattle.group_laws.proofs.Onward.{ends}
 use Rattle.multi_nodes.specs.Members.{members_at}
 use Rattle.multi_state.specs.Stacks.{stack_at}
 use Rattle.multi_state.proofs.Following.{value_halts_so}

@@ -4,9 +4,9 @@ use Rattle.script_nodes.specs.declared.primitive.Primitive.TheVariants as node
 use Rattle.script_nodes.specs.NodeLaws.{print_text}
 use Rattle.script_tree.specs.declared.fault.ScriptFault.TheVariants.{TooLarge}
 use Rattle.script_meaning.specs.Run.{after, ◌>>◌}
-use Rattle.steady_runs.specs.Steady.{IsSteadyBut, only}
-use Rattle.steady_runs.proofs.NodesGive.{prints_small, prints_text}
-use Rattle.steady_runs.proofs.Onward.{printing}
+use Rattle.group_laws.specs.Steady.{IsSteadyBut, only}
+use Rattle.group_laws.proofs.NodesGive.{prints_small, prints_text}
+use Rattle.group_laws.proofs.Onward.{printing}
 use Rattle.multivalue.specs.Many.{member_value}
 use Rattle.multi_nodes.specs.Members.{members_at, request_at}
 use Rattle.multi_state.specs.AllDo.{node_at}

@@ -3,7 +3,7 @@ use Rattle.script_code.specs.declared.instruction.Instruction.TheVariants as ins
 use Rattle.script_nodes.specs.declared.primitive.Primitive.TheVariants as node
 use Rattle.script_nodes.specs.NodeLaws.{set_status_to}
 use Rattle.script_meaning.specs.Run.{after}
-use Rattle.steady_runs.proofs.Onward.{setting}
+use Rattle.group_laws.proofs.Onward.{setting}
 use Rattle.multivalue.specs.Many.{member_value}
 use Rattle.multi_nodes.specs.Members.{members_at}
 use Rattle.multi_state.specs.AllDo.{node_at}

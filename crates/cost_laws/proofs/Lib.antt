@@ -1,5 +1,0 @@
-mod Spending
-mod Counts
-mod Sums
-mod Walk
-mod EqualMembers

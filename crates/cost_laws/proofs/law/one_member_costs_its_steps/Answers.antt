@@ -1,5 +1,0 @@
-use Rattle.cost_laws.proofs.Spending.{one_member}
-use Rattle.cost_laws.proofs.law.one_member_costs_its_steps.Goals as goal
-
-pub returns : goal.returns
-returns c = one_member c.keeping_costs_changes_nothing.ensures

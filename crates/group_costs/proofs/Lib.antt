@@ -1,3 +1,0 @@
-mod Blind
-pub mod Same
-mod Shared

@@ -1,5 +1,0 @@
-use Rattle.group_costs.proofs.Blind.{changes_nothing}
-use Rattle.group_costs.proofs.law.keeping_costs_changes_nothing.Goals as goal
-
-pub returns : goal.returns
-returns c = changes_nothing

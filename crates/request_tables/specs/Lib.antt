@@ -1,0 +1,2 @@
+pub mod IdTables
+pub mod OperationTables

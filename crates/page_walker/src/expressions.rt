@@ -117,7 +117,9 @@ impl Frame<'_, '_, '_> {
     {
         match node {
             ExpressionNode::Unary(operator, _) => {
-                run.node(script_values::unary(*operator, &value))
+                let result = run.node(script_values::unary(*operator, &value));
+                drop(value);
+                result
             }
             ExpressionNode::Binary(operator, _, b) => {
                 self.climb_binary(variables, run, *operator, value, b)
@@ -149,9 +151,16 @@ impl Frame<'_, '_, '_> {
         ensures { (at : ℕ) (a : Meant) → GivesValue result run.new
             (climbed self.now variables.now (binary at operator a b.now) left run.old) }
     {
-        let right = self.eval(variables, run, b)?;
-        let (left, right) = (Operand::own(left), Operand::own(right));
-        run.node(script_values::binary(self.alloc, operator, left, right))
+        match self.eval(variables, run, b) {
+            Ok(right) => {
+                let (left, right) = (Operand::own(left), Operand::own(right));
+                run.node(script_values::binary(self.alloc, operator, left, right))
+            }
+            Err(stopped) => {
+                drop(left);
+                Err(stopped)
+            }
+        }
     }
 
     #[cycle(walk)]
@@ -165,10 +174,16 @@ impl Frame<'_, '_, '_> {
         ensures { (at : ℕ) (a : Meant) → GivesValue result run.new
             (climbed self.now variables.now (and_ at a b.now) left run.old) }
     {
-        if run.decide(&left)? {
-            self.eval(variables, run, b)
-        } else {
-            Ok(left)
+        match run.decide(&left) {
+            Ok(true) => {
+                drop(left);
+                self.eval(variables, run, b)
+            }
+            Ok(false) => Ok(left),
+            Err(stopped) => {
+                drop(left);
+                Err(stopped)
+            }
         }
     }
 
@@ -183,10 +198,16 @@ impl Frame<'_, '_, '_> {
         ensures { (at : ℕ) (a : Meant) → GivesValue result run.new
             (climbed self.now variables.now (or_ at a b.now) left run.old) }
     {
-        if run.decide(&left)? {
-            Ok(left)
-        } else {
-            self.eval(variables, run, b)
+        match run.decide(&left) {
+            Ok(true) => Ok(left),
+            Ok(false) => {
+                drop(left);
+                self.eval(variables, run, b)
+            }
+            Err(stopped) => {
+                drop(left);
+                Err(stopped)
+            }
         }
     }
 
@@ -201,8 +222,18 @@ impl Frame<'_, '_, '_> {
         ensures { (at : ℕ) (a : Meant) → GivesValue result run.new
             (climbed self.now variables.now (indexed at a b.now) whole run.old) }
     {
-        let place = self.eval(variables, run, b)?;
-        run.node(script_values::indexed(self.alloc, &whole, &place))
+        match self.eval(variables, run, b) {
+            Ok(place) => {
+                let result = run.node(script_values::indexed(self.alloc, &whole, &place));
+                drop(place);
+                drop(whole);
+                result
+            }
+            Err(stopped) => {
+                drop(whole);
+                Err(stopped)
+            }
+        }
     }
 
     #[cycle(walk)]
@@ -230,8 +261,13 @@ impl Frame<'_, '_, '_> {
             (value_at self.now variables.now (transact at (queries_of queries.now)) run.old) }
     {
         let statements = self.all_operands(variables, run, queries)?;
-        run.charge()?;
-        run.issue_unless_fault(script_values::transact_op(self.alloc, statements))
+        match run.charge() {
+            Ok(()) => run.issue_unless_fault(script_values::transact_op(self.alloc, statements)),
+            Err(stopped) => {
+                drop(statements);
+                Err(stopped)
+            }
+        }
     }
 
     #[cycle(walk)]
@@ -268,8 +304,13 @@ impl Frame<'_, '_, '_> {
             run.old) }
     {
         let values = self.eval_all(variables, run, operands.as_slice())?;
-        run.charge()?;
-        self.enter(run, function, values)
+        match run.charge() {
+            Ok(()) => self.enter(run, function, values),
+            Err(stopped) => {
+                drop(values);
+                Err(stopped)
+            }
+        }
     }
 
     #[cycle(walk)]
@@ -284,9 +325,11 @@ impl Frame<'_, '_, '_> {
             (entered_at self.now (function_of function.entry) values.items run.old) }
     {
         if self.depth == MOST_CALL_DEPTH {
+            drop(values);
             return Err(Stopped::fault(ScriptFault::TooDeep));
         }
         if self.fuel == 0 {
+            drop(values);
             return Err(Stopped::fault(ScriptFault::OutOfSteps));
         }
         let inner = Frame {
@@ -296,7 +339,9 @@ impl Frame<'_, '_, '_> {
             depth: self.depth + 1,
         };
         let mut variables = Variables::bound(self.alloc, function.parameters, values)?;
-        match inner.block(&mut variables, run, function.body)? {
+        let flow = inner.block(&mut variables, run, function.body);
+        drop(variables);
+        match flow? {
             Flow::On => Ok(Value::null()),
             Flow::Back(value) => Ok(value),
         }
@@ -315,13 +360,15 @@ impl Frame<'_, '_, '_> {
     {
         let values = self.arguments(variables, run, builtin.takes_store(), operands)?;
         let store = store_name(operands.as_slice());
-        run.called(script_values::call_of(
+        let called = run.called(script_values::call_of(
             self.alloc,
             self.walker.request(),
             store,
             builtin,
             values.as_slice(),
-        ))
+        ));
+        drop(values);
+        called
     }
 
     #[cycle(walk)]
@@ -334,7 +381,8 @@ impl Frame<'_, '_, '_> {
         ensures { GivesValue result run.new
             (call_at self.now variables.now unknown operands.now run.old) }
     {
-        let _values = self.eval_all(variables, run, operands.as_slice())?;
+        let values = self.eval_all(variables, run, operands.as_slice())?;
+        drop(values);
         run.charge()?;
         Err(Stopped::fault(ScriptFault::WrongKind))
     }

@@ -100,7 +100,7 @@ impl Frame<'_, '_, '_> {
             (statement_at self.now (let_ at x.now e.now) variables.old run.old) }
     {
         let value = self.eval(variables, run, e)?;
-        run.charge()?;
+        let value = run.seen(value)?;
         variables.declare(&x.text, value)?;
         Ok(Flow::On)
     }
@@ -117,7 +117,7 @@ impl Frame<'_, '_, '_> {
             (statement_at self.now (set_ at x.now e.now) variables.old run.old) }
     {
         let value = self.eval(variables, run, e)?;
-        run.charge()?;
+        let value = run.seen(value)?;
         variables.assign(&x.text, value);
         Ok(Flow::On)
     }
@@ -281,8 +281,10 @@ impl Frame<'_, '_, '_> {
             (statement_at self.now (echo at e.now) variables.now run.old) }
     {
         let value = self.eval(variables, run, e)?;
-        run.charge()?;
-        run.print_value(self.alloc, &value)?;
+        let value = run.seen(value)?;
+        let printed = run.print_value(self.alloc, &value);
+        drop(value);
+        printed?;
         Ok(Flow::On)
     }
 
@@ -297,8 +299,10 @@ impl Frame<'_, '_, '_> {
             (statement_at self.now (status_ at e.now) variables.now run.old) }
     {
         let value = self.eval(variables, run, e)?;
-        run.charge()?;
-        run.set_status(&value)?;
+        let value = run.seen(value)?;
+        let kept = run.set_status(&value);
+        drop(value);
+        kept?;
         Ok(Flow::On)
     }
 
@@ -313,8 +317,7 @@ impl Frame<'_, '_, '_> {
             (statement_at self.now (return at e.now) variables.now run.old) }
     {
         let value = self.eval(variables, run, e)?;
-        run.charge()?;
-        Ok(Flow::Back(value))
+        Ok(Flow::Back(run.seen(value)?))
     }
 
     #[cycle(walk)]
@@ -322,8 +325,8 @@ impl Frame<'_, '_, '_> {
         ensures { (at : ℕ) → Gives (flow_of variables.now) result run.new
             (statement_at self.now (do_ at e.now) variables.now run.old) }
     {
-        let _value = self.eval(variables, run, e)?;
-        run.charge()?;
+        let value = self.eval(variables, run, e)?;
+        drop(run.seen(value)?);
         Ok(Flow::On)
     }
 }

@@ -151,29 +151,29 @@ enter-returns-then-self-eq0 t c =
     rw c.fault-then-self-eq0.ensures
     (none_left c.args.self.now.walker.now c.args.self.now.depth (function_of c.args.function) c.args.values.items c.args.run.now c.if-self-eq-MOST_CALL_DEPTH.false c.args.self.now.fuel c.if-self-eq0.true)
 
-pub enter-block-requires : goal.enter-block-requires
-enter-block-requires t c =
+pub enter-block-flow-requires : goal.enter-block-flow-requires
+enter-block-flow-requires t c =
     (omega (arith, one_less c.args.self.now.walker.now.program c.args.self.now.fuel (block_nodes c.args.function.body.now) c.if-self-eq0.false c.requires, c.decreases), tt)
 
-pub enter-returns-in_err-block : goal.enter-returns-in_err-block
-enter-returns-in_err-block t c =
-    let q = err_from_is_err_and c.from_residual-in_err-block.result c.from_residual-in_err-block.ensures.1 in
+pub enter-returns-in_err-flow : goal.enter-returns-in_err-flow
+enter-returns-in_err-flow t c =
+    let q = err_from_is_err_and c.from_residual-in_err-flow.result c.from_residual-in_err-flow.ensures.1 in
     rw (q.1, q.2)
     (inside_stops c.args.self.now.walker.now c.args.self.now.depth (function_of c.args.function) c.args.values.items c.args.run.now c.if-self-eq-MOST_CALL_DEPTH.false c.args.self.now.fuel
-    c.in_ok-variables.variables c.in_err-block.field-0.0 c.block.new.run _ c.if-self-eq0.false c.in_ok-variables.ensures refl c.in_err-block.ensures)
+    c.in_ok-variables.variables c.in_err-flow.field-0.0 c.block-flow.new.run _ c.if-self-eq0.false c.in_ok-variables.ensures refl c.in_err-flow.ensures)
 
 pub enter-returns-in-On : goal.enter-returns-in-On
 enter-returns-in-On t c =
     inside c.args.self.now.walker.now c.args.self.now.depth (function_of c.args.function) c.args.values.items c.args.run.now c.if-self-eq-MOST_CALL_DEPTH.false c.args.self.now.fuel
-    c.in_ok-variables.variables (goes (on c.block.new.variables) c.block.new.run) c.if-self-eq0.false c.in_ok-variables.ensures
-    (c.in_ok-block.ensures ∙ ap (λ f. goes (flow_of c.block.new.variables f) c.block.new.run) c.in-On.is)
-    ∙ ap (λ v. goes v c.block.new.run) (sym c.null.ensures)
+    c.in_ok-variables.variables (goes (on c.block-flow.new.variables) c.block-flow.new.run) c.if-self-eq0.false c.in_ok-variables.ensures
+    (c.in_ok-flow.ensures ∙ ap (λ f. goes (flow_of c.block-flow.new.variables f) c.block-flow.new.run) c.in-On.is)
+    ∙ ap (λ v. goes v c.block-flow.new.run) (sym c.null.ensures)
 
-pub enter-returns : goal.enter-returns
-enter-returns t c =
+pub enter-returns-in-Back : goal.enter-returns-in-Back
+enter-returns-in-Back t c =
     inside c.args.self.now.walker.now c.args.self.now.depth (function_of c.args.function) c.args.values.items c.args.run.now c.if-self-eq-MOST_CALL_DEPTH.false c.args.self.now.fuel
-    c.in_ok-variables.variables (goes (back c.in-Back.value) c.block.new.run) c.if-self-eq0.false c.in_ok-variables.ensures
-    (c.in_ok-block.ensures ∙ ap (λ f. goes (flow_of c.block.new.variables f) c.block.new.run) c.in-Back.is)
+    c.in_ok-variables.variables (goes (back c.in-Back.value) c.block-flow.new.run) c.if-self-eq0.false c.in_ok-variables.ensures
+    (c.in_ok-flow.ensures ∙ ap (λ f. goes (flow_of c.block-flow.new.variables f) c.block-flow.new.run) c.in-Back.is)
 
 pub exec_while-eval-requires : goal.exec_while-eval-requires
 exec_while-eval-requires t c =

@@ -10,7 +10,7 @@ use std::marker::Model;
 
 /// A list. Contracts see its members, in order. It is made from a `Vec`, and gives it back, without
 /// taking memory.
-#[derive(Debug, Drop)]
+#[derive(Drop)]
 pub struct Items<T> {
     items: Vec<T>,
 }

@@ -5,7 +5,7 @@ use std::alloc::{AllocError, AllocFailed};
 use std::fmt;
 
 /// Why a call has no value: it ran out of memory, or a fault of its own.
-#[derive(Debug, Drop, PartialEq, Eq)]
+#[derive(Drop, PartialEq, Eq)]
 pub enum OrMemory<E> {
     Memory,
     Other(E),

@@ -13,7 +13,7 @@ pub fn workers_in_digits()
 {}
 
 /// How many workers draw, at least one. Contracts see the number.
-#[derive(Clone, Copy, Debug, PartialEq, Eq)]
+#[derive(Clone, Copy, PartialEq, Eq)]
 pub struct Workers {
     count: u32,
 }

@@ -17,7 +17,7 @@ use std::fmt;
 use workload::WorkFault;
 
 /// What is wrong with a trace.
-#[derive(Clone, Copy, Debug, PartialEq, Eq)]
+#[derive(Clone, Copy, PartialEq, Eq)]
 pub enum TraceFault {
     /// Its first bad record begins at this byte, from 0.
     Unreadable(u64),
@@ -26,7 +26,7 @@ pub enum TraceFault {
 }
 
 /// What is wrong with an input.
-#[derive(Clone, Copy, Debug, PartialEq, Eq)]
+#[derive(Clone, Copy, PartialEq, Eq)]
 pub enum InputFault {
     /// It isn't there.
     Absent(Role),
@@ -43,7 +43,7 @@ pub enum InputFault {
 }
 
 /// Why an input was not read.
-#[derive(Clone, Copy, Debug, PartialEq, Eq)]
+#[derive(Clone, Copy, PartialEq, Eq)]
 pub enum InputError {
     Fault(InputFault),
     Halt(Halt),

@@ -6,7 +6,7 @@ use outside::Fault;
 use std::alloc::AllocError;
 
 /// Why a command ends without an answer, or without all of its line.
-#[derive(Clone, Copy, Debug, PartialEq, Eq)]
+#[derive(Clone, Copy, PartialEq, Eq)]
 pub enum Halt {
     /// The world outside failed, and a count of faults has risen.
     Failed,

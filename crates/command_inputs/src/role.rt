@@ -4,7 +4,7 @@ ghost use Rattle.command_inputs.specs.Roles.{role_name};
 use std::fmt;
 
 /// What an input is to a command.
-#[derive(Clone, Copy, Debug, PartialEq, Eq)]
+#[derive(Clone, Copy, PartialEq, Eq)]
 pub enum Role {
     Program,
     State,

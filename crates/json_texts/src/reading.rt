@@ -7,7 +7,7 @@ use serde_json::Value as Json;
 use std::alloc::Global;
 
 /// The bytes aren't a JSON text as `serde_json` reads one.
-#[derive(Clone, Copy, Debug, PartialEq, Eq)]
+#[derive(Clone, Copy, PartialEq, Eq)]
 pub struct NotJson;
 
 /// The tree of a JSON text.

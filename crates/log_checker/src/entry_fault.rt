@@ -7,7 +7,7 @@ use script_tree::operation::Object;
 use std::alloc::AllocError;
 
 /// What is wrong with an entry of a log.
-#[derive(Clone, Copy, Debug, PartialEq, Eq)]
+#[derive(Clone, Copy, PartialEq, Eq)]
 pub(crate) enum EntryFault {
     Foreign,
     OfNoRequest,

@@ -1,7 +1,7 @@
 use std::fmt;
 
 /// Why a shelf did not do what it was asked.
-#[derive(Clone, Copy, Debug, PartialEq, Eq)]
+#[derive(Clone, Copy, PartialEq, Eq)]
 pub enum ShelfFault {
     /// There is no file of that name.
     Absent,
@@ -12,7 +12,7 @@ pub enum ShelfFault {
 }
 
 /// Why a stream, a door or a house did not do what it was asked.
-#[derive(Clone, Copy, Debug, PartialEq, Eq)]
+#[derive(Clone, Copy, PartialEq, Eq)]
 pub enum Fault {
     /// The object failed, and its count of faults has risen.
     Failed,

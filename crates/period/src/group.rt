@@ -5,7 +5,7 @@ use basis::Items;
 use std::marker::Model;
 
 /// The ids of requests that took the same path: at least one.
-#[derive(Debug, Drop)]
+#[derive(Drop)]
 pub struct Group {
     rids: Vec<u32>,
 }

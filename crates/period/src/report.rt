@@ -8,7 +8,7 @@ use basis::Items;
 use script_tree::operation::{Act, Choice, Object};
 
 /// How many operations a request issued.
-#[derive(Clone, Copy, Debug, PartialEq, Eq)]
+#[derive(Clone, Copy, PartialEq, Eq)]
 pub struct Count {
     pub rid: u32,
     pub operations: u32,

@@ -4,7 +4,7 @@ use basis::Items;
 use script_tree::operation::Choice;
 
 /// One moment of a schedule, with the id of a request.
-#[derive(Clone, Copy, Debug, PartialEq, Eq)]
+#[derive(Clone, Copy, PartialEq, Eq)]
 pub enum Moment {
     /// The request arrives.
     Arrive(u32),

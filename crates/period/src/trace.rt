@@ -4,7 +4,7 @@ use basis::Items;
 use script_tree::request::{Request, Response};
 
 /// What a collector saw: a request or a response, with the id of the request.
-#[derive(Debug, Drop)]
+#[derive(Drop)]
 pub enum TraceEvent {
     Asked(u32, Request),
     Answered(u32, Response),

@@ -2,7 +2,7 @@ ghost use Rattle.std.specs.Prelude.{◌≡◌};
 ghost use Rattle.replayer.specs.Differences.{reason_number, replay_number};
 
 /// Why a moment of a schedule is not one of the trace. Reasons are tested in this order.
-#[derive(Clone, Copy, Debug, PartialEq, Eq)]
+#[derive(Clone, Copy, PartialEq, Eq)]
 pub enum Reason {
     /// Its request is not in the trace.
     UnknownRequest = 2,
@@ -32,7 +32,7 @@ impl Reason {
 }
 
 /// Why a schedule doesn't agree with a trace.
-#[derive(Clone, Copy, Debug, PartialEq, Eq)]
+#[derive(Clone, Copy, PartialEq, Eq)]
 pub enum ReplayReason {
     /// The schedule is not in its grammar: its first bad record begins at this byte.
     Unreadable(u64),
@@ -60,7 +60,7 @@ impl ReplayReason {
 }
 
 /// What a replay finds.
-#[derive(Clone, Copy, Debug, PartialEq, Eq)]
+#[derive(Clone, Copy, PartialEq, Eq)]
 pub enum Replayed {
     Agrees,
     Differs(ReplayReason),

@@ -4,7 +4,7 @@ ghost use Rattle.script_check.specs.Counts.{counts_of};
 use script_tree::syntax::declaration::Declaration;
 
 /// How many declarations of each sort a program has.
-#[derive(Clone, Copy, Debug, PartialEq, Eq)]
+#[derive(Clone, Copy, PartialEq, Eq)]
 pub struct Counts {
     pub pages: usize,
     pub functions: usize,

@@ -1,7 +1,7 @@
 ghost use Rattle.std.specs.Prelude.{◌≡◌};
 
 /// What is wrong with a tree: docs/language.md, "Check".
-#[derive(Clone, Copy, Debug, PartialEq, Eq)]
+#[derive(Clone, Copy, PartialEq, Eq)]
 pub enum CheckFaultKind {
     /// A variable or function that isn't declared.
     Undeclared,
@@ -36,7 +36,7 @@ impl CheckFaultKind {
 }
 
 /// A fault of a tree.
-#[derive(Clone, Copy, Debug, PartialEq, Eq)]
+#[derive(Clone, Copy, PartialEq, Eq)]
 pub struct CheckFault {
     /// How many bytes stand before it.
     pub at: usize,

@@ -7,7 +7,7 @@ use script_tree::comparison::Comparison;
 use script_tree::syntax::operator::BinaryOperator;
 
 /// What stands between two operands, or behind one: docs/language.md, "Grammar".
-#[derive(Clone, Copy, Debug, PartialEq, Eq)]
+#[derive(Clone, Copy, PartialEq, Eq)]
 pub enum Joint {
     Indexing,
     And,

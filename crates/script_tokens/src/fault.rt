@@ -1,5 +1,5 @@
 /// What is wrong with a program's text: docs/language.md, "Syntax".
-#[derive(Clone, Copy, Debug, PartialEq, Eq)]
+#[derive(Clone, Copy, PartialEq, Eq)]
 pub enum SyntaxFaultKind {
     NoToken,
     Grammar,
@@ -7,7 +7,7 @@ pub enum SyntaxFaultKind {
 }
 
 /// A fault of a program's text.
-#[derive(Clone, Copy, Debug, PartialEq, Eq)]
+#[derive(Clone, Copy, PartialEq, Eq)]
 pub struct SyntaxFault {
     /// How many bytes stand before it.
     pub at: usize,
@@ -15,7 +15,7 @@ pub struct SyntaxFault {
 }
 
 /// What stands behind the last token.
-#[derive(Clone, Copy, Debug, PartialEq, Eq)]
+#[derive(Clone, Copy, PartialEq, Eq)]
 pub enum End {
     /// The end of the file, which has so many bytes.
     File(usize),

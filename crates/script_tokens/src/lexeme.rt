@@ -11,7 +11,7 @@ use crate::word::Word;
 use script_tree::limits::{MOST_IDENTIFIER_BYTES, MOST_LITERAL_BYTES, MOST_NUMBER};
 
 /// What stands at the front of some bytes, with its length.
-#[derive(Clone, Copy, Debug)]
+#[derive(Clone, Copy)]
 pub enum Lexeme {
     /// Blanks or a comment.
     Blank(usize),
@@ -20,7 +20,7 @@ pub enum Lexeme {
 }
 
 /// What bytes are gathered by.
-#[derive(Clone, Copy, Debug, PartialEq, Eq)]
+#[derive(Clone, Copy, PartialEq, Eq)]
 pub enum Class {
     Name,
     Digit,

@@ -17,7 +17,7 @@ use std::alloc::{AllocError, Global};
 use std::marker::Model;
 
 /// The first token, with its length, or what ends the tokens.
-#[derive(Clone, Copy, Debug)]
+#[derive(Clone, Copy)]
 enum Front {
     Token(Shape, usize),
     Nothing(End),

@@ -1,7 +1,7 @@
 use crate::word::Word;
 
 /// What a token is, without the bytes of a name and the content of a text.
-#[derive(Clone, Copy, Debug, PartialEq, Eq)]
+#[derive(Clone, Copy, PartialEq, Eq)]
 pub enum Shape {
     /// A keyword or a sign.
     Word(Word),

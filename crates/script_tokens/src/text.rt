@@ -8,7 +8,7 @@ use script_tree::text::Text;
 use std::alloc::{AllocError, Global};
 
 /// Where in a text's content a byte stands.
-#[derive(Clone, Copy, Debug)]
+#[derive(Clone, Copy)]
 pub enum Mode {
     Plain,
     /// Behind a backslash.
@@ -20,7 +20,7 @@ pub enum Mode {
 }
 
 /// What a byte of a text does.
-#[derive(Clone, Copy, Debug)]
+#[derive(Clone, Copy)]
 pub enum Step {
     Ends,
     Fails,

@@ -4,7 +4,7 @@ ghost use Rattle.script_tokens.specs.Words.{spelling_of, word_of};
 ghost use Rattle.script_tokens.specs.Beginnings.{beginning_with};
 
 /// A token that is always written the same: a keyword or a sign.
-#[derive(Clone, Copy, Debug, PartialEq, Eq)]
+#[derive(Clone, Copy, PartialEq, Eq)]
 pub enum Word {
     Store,
     Table,

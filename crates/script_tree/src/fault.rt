@@ -4,7 +4,7 @@ ghost use Rattle.script_tree.specs.Faults.{fault_number};
 use std::fmt;
 
 /// Why a script stops before its end. Its response has the number: docs/language.md.
-#[derive(Clone, Copy, Debug, PartialEq, Eq, Hash)]
+#[derive(Clone, Copy, PartialEq, Eq, Hash)]
 pub enum ScriptFault {
     /// A value of the wrong kind.
     WrongKind = 1,

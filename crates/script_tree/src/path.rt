@@ -4,7 +4,7 @@ use crate::fault::ScriptFault;
 use basis::Items;
 
 /// How a run ends.
-#[derive(Clone, Copy, Debug, PartialEq, Eq, Hash)]
+#[derive(Clone, Copy, PartialEq, Eq, Hash)]
 pub enum End {
     Normal,
     Fault(ScriptFault),
@@ -18,7 +18,7 @@ pub type Decisions = Items<bool>;
 
 /// The whole path of a run through its program: which page, each decision, the steps that were
 /// spent, and how it ended. A recorder groups requests by their paths.
-#[derive(Debug, PartialEq, Eq, Hash, Drop)]
+#[derive(PartialEq, Eq, Hash, Drop)]
 pub struct Path {
     /// The number of the page among the program's pages, from 0; none where no page has the
     /// request's path.

@@ -9,7 +9,7 @@ use basis::Items;
 use std::marker::Model;
 
 /// A parameter of a request.
-#[derive(Debug, Drop)]
+#[derive(Drop)]
 pub struct Parameter {
     pub name: Text,
     pub value: Text,
@@ -19,7 +19,7 @@ pub struct Parameter {
 pub type Parameters = Items<Parameter>;
 
 /// A request that a client sends. Each request is within the limits of a request.
-#[derive(Debug, Drop)]
+#[derive(Drop)]
 pub struct Request {
     method: Text,
     path: Text,
@@ -40,7 +40,7 @@ impl Model for Request {
 }
 
 /// What a page answers.
-#[derive(Debug, Drop)]
+#[derive(Drop)]
 pub struct Response {
     pub status: u16,
     pub body: Text,

@@ -4,7 +4,7 @@ ghost use Rattle.state_file.specs.States.{fault_kind};
 use std::fmt;
 
 /// What is wrong with a state.
-#[derive(Clone, Copy, Debug, PartialEq, Eq)]
+#[derive(Clone, Copy, PartialEq, Eq)]
 pub enum StateFault {
     NotJson,
     /// Another shape, an unknown member, or a number that isn't a whole one of 64 bits.

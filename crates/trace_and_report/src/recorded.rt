@@ -14,7 +14,7 @@ pub struct Recorded {
 }
 
 /// Which file would be longer than a file may be.
-#[derive(Clone, Copy, Debug, PartialEq, Eq)]
+#[derive(Clone, Copy, PartialEq, Eq)]
 pub enum TooLong {
     Trace,
     Report,

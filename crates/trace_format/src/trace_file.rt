@@ -16,7 +16,7 @@ use wire::field::{read_u8, read_u32};
 use wire::records::Records;
 
 /// What kind of event it is, and its id.
-#[derive(Clone, Copy, Debug, PartialEq, Eq)]
+#[derive(Clone, Copy, PartialEq, Eq)]
 pub enum EventHead {
     Asks(u32),
     Answers(u32),

@@ -6,13 +6,13 @@ use std::fmt;
 
 /// No spelling of the field begins at this place, or none of a record that may stand there. Of a
 /// file without its magic, the place is 0.
-#[derive(Clone, Copy, Debug, PartialEq, Eq)]
+#[derive(Clone, Copy, PartialEq, Eq)]
 pub struct Unreadable {
     pub at: usize,
 }
 
 /// The first record that would end past the limit of the file would begin at this place.
-#[derive(Clone, Copy, Debug, PartialEq, Eq)]
+#[derive(Clone, Copy, PartialEq, Eq)]
 pub struct PastLimit {
     pub at: usize,
 }

@@ -4,7 +4,7 @@ ghost use Rattle.workload.specs.Files.{fault_kind};
 use std::fmt;
 
 /// What is wrong with a file of requests or of turns.
-#[derive(Clone, Copy, Debug, PartialEq, Eq)]
+#[derive(Clone, Copy, PartialEq, Eq)]
 pub enum WorkFault {
     NotJson,
     /// Another shape, an unknown member, a job without a path, or a number that isn't a whole one

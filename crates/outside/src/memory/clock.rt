@@ -3,7 +3,7 @@ ghost use Rattle.std.specs.Prelude.{Some};
 use crate::clock::Clock;
 
 /// A clock that stands still at this reading.
-#[derive(Clone, Copy, Debug, PartialEq, Eq)]
+#[derive(Clone, Copy, PartialEq, Eq)]
 pub struct FixedClock(pub u64);
 
 impl Clock for FixedClock {

@@ -1,7 +1,7 @@
 use crate::gate::Gate;
 
 /// A gate that lets every worker pass.
-#[derive(Clone, Copy, Debug, PartialEq, Eq)]
+#[derive(Clone, Copy, PartialEq, Eq)]
 pub struct OpenGate;
 
 impl Gate for OpenGate {

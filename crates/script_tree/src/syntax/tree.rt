@@ -5,7 +5,7 @@ use basis::Items;
 use std::marker::Model;
 
 /// A version of the language. There is one so far.
-#[derive(Clone, Copy, Debug, PartialEq, Eq)]
+#[derive(Clone, Copy, PartialEq, Eq)]
 pub enum Version {
     First,
 }

@@ -65,7 +65,9 @@ fn audit_with_program<'w, F: Shelf, G: Gate + Sync>(
     ensures used { UsesToRead (F.told shelf.old) (F.told shelf.new) result }
 {
     let start = read_state(alloc, shelf, words.state, MOST_FILE_BYTES, program)?;
-    audit_with_state(alloc, shelf, words, program, &start, gate)
+    let outcome = audit_with_state(alloc, shelf, words, program, &start, gate);
+    leave(start);
+    outcome
 }
 
 /// What comes of the audit where the program and this state were read.
@@ -86,7 +88,9 @@ fn audit_with_state<'w, F: Shelf, G: Gate + Sync>(
     ensures used { UsesToRead (F.told shelf.old) (F.told shelf.new) result }
 {
     let trace = read_trace(alloc, shelf, words.trace, MOST_FILE_BYTES)?;
-    audit_with_trace(alloc, shelf, words, program, start, &trace, gate)
+    let outcome = audit_with_trace(alloc, shelf, words, program, start, &trace, gate);
+    leave(trace);
+    outcome
 }
 
 /// What comes of the audit where the program, the state and this trace were read.
@@ -110,7 +114,9 @@ fn audit_with_trace<'w, F: Shelf, G: Gate + Sync>(
     ensures used { UsesToRead (F.told shelf.old) (F.told shelf.new) result }
 {
     let report = read_report(alloc, shelf, words.report, MOST_FILE_BYTES)?;
-    Ok(outcome_on(alloc, words, program, start, trace, &report, gate)?)
+    let outcome = outcome_on(alloc, words, program, start, trace, &report, gate);
+    leave(report);
+    Ok(outcome?)
 }
 
 /// The outcome of the verdict on a report that was read.

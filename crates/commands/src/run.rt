@@ -89,7 +89,11 @@ pub fn run<R: Threads + Wait + Sync, F: Shelf, O: Sink, H: House, C: Clock + Syn
         gate,
     };
     match outcome_of(&system, words, shelf) {
-        Ok(outcome) => carry_out(alloc, shelf, out, &outcome),
+        Ok(outcome) => {
+            let status = carry_out(alloc, shelf, out, &outcome);
+            drop(outcome);
+            status
+        }
         Err(halt) => halt.status(),
     }
 }

@@ -2,6 +2,7 @@
 use Rattle.std.proofs.Common.{◌≡◌, ℕ, ◌+◌, ◌-◌, ◌<◌, ◌≤◌, Bool, true, false, List, [], ◌∷◌, ◌++◌, length, take, drop, reverse, get_or, slice_set}
 use Rattle.std.proofs.Common.{replicate, Some, None, Option, inl, inr, refl, sym, ap, subst, ◌∙◌, arith, true≢false, All}
 use Rattle.std.specs.List.{IsDistinct}
+use Rattle.std.specs.Option.{is_some}
 use Rattle.std.proofs.lemmas.Bool.{cases_eq}
 use Rattle.std.proofs.lemmas.Cmp.{nat_eq_equiv}
 use Rattle.std.proofs.lemmas.List.{get_or_append_left, get_or_push, length_push, length-set, get_or-set_same, get_or-set_other}
@@ -11,9 +12,11 @@ use Rattle.std.proofs.lemmas.Map.Keys.{IsDistinct-push}
 use Rattle.std.proofs.lemmas.Map.Steps.{length-le_from_distinct_below}
 use Rattle.event_order.specs.declared.graph.Graph.{Graph}
 use Rattle.event_order.specs.Order.{has, IsEventGraph}
-use Rattle.event_order.specs.Cycle.{IsDirect, by_request, by_log, by_time, IsLeast, IsLeft, HoldsBack, IsWalk, NoWalk, IsCycle}
+use Rattle.event_order.specs.Standing.{Standing}
+use Rattle.event_order.specs.Cycle.{IsDirect, by_request, by_log, by_time, IsLeast, IsLeft, IsUnmarked, HoldsBack, IsWalk, NoWalk, IsCycle}
 use Rattle.event_order.proofs.Members.{has_push_new, has_push_cases, has_push_other}
 use Rattle.event_order.proofs.Steps.{log_inside, has_from_place}
+use Rattle.event_order.proofs.Walks.{unmarked_left}
 
 -- what comes next: the least node left, or the least one that holds the last one back
 pub record IsNext (g : Graph) (xs walk : List ℕ) (next : Option ℕ) : Type 0 where
@@ -160,3 +163,9 @@ starts g xs seen next all least = record {
   left = λ q t. absurd (true≢false (sym t));
   is_next = record { first = λ e. least; later = λ l. absurd (omega arith) };
 }
+
+-- no walk begins where no node is left
+pub nothing_left : (g : Graph) (xs : List ℕ) (marks : List Bool) (f : ℕ → Bool) (p : ℕ) → Standing g xs marks f p
+    → (least : Option ℕ) → IsLeast (IsUnmarked marks) least → is_some least ≡ false → NoWalk g xs
+nothing_left g xs marks f p holds None is none = inl (unmarked_left g xs marks f p holds None is)
+nothing_left g xs marks f p holds (Some x) is none = absurd (true≢false none)

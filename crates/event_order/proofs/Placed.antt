@@ -1,15 +1,16 @@
 -- What the set has while a node is taken out and placed, and its successors are offered.
-use Rattle.std.proofs.Common.{◌≡◌, ℕ, ◌+◌, true, false, List, [], ◌∷◌, ◌++◌, IsTrue, inl, inr, sym, ap, subst, ◌∙◌, true≢false}
+use Rattle.std.proofs.Common.{◌≡◌, ℕ, ◌+◌, true, false, List, [], ◌∷◌, ◌++◌, Some, None, IsTrue, inl, inr, sym, ap, subst, ◌∙◌, true≢false}
 use Rattle.std.proofs.lemmas.Bool.{cases_eq}
 use Rattle.std.proofs.lemmas.Map.Keys.{le_from_not_gt}
 use Rattle.std.specs.BTreeSet.{BTreeSet, contains, IsLowerBound, Updates}
 use Rattle.std.specs.Ordering.{nat_cmp}
 use Rattle.event_order.specs.declared.graph.Graph.{Graph}
+use Rattle.event_order.specs.declared.graph.Node.{Node}
 use Rattle.event_order.specs.declared.placing.Placing.{Placing}
-use Rattle.event_order.specs.Order.{IsFree, IsEventGraph}
+use Rattle.event_order.specs.Order.{NodeIs, IsFree, IsEventGraph}
 use Rattle.event_order.specs.Standing.{Covering, IsCovering, IsSettled, IsTaken, IsLater, Grows, Offers, OffersLog}
 use Rattle.event_order.proofs.Members.{Leaves, set_leaves}
-use Rattle.event_order.proofs.Steps.{places_covers}
+use Rattle.event_order.proofs.Steps.{places_covers, same_node}
 
 pub offered : (g : Graph) (s0 s1 s2 s3 : Placing) (x : ℕ) → IsEventGraph g → IsTaken g s0 x
     → s1.order.items ≡ s0.order.items ++ x ∷ [] → s1.free ≡ s0.free → s1.passed ≡ s0.passed
@@ -55,3 +56,15 @@ takes g s t x settled there least updates = record {
 
     within : (q : ℕ) → contains nat_cmp t q ≡ true → contains nat_cmp s.free q ≡ true
     within q e = elim (cases_eq q x) [ inl same ↦ ap (contains nat_cmp s.free) same ∙ there | inr ne ↦ sym (leaves.others q ne) ∙ e ]
+
+-- the node after x in its log is offered
+pub log_offered : (g : Graph) (s : Placing) (x y : ℕ) (node : Node) → NodeIs g x node → node.log_after ≡ Some y → Offers g s y → OffersLog g s x
+log_offered g s x y node is after offers q other at log =
+    let e : Some y ≡ Some q = sym after ∙ ap (λ n. n.log_after) (same_node g x node other is at) ∙ log in
+    let same : y ≡ q = cc in
+    subst (Offers g s) same offers
+
+-- there is no such node
+pub none_offered : (g : Graph) (s : Placing) (x : ℕ) (node : Node) → NodeIs g x node → node.log_after ≡ None → OffersLog g s x
+none_offered g s x node is after q other at log free =
+    let bad : None ≡ Some q = sym after ∙ ap (λ n. n.log_after) (same_node g x node other is at) ∙ log in cc

@@ -1,7 +1,9 @@
 -- The window on the trace, as its ends rise.
-use Rattle.std.proofs.Common.{◌≡◌, ℕ, ◌+◌, ◌<◌, ◌≤◌, Bool, true, false, List, [], ◌∷◌, length, Some, None, Option, Bor, IsSome, IfSome, IsTrue}
-use Rattle.std.proofs.Common.{inl, inr, sym, ap, subst, ◌∙◌, arith, true≢false}
+use Rattle.std.proofs.Common.{◌≡◌, ℕ, ◌+◌, ◌<◌, ◌≤◌, Bool, true, false, List, [], ◌∷◌, ◌++◌, length, Some, None, Option, Bor, IsSome, IfSome, IsTrue}
+use Rattle.std.proofs.Common.{get_or, inl, inr, sym, ap, subst, ◌∙◌, arith, true≢false}
 use Rattle.std.proofs.lemmas.Bool.{cases_eq}
+use Rattle.std.proofs.lemmas.List.{get_or_push, get_or_append_left, length_push}
+use Rattle.std.proofs.lemmas.Option.{slice_get-get_or, slice_get_within, get_or_from_slice_get}
 use Rattle.std.proofs.lemmas.Map.Keys.{le_from_not_gt}
 use Rattle.std.specs.BTreeSet.{BTreeSet, contains, IsLowerBound}
 use Rattle.std.specs.Option.{option_copied}
@@ -14,7 +16,7 @@ use Rattle.event_order.specs.declared.graph.Event.TheVariants.{Arrival, Departur
 use Rattle.event_order.specs.Order.{NodeIs, EventIs, has, IsEventGraph}
 use Rattle.event_order.specs.Thin.{IsThin}
 use Rattle.event_order.specs.Cycle.{IsLeast}
-use Rattle.event_order.specs.Window.{IsDeparted, HasDeparted, IsWindow, Slides, IsLeastDeparted}
+use Rattle.event_order.specs.Window.{IsDeparted, HasDeparted, IsWindow, Slides, IsLeastDeparted, AreLeastDeparted}
 use Rattle.event_order.proofs.Members.{Enters, Leaves}
 use Rattle.event_order.proofs.Steps.{same_node, same_departure, not_both}
 use Rattle.event_order.proofs.Walks.{least_same}
@@ -130,6 +132,25 @@ module _ (g : Graph) (s : Placing) where
   pub departure_least : IsEventGraph g → (j y : ℕ) → EventIs g j (Departure y) → IsLeastDeparted g s j None
   departure_least graph j y at z other there arrives place =
       absurd (not_both g j z y (subst (λ k. EventIs g k (Arrival z)) place (graph.arrives z other there arrives)) at)
+
+  -- the list of the least nodes goes on by one
+  pub leasts_next : (leasts more : List (Option ℕ)) (least : Option ℕ) (end : ℕ) → AreLeastDeparted g s leasts → length leasts ≡ end
+      → IsLeastDeparted g s end least → more ≡ leasts ++ least ∷ [] → AreLeastDeparted g s more × (length more ≡ end + 1)
+  leasts_next leasts more least end all len last pushed = (each, ap length pushed ∙ length_push leasts least ∙ ap (λ n. n + 1) len)
+    where
+      each : AreLeastDeparted g s more
+      each i found at =
+          let here : get_or (leasts ++ least ∷ []) i None ≡ found = ap (λ ls. get_or ls i None) (sym pushed) ∙ get_or_from_slice_get more i found None at in
+          let within : i < length more = slice_get_within more i found at in
+          elim (cases_eq i end) [
+            | inl e ↦
+                let same : least ≡ found = sym (get_or_push leasts least None i (len ∙ sym e)) ∙ here in
+                subst (IsLeastDeparted g s i) same (subst (λ n. IsLeastDeparted g s n least) (sym e) last)
+            | inr ne ↦
+                let below : i < length leasts = omega (arith, ne, len, within, ap length pushed, length_push leasts least) in
+                let same : get_or leasts i None ≡ found = sym (get_or_append_left leasts (least ∷ []) None i below) ∙ here in
+                all i found (slice_get-get_or leasts i None below ∙ ap (λ o. Some o) same)
+          ]
 
 -- what the clauses of a set's `first` say
 pub first_is_least : (s : BTreeSet ℕ) (first : Option (Bor ℕ)) → (IsSome first → 0 < length s.keys) × (0 < length s.keys → IsSome first)

@@ -1,8 +1,13 @@
-use Rattle.std.proofs.Common.{◌≡◌, ℕ, ◌<◌, ◌++◌, ◌∷◌, [], length, drop, take, reverse, replicate, get_or, List, false, sym, ◌∙◌, ap, subst, arith, rules}
+use Rattle.std.proofs.Common.{◌≡◌, ℕ, ◌<◌, ◌++◌, ◌∷◌, [], length, drop, take, reverse, replicate, get_or, List, false, not, sym, ◌∙◌, ap, subst, arith, rules}
 use Rattle.event_order.specs.Order.{has}
-use Rattle.event_order.proofs.Paces.{Walking, next_left, next_inside, seen_read, paces_to, paces_closer, ends_nowhere, closes, starts}
+use Rattle.event_order.proofs.Paces.{Walking, next_left, next_inside, seen_read, paces_to, paces_closer, ends_nowhere, closes, starts, nothing_left}
 use Rattle.event_order.proofs.Walks.{unmarked_left}
 use Rattle.event_order.proofs.walking.find_cycle.Goals as goal
+
+pub returns-then-is_none : goal.returns-then-is_none
+returns-then-is_none c =
+    nothing_left c.args.graph.now _ _ _ _ c.requires.holds c.least_left-next.result c.least_left-next.ensures
+    (c.is_none.ensures ∙ ap not c.if-is_none.true)
 
 pub loop-next-init : goal.loop-next-init
 loop-next-init c =

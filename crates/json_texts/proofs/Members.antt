@@ -2,7 +2,7 @@
 use Rattle.std.proofs.Common.{◌≡◌, ◌∙◌, ℕ, Bool, ◌||◌, Bor, map, List, [], ◌∷◌, ◌++◌, Option, Some, None, option_map, false, cond, Ordering, Less, Equal, Greater, append_assoc, refl, ap, sym, arith, ◌≤◌, ◌-◌, length, take, drop, slice_index}
 use Rattle.std.specs.Cmp.Lexicographic.{slice_cmp}
 use Rattle.std.specs.Ordering.{nat_cmp, is_eq, match_ordering}
-use Rattle.std.specs.Prelude.{String, string_bytes}
+use Rattle.std.specs.Prelude.{IsSomeAnd, String, string_bytes}
 use Rattle.std.specs.BTreeMap.{BTreeMap, UpdatesBy, get_by_text}
 use Rattle.std.specs.List.{AllByRecursion, list_any}
 use Rattle.std.specs.List.Sorted.{IsStrictlySortedBy}
@@ -15,12 +15,12 @@ use Rattle.std.proofs.lemmas.List.{take_all}
 use Rattle.serde_json.specs.Data as json
 use Rattle.serde_json.specs.Events.{items_len, members_len}
 use Rattle.serde_json.specs.Find.{get_member}
-use Rattle.serde_json.specs.View.{view, members_view}
+use Rattle.serde_json.specs.View.{view, items_view, members_view}
 use Rattle.serde_json.specs.declared.value.Value.{Value}
 use Rattle.serde_json.proofs.Views.{Entry as JsonEntry, view-lookup}
 use Rattle.basis.specs.Options.{◌>>=◌}
 use Rattle.basis.proofs.Options.{some_is, bind_some}
-use Rattle.json_texts.specs.Shapes.{Named, each_of, has_twice, pair_in}
+use Rattle.json_texts.specs.Shapes.{Named, all_of, each_of, has_twice, pair_in}
 use Rattle.json_texts.specs.Texts.{hex_byte, hex_bytes, only_member}
 
 -- ---- one member
@@ -67,16 +67,33 @@ other_items (json.item d json.no_items) h = refl
 other_items (json.item d (json.item e json.no_items)) h = absurd (h refl)
 other_items (json.item d (json.item e (json.item f ds))) h = refl
 
+-- all items so far, the next one, and those behind it
+pub next_item : {A : Type 0} (read : json.Data → Option A) (past pushed : List A) (v : Value) (vs : List Value)
+    → IsSomeAnd (read (view v)) (λ found. pushed ≡ past ++ found ∷ [])
+    → option_map (λ more. past ++ more) (all_of read (items_view (v ∷ vs))) ≡ option_map (λ more. pushed ++ more) (all_of read (items_view vs))
+next_item {A} read past pushed v vs more = moved (read (view v)) (all_of read (items_view vs)) more where
+  moved : (first : Option A) (rest : Option (List A)) → IsSomeAnd first (λ found. pushed ≡ past ++ found ∷ [])
+      → option_map (λ more. past ++ more) (first >>= (λ found. rest >>= (λ more. Some (found ∷ more)))) ≡ option_map (λ more. pushed ++ more) rest
+  moved None rest more = absurd more
+  moved (Some found) None more = refl
+  moved (Some found) (Some xs) more = ap Some (sym (append_assoc past (found ∷ []) xs) ∙ ap (λ ys. ys ++ xs) (sym more))
+
+-- an item that gives nothing
+pub no_item : {A : Type 0} (read : json.Data → Option A) (past : List A) (v : Value) (vs : List Value)
+    → read (view v) ≡ None → option_map (λ more. past ++ more) (all_of read (items_view (v ∷ vs))) ≡ None
+no_item read past v vs is = rw is refl
+
 -- all members so far, the next one, and those behind it
-pub next_member : {A : Type 0} (read : json.Data → Option A) (past pushed : List (Named A)) (k : String Global) (v : Value) (found : A) (es : List JsonEntry)
-    → read (view v) ≡ Some found → pushed ≡ past ++ (string_bytes k, found) ∷ []
+pub next_member : {A : Type 0} (read : json.Data → Option A) (past pushed : List (Named A)) (k : String Global) (v : Value) (es : List JsonEntry)
+    → IsSomeAnd (read (view v)) (λ found. pushed ≡ past ++ (string_bytes k, found) ∷ [])
     → option_map (λ more. past ++ more) (each_of read (members_view ((k, v) ∷ es))) ≡ option_map (λ more. pushed ++ more) (each_of read (members_view es))
-next_member {A} read past pushed k v found es is more = rw (is, more) (moved (each_of read (members_view es))) where
-  moved : (rest : Option (List (Named A)))
-      → option_map (λ more. past ++ more) (rest >>= (λ more. Some ((string_bytes k, found) ∷ more)))
-      ≡ option_map (λ more. (past ++ (string_bytes k, found) ∷ []) ++ more) rest
-  moved None = refl
-  moved (Some xs) = ap Some (sym (append_assoc past ((string_bytes k, found) ∷ []) xs))
+next_member {A} read past pushed k v es more = moved (read (view v)) (each_of read (members_view es)) more where
+  moved : (first : Option A) (rest : Option (List (Named A))) → IsSomeAnd first (λ found. pushed ≡ past ++ (string_bytes k, found) ∷ [])
+      → option_map (λ more. past ++ more) (first >>= (λ found. rest >>= (λ more. Some ((string_bytes k, found) ∷ more))))
+      ≡ option_map (λ more. pushed ++ more) rest
+  moved None rest more = absurd more
+  moved (Some found) None more = refl
+  moved (Some found) (Some xs) more = ap Some (sym (append_assoc past ((string_bytes k, found) ∷ []) xs) ∙ ap (λ ys. ys ++ xs) (sym more))
 
 -- a member that gives nothing
 pub no_member : {A : Type 0} (read : json.Data → Option A) (past : List (Named A)) (k : String Global) (v : Value) (es : List JsonEntry)

@@ -1,4 +1,4 @@
-ghost use Rattle.std.specs.Prelude.{◌≡◌, [], map, Option, IfOk, IfSome, option_map};
+ghost use Rattle.std.specs.Prelude.{◌≡◌, ◌++◌, ◌∷◌, [], map, None, Option, IfOk, IfSome, IsSomeAnd, MatchBool, option_map, string_bytes};
 ghost use Rattle.std.specs.List.{list_any};
 ghost use Rattle.std.specs.Str.{bytes_eq};
 ghost use Rattle.serde_json.specs.Data.{Data};
@@ -80,34 +80,73 @@ pub fn pair_of(json: Json) -> Option<(Json, Json)>
     ensures { option_map (λ pair. (view pair.0, view pair.1)) result ≡ pair_of (view json) }
 {
     match json {
-        Json::Array(items) => pair_in(items),
+        Json::Array(mut items) => {
+            let pair = pair_in(&mut items);
+            drop(items);
+            pair
+        }
         Json::Null | Json::Bool(_) | Json::Number(_) | Json::String(_) | Json::Object(_) => None,
     }
 }
 
-fn pair_in(mut items: Vec<Json>) -> Option<(Json, Json)>
-    ensures { let pair = pair_in (items_view items.items) in
+/// The items, which are taken out, where there are two.
+fn pair_in(items: &mut Vec<Json>) -> Option<(Json, Json)>
+    ensures { let pair = pair_in (items_view items.old.items) in
         option_map (λ pair. (view pair.0, view pair.1)) result ≡ pair }
 {
     if items.len() != 2 {
         return None;
     }
     let second = items.pop()?;
-    let first = items.pop()?;
+    let Some(first) = items.pop() else {
+        drop(second);
+        return None;
+    };
     Some((first, second))
 }
 
 fn all_of<S: Shape>(alloc: Global, items: Vec<Json>) -> Result<Option<Items<S::Given>>, AllocError>
     ensures { IfOk result (λ o. o ≡ all_of S.given (items_view items.items)) }
 {
-    let mut given = Vec::with_capacity(alloc, items.len())?;
-    for item in items {
-        match S::read(alloc, item)? {
-            Some(one) => given.push(one)?,
-            None => return Ok(None),
+    let Ok(mut given) = Vec::with_capacity(alloc, items.len()) else {
+        drop(items);
+        return Err(AllocError);
+    };
+    let mut left = items.into_iter();
+    while let Some(item) = left.next() {
+        match put_given::<S>(alloc, item, &mut given) {
+            Ok(true) => {}
+            Ok(false) => {
+                drop(left);
+                drop(given);
+                return Ok(None);
+            }
+            Err(error) => {
+                drop(left);
+                drop(given);
+                return Err(error);
+            }
         }
     }
+    drop(left);
     Ok(Some(Items::from_vec(given)))
+}
+
+/// Puts what a tree gives behind the others, and tells whether it has the shape.
+fn put_given<S: Shape>(
+    alloc: Global,
+    json: Json,
+    given: &mut Vec<S::Given>,
+) -> Result<bool, AllocError>
+    ensures { let read = S.given (view json) in IfOk result (λ has. MatchBool has
+        (IsSomeAnd read (λ one. given.new.items ≡ given.old.items ++ one ∷ []))
+        (read ≡ None)) }
+{
+    match S::read(alloc, json)? {
+        Some(one) => given.push(one)?,
+        None => return Ok(false),
+    }
+    Ok(true)
 }
 
 fn each_of<S: Shape>(
@@ -118,13 +157,43 @@ fn each_of<S: Shape>(
     ensures once { IfOk result (λ o. IfSome o StandOnce) }
 {
     let mut given = Vec::new(alloc);
-    for (name, json) in members {
-        match S::read(alloc, json)? {
-            Some(one) => given.push((Text::from_vec(name.into_bytes()), one))?,
-            None => return Ok(None),
+    let mut left = members.into_iter();
+    while let Some((name, json)) = left.next() {
+        match put_named::<S>(alloc, name, json, &mut given) {
+            Ok(true) => {}
+            Ok(false) => {
+                drop(left);
+                drop(given);
+                return Ok(None);
+            }
+            Err(error) => {
+                drop(left);
+                drop(given);
+                return Err(error);
+            }
         }
     }
+    drop(left);
     Ok(Some(Items::from_vec(given)))
+}
+
+/// The same of what has a name.
+fn put_named<S: Shape>(
+    alloc: Global,
+    name: String,
+    json: Json,
+    given: &mut Vec<(Text, S::Given)>,
+) -> Result<bool, AllocError>
+    ensures { let read = S.given (view json) in IfOk result (λ has. MatchBool has
+        (IsSomeAnd read (λ one.
+        given.new.items ≡ given.old.items ++ (string_bytes name, one) ∷ []))
+        (read ≡ None)) }
+{
+    match S::read(alloc, json)? {
+        Some(one) => given.push((Text::from_vec(name.into_bytes()), one))?,
+        None => return Ok(false),
+    }
+    Ok(true)
 }
 
 /// Whether each member has one of these names.

@@ -5,8 +5,8 @@ use basis::OrMemory;
 use script_print::declaration::print;
 use script_syntax::parse::parse;
 use script_tokens::fault::SyntaxFaultKind;
-use std::alloc::{AllocError, Global};
 use script_tokens::print::print_text;
+use std::alloc::{AllocError, Global};
 
 /// Whether the text is a program that prints so.
 fn prints(alloc: Global, text: &[u8], printed: &[u8]) -> bool {

@@ -6,8 +6,8 @@ ghost use Rattle.log_checker.specs.Faults.{IsFaultOr, IsFaultIfAny};
 
 use audit_meaning::reason::Reason;
 use basis::OrMemory;
-use request_tables::IdTable;
 use period::report::Report;
+use request_tables::IdTable;
 use std::alloc::Global;
 use trace_format::trace_file::EventHead;
 use trace_index::IndexedTrace;

@@ -1,4 +1,5 @@
 mod Cells
+mod Falls
 mod Following
 mod Parts
 mod Runs

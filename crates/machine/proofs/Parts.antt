@@ -1,10 +1,12 @@
 -- Parts of a run, one after another.
-use Rattle.std.proofs.Common.{◌≡◌, ◌+◌, ℕ, Bool, true, false, List, [], ◌∷◌, Some, drop, Result, Ok, Err, refl, ap, arith}
+use Rattle.std.proofs.Common.{◌≡◌, ◌+◌, ℕ, Bool, true, false, List, [], ◌∷◌, Some, drop, length, Result, Ok, Err, refl, ap, arith}
+use Rattle.std.specs.Prelude.{slice_get, ◌==◌}
 use Rattle.script_tree.specs.Datum.{Datum, null}
 use Rattle.script_tree.specs.Requests.{Request}
 use Rattle.script_tree.specs.declared.fault.ScriptFault.{ScriptFault}
+use Rattle.script_tree.specs.declared.limits.TheConstants.{MOST_CALL_DEPTH}
 use Rattle.script_meaning.specs.BuiltinCalls.{Call, plain, of_request, operation}
-use Rattle.script_meaning.specs.Evaluate.{Flow, call_made, print_value, issue_unless_fault}
+use Rattle.script_meaning.specs.Evaluate.{Flow, call_made, issue_unless_fault}
 use Rattle.script_meaning.specs.Operands.{OpAnswer, transact_op}
 use Rattle.basis.specs.UnlessMemory.{Answers}
 use Rattle.basis.specs.declared.or_memory.OrMemory.{OrMemory}
@@ -12,7 +14,7 @@ use Rattle.basis.specs.declared.or_memory.OrMemory.TheVariants as values
 use Rattle.script_code.specs.CodeRun.{Frame, Next, step, topmost, all_taken, all_filled}
 use Rattle.script_code.specs.declared.instruction.Shape.{Shape}
 use Rattle.script_code.specs.declared.instruction.Instruction.{Instruction}
-use Rattle.script_code.specs.declared.instruction.Instruction.TheVariants.{And, Or, Branch, Each, Echo, Transact}
+use Rattle.script_code.specs.declared.instruction.Instruction.TheVariants.{And, Or, Branch, Each, Call as Enter, Transact}
 use Rattle.script_values.specs.CallsMade.{made}
 use Rattle.script_values.specs.Outputs.{TellsRan}
 use Rattle.script_values.specs.declared.builtins.Called.{Called}
@@ -79,17 +81,20 @@ module _ (q : Request) (functions : List ℕ) (next : Next) (fs : List Frame) (p
   pub each_jumps : st' ≡ x ∷ x ∷ rest → step q functions (Some (Each n)) next fs pc st vs p ≡ next fs (pc + 1 + n) st' vs' p'
   each_jumps e = rw (top, same, account, e) refl
 
--- what is done after a step was spent on the topmost value
-module _ (q : Request) (functions : List ℕ) (next : Next) (fs : List Frame) (pc : ℕ) (st rest vs vs' : List Datum)
-    (x v : Datum) (p p' r : Progress) (top : st ≡ x ∷ rest) (same : vs' ≡ vs) (account : p' ≡ p) (seen : v ≡ x) where
-  pub echo_prints : charge_for x p' ≡ goes tt r → step q functions (Some Echo) next fs pc st vs p ≡ after (print_value v r) (λ u. next fs (pc + 1) rest vs')
-  echo_prints d = rw (top, same, ← account, seen, d) refl
-
 -- an instruction does the same with the same stack, slots and progress
 pub steps_alike : (q : Request) (functions : List ℕ) (i : Instruction) (next : Next) (fs : List Frame) (pc : ℕ)
     (st st' vs vs' : List Datum) (p p' : Progress) → st ≡ st' → vs ≡ vs' → p ≡ p'
     → step q functions (Some i) next fs pc st vs p ≡ step q functions (Some i) next fs pc st' vs' p'
 steps_alike q functions i next fs pc st st' vs vs' p p' e f g = rw (e, f, g) refl
+
+-- a call enters the function that begins at a place
+pub call_enters : (q : Request) (functions : List ℕ) (next : Next) (fs : List Frame) (pc f n start : ℕ)
+    (st vs ds empty : List Datum) (frames : List Frame) (p r : Progress) → topmost n st [] ≡ ds → charge (taking ds) p ≡ goes tt r
+    → slice_get functions f ≡ Some start → (length fs == MOST_CALL_DEPTH) ≡ false → empty ≡ []
+    → frames ≡ record { place = pc + 1; stack = drop n st; slots = vs } ∷ fs
+    → step q functions (Some (Enter f n)) next fs pc st vs p ≡ next frames start empty ds r
+call_enters q functions next fs pc f n start st vs ds empty frames p r values h found shallow none more =
+    rw (none, more, values, h, found, shallow) refl
 
 -- an instruction stops where its part did
 pub stops_leaves : (then' : Then) (ops : List Op) (more : List Datum) (s : State) (e : Stopped) (o : Ran Flow)

@@ -51,14 +51,21 @@ impl<'c> Frames<'c> {
         }
     }
 
-    /// An empty stack for a function that begins, and memory for its variables.
-    pub(crate) fn room(&mut self, alloc: Global) -> (Stack<'c>, Vec<Value>)
-        ensures empty { result.0 ≡ [] }
+    /// An empty stack for a function that begins.
+    pub(crate) fn empty_stack(&mut self, alloc: Global) -> Stack<'c>
+        ensures empty { result ≡ [] }
         ensures same { self.new ≡ self.old }
     {
         let mut stack = mem::replace(&mut self.ended, Stack::new(alloc));
         stack.clear();
-        (stack, mem::replace(&mut self.slots, Vec::new(alloc)))
+        stack
+    }
+
+    /// Memory for its variables.
+    pub(crate) fn room(&mut self, alloc: Global) -> Vec<Value>
+        ensures { self.new ≡ self.old }
+    {
+        mem::replace(&mut self.slots, Vec::new(alloc))
     }
 
     /// Keeps the stack of a function that ends.

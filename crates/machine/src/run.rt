@@ -20,6 +20,7 @@ use script_tree::limits::MOST_CALL_DEPTH;
 use script_tree::request::Request;
 use script_tree::value::Value;
 use script_values::Operand;
+use std::alloc::AllocError;
 use std::mem;
 
 /// Where a run is in the code.
@@ -59,10 +60,12 @@ impl<'c> Run<'c> {
         ensures frames { self.new.frames ≡ self.old.frames }
         ensures steps { self.new.state.account.steps ≡ self.old.state.account.steps }
     {
-        let whole = self.state.pop()?;
-        let left = whole.value().clone()?;
-        self.state.stack.push(whole)?;
-        self.state.stack.push(Operand::own(left))?;
+        let left = self.state.pop()?;
+        if let Err(AllocError) = self.state.push_copy(left.value()) {
+            drop(left);
+            return Err(Stopped::Memory);
+        }
+        self.state.stack.push(left)?;
         self.jump(place, count, len)
     }
 
@@ -73,15 +76,21 @@ impl<'c> Run<'c> {
         ensures charges { Charges self.old result self.new }
     {
         let operand = self.state.pop()?;
-        let holds = self.state.account.decide(operand.value());
-        if let Ok(false) = holds {
-            self.state.stack.push(operand)?;
-            return self.jump(place, count, len);
+        match self.state.account.decide(operand.value()) {
+            Ok(false) => {
+                self.state.stack.push(operand)?;
+                self.jump(place, count, len)
+            }
+            Ok(true) => {
+                drop(operand);
+                self.place = place + 1;
+                Ok(Went::On)
+            }
+            Err(stopped) => {
+                drop(operand);
+                Err(stopped)
+            }
         }
-        drop(operand);
-        holds?;
-        self.place = place + 1;
-        Ok(Went::On)
     }
 
     #[inline(never)]
@@ -91,15 +100,21 @@ impl<'c> Run<'c> {
         ensures charges { Charges self.old result self.new }
     {
         let operand = self.state.pop()?;
-        let holds = self.state.account.decide(operand.value());
-        if let Ok(true) = holds {
-            self.state.stack.push(operand)?;
-            return self.jump(place, count, len);
+        match self.state.account.decide(operand.value()) {
+            Ok(true) => {
+                self.state.stack.push(operand)?;
+                self.jump(place, count, len)
+            }
+            Ok(false) => {
+                drop(operand);
+                self.place = place + 1;
+                Ok(Went::On)
+            }
+            Err(stopped) => {
+                drop(operand);
+                Err(stopped)
+            }
         }
-        drop(operand);
-        holds?;
-        self.place = place + 1;
-        Ok(Went::On)
     }
 
     #[inline(always)]
@@ -171,7 +186,7 @@ impl<'c> Run<'c> {
                 drop(left);
                 self.go_out(out)
             }
-            Err(_) => {
+            Err(AllocError) => {
                 drop(whole);
                 drop(left);
                 Err(Stopped::Memory)
@@ -213,13 +228,8 @@ impl<'c> Run<'c> {
             → Turns whole.entry left' out back self.old result self.new }
         ensures charges { Charges self.old result self.new }
     {
-        if let Err(stopped) = self.state.account.decide_so(true) {
-            drop(whole);
-            drop(left);
-            drop(value);
-            return Err(stopped);
-        }
         self.state.begin_turn(whole, left, value)?;
+        self.state.account.decide_so(true)?;
         self.place = back;
         Ok(Went::On)
     }
@@ -241,30 +251,17 @@ impl<'c> Run<'c> {
             (self.new.state.account.steps ≡ self.old.state.account.steps + 1) }
         ensures frames { OnOk result (length self.new.frames ≡ length self.old.frames + 1) }
     {
-        let alloc = self.state.alloc;
-        let (stack, room) = self.frames.room(alloc);
-        let values = match self.state.stack.take_into(alloc, count, room) {
-            Ok(values) => values,
-            Err(_) => {
-                drop(stack);
-                return Err(Stopped::Memory);
-            }
-        };
-        if let Err(stopped) = self.state.account.charge() {
-            drop(values);
-            drop(stack);
-            return Err(stopped);
-        }
+        self.state.account.charge()?;
         let Some(start) = functions.get(function) else {
-            drop(values);
-            drop(stack);
             return Err(Stopped::Fault(ScriptFault::OutOfSteps));
         };
         if self.frames.len() == MOST_CALL_DEPTH as usize {
-            drop(values);
-            drop(stack);
             return Err(Stopped::Fault(ScriptFault::TooDeep));
         }
+        let alloc = self.state.alloc;
+        let room = self.frames.room(alloc);
+        let values = self.state.stack.take_into(alloc, count, room)?;
+        let stack = self.frames.empty_stack(alloc);
         let frame = Frame {
             place: place + 1,
             stack: mem::replace(&mut self.state.stack, stack),

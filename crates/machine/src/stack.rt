@@ -100,7 +100,25 @@ impl<'c> Stack<'c> {
     ) -> Result<Vec<Value>, AllocError>
         ensures values { IfOk result (λ values. values.items ≡ topmost count self.old []) }
         ensures left { OnOk result (self.new ≡ drop count self.old) }
-        ensures fits { length self.old ≤ usize.MAX }
+    {
+        match self.move_into(alloc, count, &mut values) {
+            Ok(()) => Ok(values),
+            Err(error) => {
+                drop(values);
+                Err(error)
+            }
+        }
+    }
+
+    /// Moves so many into a list, whose values are let go.
+    fn move_into(
+        &mut self,
+        alloc: Global,
+        count: usize,
+        values: &mut Vec<Value>,
+    ) -> Result<(), AllocError>
+        ensures values { OnOk result (values.new.items ≡ topmost count self.old []) }
+        ensures left { OnOk result (self.new ≡ drop count self.old) }
     {
         values.clear();
         values.reserve(count.min(self.cells.len()))?;
@@ -109,6 +127,6 @@ impl<'c> Stack<'c> {
             values.push(cell.into_operand(alloc)?.into_value()?)?;
         }
         values.reverse();
-        Ok(values)
+        Ok(())
     }
 }

@@ -1,10 +1,14 @@
-ghost use Rattle.std.specs.Prelude.{◌≡◌, ◌∷◌, ◌++◌, [], drop, slice_set, IfOk, OnOk};
+ghost use Rattle.std.specs.Prelude.{◌≡◌, ◌+◌, ◌∷◌, ◌++◌, [], ℕ, List, drop, slice_set};
+ghost use Rattle.std.specs.Prelude.{Some, IfErr, IfOk, OnOk};
 ghost use Rattle.basis.specs.UnlessMemory.{Answers};
 ghost use Rattle.script_tree.specs.Datum.{Datum};
+ghost use Rattle.script_tree.specs.Requests.{Request as Asked};
 ghost use Rattle.script_meaning.specs.BuiltinCalls.{Call};
+ghost use Rattle.script_meaning.specs.Operations.{Op as Operation};
+ghost use Rattle.script_meaning.specs.Run.{goes};
 ghost use Rattle.script_values.specs.CallsMade.{made};
-ghost use Rattle.script_code.specs.CodeRun.{topmost};
-ghost use Rattle.machine.specs.Gives.{Pops};
+ghost use Rattle.script_code.specs.CodeRun.{Frame, Next, step, topmost};
+ghost use Rattle.machine.specs.Gives.{Pops, Stops, progress_of, spend};
 ghost use Rattle.machine.specs.Does.{Does, DoesBoth, DoesFor, Issues, Calls, Rises};
 ghost use Rattle.script_code.specs.declared.instruction.Instruction.TheVariants as instruction;
 
@@ -93,6 +97,28 @@ impl<'c> State<'c> {
         ensures does { Does (instruction.Binary operator) self.old result self.new }
         ensures rises { Rises self.old result self.new }
     {
+        let (left, right) = self.pop_two()?;
+        let value = script_values::binary(self.alloc, operator, left, right)?;
+        self.stack.push(Operand::own(value))?;
+        Ok(Went::On)
+    }
+
+    /// Takes the two operands of an operator, the topmost last, and spends its step.
+    #[inline(always)]
+    fn pop_two(&mut self) -> Result<(Operand<'c>, Operand<'c>), Stopped>
+        ensures two { IfOk result (λ r. self.old.stack ≡ r.1 ∷ r.0 ∷ self.new.stack) }
+        ensures slots { self.new.slots ≡ self.old.slots }
+        ensures spends { OnOk result ((ops : List Operation) (more : List Datum)
+            → spend (progress_of self.old.account ops more)
+            ≡ goes tt (progress_of self.new.account ops more)) }
+        ensures steps { OnOk result
+            (self.new.account.steps ≡ self.old.account.steps + 1) }
+        ensures stops { (operator : BinaryOperator) (q : Asked) (functions : List ℕ) (next : Next)
+            (frames : List Frame) (place : ℕ) (ops : List Operation) (more : List Datum)
+            → IfErr result (λ e. Stops e (progress_of self.new.account ops more)
+            (step q functions (Some (instruction.Binary operator)) next frames place
+            self.old.stack self.old.slots.items (progress_of self.old.account ops more))) }
+    {
         let right = self.pop()?;
         let left = match self.pop() {
             Ok(left) => left,
@@ -106,9 +132,7 @@ impl<'c> State<'c> {
             drop(right);
             return Err(stopped);
         }
-        let value = script_values::binary(self.alloc, operator, left, right)?;
-        self.stack.push(Operand::own(value))?;
-        Ok(Went::On)
+        Ok((left, right))
     }
 
     /// Puts a literal on the stack, and does a binary operator: the literal is its right operand.
@@ -167,23 +191,11 @@ impl<'c> State<'c> {
             self.old result self.new }
         ensures rises { Rises self.old result self.new }
     {
-        let right = self.pop()?;
-        let left = match self.pop() {
-            Ok(left) => left,
-            Err(stopped) => {
-                drop(right);
-                return Err(stopped);
-            }
-        };
-        if let Err(stopped) = self.account.charge() {
-            drop(left);
-            drop(right);
-            return Err(stopped);
-        }
+        let (left, right) = self.pop_two()?;
         self.let_go(slot);
         let value = script_values::binary(self.alloc, operator, left, right)?;
-        self.account.charge()?;
         self.put(slot, value);
+        self.account.charge()?;
         Ok(Went::On)
     }
 
@@ -254,8 +266,8 @@ impl<'c> State<'c> {
         ensures does { Does (instruction.List count) self.old result self.new }
         ensures rises { Rises self.old result self.new }
     {
-        let values = self.stack.take(self.alloc, count)?;
         self.account.charge()?;
+        let values = self.stack.take(self.alloc, count)?;
         self.stack
             .push(Operand::own(script_values::listed(values)?))?;
         Ok(Went::On)
@@ -343,6 +355,17 @@ impl<'c> State<'c> {
         self.stack.pop(alloc)
     }
 
+    /// Puts a copy of a value on the stack.
+    #[inline(always)]
+    pub(crate) fn push_copy(&mut self, value: &Value) -> Result<(), AllocError>
+        ensures stack { OnOk result (self.new.stack ≡ value.now ∷ self.old.stack) }
+        ensures slots { self.new.slots ≡ self.old.slots }
+        ensures account { self.new.account ≡ self.old.account }
+    {
+        let copy = value.clone()?;
+        self.stack.push(Operand::own(copy))
+    }
+
     /// Calls a name that nothing has.
     #[inline(never)]
     pub(crate) fn call_unknown(&mut self, count: usize) -> Result<Went, Stopped>
@@ -381,9 +404,17 @@ impl<'c> State<'c> {
             (self.new.slots.items ≡ self.old.slots.items ++ value ∷ []) }
         ensures account { self.new.account ≡ self.old.account }
     {
+        if let Err(error) = self.stack.push_cell(whole) {
+            drop(left);
+            drop(value);
+            return Err(error);
+        }
+        if let Err(error) = self.stack.push_cell(left) {
+            drop(value);
+            return Err(error);
+        }
         self.slots.push(value)?;
-        self.stack.push_cell(whole)?;
-        self.stack.push_cell(left)
+        Ok(())
     }
 
     /// Leaves so many slots.
@@ -403,8 +434,8 @@ impl<'c> State<'c> {
         ensures rises { Rises self.old result self.new }
     {
         let operand = self.pop()?;
-        self.account.charge()?;
         self.slots.push(operand.into_value()?)?;
+        self.account.charge()?;
         Ok(Went::On)
     }
 
@@ -415,8 +446,8 @@ impl<'c> State<'c> {
         ensures rises { Rises self.old result self.new }
     {
         let operand = self.pop()?;
-        self.account.charge()?;
         self.put(slot, operand.into_value()?);
+        self.account.charge()?;
         Ok(Went::On)
     }
 
@@ -426,8 +457,20 @@ impl<'c> State<'c> {
         ensures rises { Rises self.old result self.new }
     {
         let operand = self.pop()?;
+        let done = self.echo_of(operand.value());
+        drop(operand);
+        done
+    }
+
+    /// Prints a value that was taken.
+    #[inline(always)]
+    fn echo_of(&mut self, operand: &Value) -> Result<Went, Stopped>
+        ensures does { Does instruction.Echo
+            (record self.old { stack = operand.now ∷ self.old.stack }) result self.new }
+        ensures rises { Rises self.old result self.new }
+    {
         self.account.charge()?;
-        self.account.print_value(self.alloc, operand.value())?;
+        self.account.print_value(self.alloc, operand)?;
         Ok(Went::On)
     }
 
@@ -437,8 +480,20 @@ impl<'c> State<'c> {
         ensures rises { Rises self.old result self.new }
     {
         let operand = self.pop()?;
+        let done = self.status_of(operand.value());
+        drop(operand);
+        done
+    }
+
+    /// Sets the status that a value is, which was taken.
+    #[inline(always)]
+    fn status_of(&mut self, operand: &Value) -> Result<Went, Stopped>
+        ensures does { Does instruction.Status
+            (record self.old { stack = operand.now ∷ self.old.stack }) result self.new }
+        ensures rises { Rises self.old result self.new }
+    {
         self.account.charge()?;
-        self.account.set_status(operand.value())?;
+        self.account.set_status(operand)?;
         Ok(Went::On)
     }
 
@@ -447,7 +502,8 @@ impl<'c> State<'c> {
         ensures does { Does instruction.Discard self.old result self.new }
         ensures rises { Rises self.old result self.new }
     {
-        let _operand = self.pop()?;
+        let operand = self.pop()?;
+        drop(operand);
         self.account.charge()?;
         Ok(Went::On)
     }

@@ -1,5 +1,7 @@
-use Rattle.std.proofs.Common.{◌≡◌, length, sym, subst, ◌∙◌}
+use Rattle.std.proofs.Common.{◌≡◌, ◌+◌, length, refl, ap, sym, subst, ◌∙◌, arith}
+use Rattle.std.specs.Prelude.{OnOk}
 use Rattle.machine.specs.Does.{EndsAt}
+use Rattle.machine.proofs.Falls.{falls_on, falls_charged, falls_back, on_rising, on_charged}
 use Rattle.machine.proofs.run.Run.act.Goals as goal
 
 pub returns-in-Push-clause-acts : goal.returns-in-Push-clause-acts
@@ -117,3 +119,139 @@ returns-in-Call-clause-acts c next ops more ends =
 pub returns-in-Return-clause-acts : goal.returns-in-Return-clause-acts
 returns-in-Return-clause-acts c next ops more ends =
     rw c.in-Return.is (c.give_back.ensures.acts (length c.args.code.now.instructions.items) c.args.place c.args.request.now c.args.code.now.functions.items next ops more ends)
+
+pub returns-in-Push-clause-falls : goal.returns-in-Push-clause-falls
+returns-in-Push-clause-falls c =
+    on_rising (length c.args.code.now.instructions.items) c.args.place c.args.self.now
+    (record c.args.self.now { place = c.args.place + 1; state = c.push.new.self }) c.push.result c.requires (omega arith) refl c.push.ensures.rises
+
+pub returns-in-Load-clause-falls : goal.returns-in-Load-clause-falls
+returns-in-Load-clause-falls c =
+    on_rising (length c.args.code.now.instructions.items) c.args.place c.args.self.now
+    (record c.args.self.now { place = c.args.place + 1; state = c.load.new.self }) c.load.result c.requires (omega arith) refl c.load.ensures.rises
+
+pub returns-in-Unary-clause-falls : goal.returns-in-Unary-clause-falls
+returns-in-Unary-clause-falls c =
+    on_rising (length c.args.code.now.instructions.items) c.args.place c.args.self.now
+    (record c.args.self.now { place = c.args.place + 1; state = c.unary.new.self }) c.unary.result c.requires (omega arith) refl c.unary.ensures.rises
+
+pub returns-in-Binary-clause-falls : goal.returns-in-Binary-clause-falls
+returns-in-Binary-clause-falls c =
+    on_rising (length c.args.code.now.instructions.items) c.args.place c.args.self.now
+    (record c.args.self.now { place = c.args.place + 1; state = c.binary.new.self }) c.binary.result c.requires (omega arith) refl c.binary.ensures.rises
+
+pub returns-in-Index-clause-falls : goal.returns-in-Index-clause-falls
+returns-in-Index-clause-falls c =
+    on_rising (length c.args.code.now.instructions.items) c.args.place c.args.self.now
+    (record c.args.self.now { place = c.args.place + 1; state = c.index.new.self }) c.index.result c.requires (omega arith) refl c.index.ensures.rises
+
+pub returns-in-List-clause-falls : goal.returns-in-List-clause-falls
+returns-in-List-clause-falls c =
+    on_rising (length c.args.code.now.instructions.items) c.args.place c.args.self.now
+    (record c.args.self.now { place = c.args.place + 1; state = c.list.new.self }) c.list.result c.requires (omega arith) refl c.list.ensures.rises
+
+pub returns-in-CallBuiltin-clause-falls : goal.returns-in-CallBuiltin-clause-falls
+returns-in-CallBuiltin-clause-falls c =
+    on_rising (length c.args.code.now.instructions.items) c.args.place c.args.self.now
+    (record c.args.self.now { place = c.args.place + 1; state = c.call_builtin.new.self })
+    c.call_builtin.result c.requires (omega arith) refl c.call_builtin.ensures.rises
+
+pub returns-in-CallStore-clause-falls : goal.returns-in-CallStore-clause-falls
+returns-in-CallStore-clause-falls c =
+    on_rising (length c.args.code.now.instructions.items) c.args.place c.args.self.now
+    (record c.args.self.now { place = c.args.place + 1; state = c.call_builtin-in-CallStore.new.self })
+    c.call_builtin-in-CallStore.result c.requires (omega arith) refl c.call_builtin-in-CallStore.ensures.rises
+
+pub returns-in-CallUnknown-clause-falls : goal.returns-in-CallUnknown-clause-falls
+returns-in-CallUnknown-clause-falls c =
+    on_rising (length c.args.code.now.instructions.items) c.args.place c.args.self.now
+    (record c.args.self.now { place = c.args.place + 1; state = c.call_unknown.new.self })
+    c.call_unknown.result c.requires (omega arith) refl c.call_unknown.ensures.rises
+
+pub returns-in-Transact-clause-falls : goal.returns-in-Transact-clause-falls
+returns-in-Transact-clause-falls c =
+    on_rising (length c.args.code.now.instructions.items) c.args.place c.args.self.now
+    (record c.args.self.now { place = c.args.place + 1; state = c.transact.new.self }) c.transact.result c.requires (omega arith) refl c.transact.ensures.rises
+
+pub returns-in-Leave-clause-falls : goal.returns-in-Leave-clause-falls
+returns-in-Leave-clause-falls c =
+    on_rising (length c.args.code.now.instructions.items) c.args.place c.args.self.now
+    (record c.args.self.now { place = c.args.place + 1; state = c.leave.new.self }) c.leave.result c.requires (omega arith) refl c.leave.ensures.rises
+
+pub returns-in-Declare-clause-falls : goal.returns-in-Declare-clause-falls
+returns-in-Declare-clause-falls c =
+    on_rising (length c.args.code.now.instructions.items) c.args.place c.args.self.now
+    (record c.args.self.now { place = c.args.place + 1; state = c.declare.new.self }) c.declare.result c.requires (omega arith) refl c.declare.ensures.rises
+
+pub returns-in-Assign-clause-falls : goal.returns-in-Assign-clause-falls
+returns-in-Assign-clause-falls c =
+    on_rising (length c.args.code.now.instructions.items) c.args.place c.args.self.now
+    (record c.args.self.now { place = c.args.place + 1; state = c.assign.new.self }) c.assign.result c.requires (omega arith) refl c.assign.ensures.rises
+
+pub returns-in-Echo-clause-falls : goal.returns-in-Echo-clause-falls
+returns-in-Echo-clause-falls c =
+    on_rising (length c.args.code.now.instructions.items) c.args.place c.args.self.now
+    (record c.args.self.now { place = c.args.place + 1; state = c.echo.new.self }) c.echo.result c.requires (omega arith) refl c.echo.ensures.rises
+
+pub returns-in-Status-clause-falls : goal.returns-in-Status-clause-falls
+returns-in-Status-clause-falls c =
+    on_rising (length c.args.code.now.instructions.items) c.args.place c.args.self.now
+    (record c.args.self.now { place = c.args.place + 1; state = c.status.new.self }) c.status.result c.requires (omega arith) refl c.status.ensures.rises
+
+pub returns-in-Discard-clause-falls : goal.returns-in-Discard-clause-falls
+returns-in-Discard-clause-falls c =
+    on_rising (length c.args.code.now.instructions.items) c.args.place c.args.self.now
+    (record c.args.self.now { place = c.args.place + 1; state = c.discard.new.self }) c.discard.result c.requires (omega arith) refl c.discard.ensures.rises
+
+pub returns-in-And-clause-falls : goal.returns-in-And-clause-falls
+returns-in-And-clause-falls c =
+    on_charged (length c.args.code.now.instructions.items) c.args.place c.args.self.now
+    (record c.args.self.now { place = c.args.place + 1 }) c.and.new.self c.and.result refl refl c.and.ensures.charges
+
+pub returns-in-Or-clause-falls : goal.returns-in-Or-clause-falls
+returns-in-Or-clause-falls c =
+    on_charged (length c.args.code.now.instructions.items) c.args.place c.args.self.now
+    (record c.args.self.now { place = c.args.place + 1 }) c.or.new.self c.or.result refl refl c.or.ensures.charges
+
+pub returns-in-Branch-clause-falls : goal.returns-in-Branch-clause-falls
+returns-in-Branch-clause-falls c =
+    on_charged (length c.args.code.now.instructions.items) c.args.place c.args.self.now
+    (record c.args.self.now { place = c.args.place + 1 }) c.branch-self.new.self c.branch-self.result refl refl c.branch-self.ensures.charges
+
+pub returns-in-Again-clause-falls : goal.returns-in-Again-clause-falls
+returns-in-Again-clause-falls c =
+    on_charged (length c.args.code.now.instructions.items) c.args.place c.args.self.now
+    (record c.args.self.now { place = c.args.place + 1 }) c.again.new.self c.again.result refl refl c.again.ensures.charges
+
+pub returns-in-Turn-clause-falls : goal.returns-in-Turn-clause-falls
+returns-in-Turn-clause-falls c =
+    on_charged (length c.args.code.now.instructions.items) c.args.place c.args.self.now
+    (record c.args.self.now { place = c.args.place + 1 }) c.turn.new.self c.turn.result refl refl c.turn.ensures.charges
+
+pub returns-in-Jump-clause-falls : goal.returns-in-Jump-clause-falls
+returns-in-Jump-clause-falls c = λ came.
+    falls_on (length c.args.code.now.instructions.items) c.args.place c.args.self.now c.jump.new.self
+    c.requires (c.jump.ensures.forward came) c.jump.ensures.frames (omega (arith, ap (λ s. s.account.steps) c.jump.ensures.state))
+
+pub returns-in-Each-clause-falls : goal.returns-in-Each-clause-falls
+returns-in-Each-clause-falls c = λ came.
+    falls_on (length c.args.code.now.instructions.items) c.args.place c.args.self.now c.each.new.self
+    c.requires (c.each.ensures.forward came) c.each.ensures.frames (omega (arith, c.each.ensures.steps))
+
+pub returns-in-Call-clause-falls : goal.returns-in-Call-clause-falls
+returns-in-Call-clause-falls c = λ came.
+    let old = c.args.self.now in
+    let new = c.call.new.self in
+    let calls = subst (λ r. OnOk r (length new.frames ≡ length old.frames + 1)) came c.call.ensures.frames in
+    falls_charged (length c.args.code.now.instructions.items) c.args.place c.args.self.now new
+    (subst (λ r. OnOk r (new.state.account.steps ≡ old.state.account.steps + 1)) came c.call.ensures.steps) (omega (arith, calls))
+
+pub returns-in-Return-clause-falls : goal.returns-in-Return-clause-falls
+returns-in-Return-clause-falls c = λ came.
+    falls_charged (length c.args.code.now.instructions.items) c.args.place c.args.self.now c.give_back.new.self
+    (c.give_back.ensures.steps came) (omega (arith, c.give_back.ensures.frames came))
+
+pub returns-in-End-clause-falls : goal.returns-in-End-clause-falls
+returns-in-End-clause-falls c = λ came.
+    falls_back (length c.args.code.now.instructions.items) c.args.place c.args.self.now c.back.new.self
+    c.back.ensures.steps (c.back.ensures.frames came)

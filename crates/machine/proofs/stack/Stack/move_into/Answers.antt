@@ -2,8 +2,8 @@ use Rattle.std.proofs.Common.{◌≡◌, [], ◌∷◌, ◌++◌, length, length
 use Rattle.std.specs.Prelude.{reverse}
 use Rattle.std.proofs.lemmas.List.{reverse-append}
 use Rattle.machine.proofs.Stacks.{IsTaking, takes_none, takes_one, takes_all, takes_what_is_there, no_items}
-use Rattle.machine.proofs.stack.Stack.take_into.Goals as goal
-use Rattle.machine.proofs.stack.Stack.take_into.Goals.{else-loop-alloc-test, then-loop-alloc-test+in_default}
+use Rattle.machine.proofs.stack.Stack.move_into.Goals as goal
+use Rattle.machine.proofs.stack.Stack.move_into.Goals.{else-loop-alloc-test, then-loop-alloc-test+in_default}
 
 pub loop-alloc-init : goal.loop-alloc-init
 loop-alloc-init c = takes_none c.args.count c.args.self.now c.reserve.new.self.items

@@ -1,0 +1,10 @@
+use Rattle.std.proofs.Common.{◌+◌}
+use Rattle.std.proofs.lemmas.Result.{err_from_is_err_and}
+use Rattle.machine.proofs.Parts.{stops_leaves}
+use Rattle.machine.proofs.state.State.binary.Goals as goal
+
+pub returns-in_err-left-clause-does : goal.returns-in_err-left-clause-does
+returns-in_err-left-clause-does c q functions next fs pc ops more =
+    let w = err_from_is_err_and c.from_residual.result c.from_residual.ensures.1 in
+    rw (w.1, w.2) (stops_leaves (next fs (pc + 1)) ops more c.pop_two.new.self c.in_err-left.field-0.0 _
+    (c.in_err-left.ensures.stops c.args.operator q functions next fs pc ops more))

@@ -1,4 +1,5 @@
-use Rattle.std.proofs.Common.{rules, ◌∙◌, Ok, Err, ap, arith, length, subst}
+use Rattle.std.proofs.lemmas.Grind.{common_steps}
+use Rattle.std.proofs.Common.{rules, ◌∙◌, [], ◌∷◌, length-append, Ok, Err, ap, arith, length, subst}
 use Rattle.basis.specs.UnlessMemory.{Answers}
 use Rattle.script_values.specs.declared.builtins.Called.TheVariants.{Operation}
 use Rattle.multi_nodes.specs.Answers.{nothing}
@@ -11,11 +12,12 @@ use Rattle.multi_nodes.proofs.evaluate.operations.Goals as goal
 pub loop-member-preserved : goal.loop-member-preserved
 loop-member-preserved g c =
     let e = c.in-Ok-Operation.ensures.answers ∙ ap Ok c.in-Ok-Operation.field-0-is in
+    let pushed = c.in_ok-push-in-Ok-Operation.ensures.items in
     record {
       begun = omega arith;
-      count = search rules;
+      count = omega (arith, ap length pushed, length-append c.loop-member.ops.items (c.in-Ok-Operation.op ∷ []), c.loop-member.invariant.count);
       got = one_put (answer_at c.args.group.now c.args.primitive c.args.operands.now) (λ o. Ok (Operation o)) c.loop-member.ops.items c.push-in-Ok-Operation.new.self.items c.in-Ok-Operation.op nothing c.loop-member.member
-          c.loop-member.invariant.count (search rules) c.loop-member.invariant.got e;
+          c.loop-member.invariant.count pushed c.loop-member.invariant.got e;
       cost = omega (arith, c.loop-member.invariant.cost, c.in-Ok-Operation.ensures.counts);
     }
 
@@ -33,3 +35,15 @@ returns-in-Err-Other-clause-apart g c =
     let i = c.loop-member.member in
     let told = subst (λ e. Answers (λ x. x) (f i) (Err e)) c.in-Err-Other.field-0-is c.in-Err-Other.ensures.answers in
     fails_alone (length c.args.group.now) f i (search rules) (Operation c.args.first) c.in-Err-Other._fault c.requires told
+
+pub loop-member-init : goal.loop-member-init
+loop-member-init c = grind (arith, common_steps)
+
+pub returns-clause-count : goal.returns-clause-count
+returns-clause-count c = grind (arith, common_steps)
+
+pub returns-clause-have : goal.returns-clause-have
+returns-clause-have c = grind (arith, common_steps)
+
+pub returns-clause-counts : goal.returns-clause-counts
+returns-clause-counts c = grind (arith, common_steps)

@@ -15,11 +15,17 @@ impl Run {
     {
         let first = is_within(&answers, 0);
         if !are_within(&answers, members, first) {
+            drop(answers);
             return Err(Apart::Differ);
         }
-        self.state.account.note_operation()?;
+        if let Err(error) = self.state.account.note_operation() {
+            drop(answers);
+            return Err(Apart::from(error));
+        }
         if first {
             self.state.stack.push(answers)?;
+        } else {
+            drop(answers);
         }
         Ok(first)
     }

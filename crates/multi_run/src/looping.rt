@@ -57,9 +57,17 @@ impl Run {
             evaluations,
         ) {
             Ok(true) => {
-                let members = members_of(alloc, &lists, passed, group.requests().len())?;
-                self.state.slots.push(members)?;
-                self.state.stack.push_loop(lists, more)?;
+                let Ok(members) = members_of(alloc, &lists, passed, group.requests().len()) else {
+                    drop(lists);
+                    return Err(Apart::Memory);
+                };
+                match self.state.slots.push(members) {
+                    Ok(()) => self.state.stack.push_loop(lists, more)?,
+                    Err(failed) => {
+                        drop(lists);
+                        return Err(Apart::from(failed));
+                    }
+                }
                 self.place = self.place.saturating_sub(count);
                 Ok(Went::On)
             }

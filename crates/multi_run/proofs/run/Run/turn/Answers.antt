@@ -7,8 +7,8 @@ use Rattle.multi_state.specs.AllDo.{AllDecide}
 use Rattle.multi_run.proofs.Running.{decided, decide_halts, passed_one, next_turn, turn_is, turn_rest, turn_steady}
 use Rattle.multi_run.proofs.run.Run.turn.Goals as goal
 
-pub returns-in_ok-push_loop-in-Ok-true-clause-acts : goal.returns-in_ok-push_loop-in-Ok-true-clause-acts
-returns-in_ok-push_loop-in-Ok-true-clause-acts g c functions =
+pub returns-in_ok-push_loop-in-Ok-push-clause-acts : goal.returns-in_ok-push_loop-in-Ok-push-clause-acts
+returns-in_ok-push_loop-in-Ok-push-clause-acts g c functions =
     let qs = c.args.group.now in
     let old = c.args.self.now in
     let m = c.in_ok-lists.lists in
@@ -16,7 +16,7 @@ returns-in_ok-push_loop-in-Ok-true-clause-acts g c functions =
     let n = c.args.count in
     let st = record old.state { stack = c.pop_loop.new.self } in
     let new = record old { place = c.saturating_sub-self.result; state = record st { stack = c.push_loop.new.self; slots = c.push.new.self; account = c.decide.new.self } } in
-    let x = c.in_ok-members-in-Ok-true.members in
+    let x = c.in-Ok.members in
     let one : c.from_ref-operands.result.now ≡ m ∷ [] = c.from_ref-operands.ensures.value in
     let h = subst (λ ms. AllDecide c.args.evaluations.now c.decide.new.evaluations qs (node.Member k) ms old.state.account (Ok true) c.decide.new.self) one
     (subst (λ b. AllDecide c.args.evaluations.now c.decide.new.evaluations qs (node.Member k) c.from_ref-operands.result.now old.state.account (Ok b) c.decide.new.self) c.in-Ok-true.field-0-test c.in-Ok-true.ensures.decides) in
@@ -26,7 +26,7 @@ returns-in_ok-push_loop-in-Ok-true-clause-acts g c functions =
     decided c.args.evaluations.now c.decide.new.evaluations qs functions (instruction.Turn n) (node.Member k)
     (m ∷ []) old new (turn_rest qs functions old st refl m k n)
     (turn_is qs functions old st refl m k c.in_ok-lists.ensures n) true c.decide.new.self refl h
-    (λ next i lt. next_turn next i n k c.in-Some.more old st new m x refl place more c.in_ok-push_loop-in-Ok-true.ensures c.in_ok-push-in-Ok-true.ensures.items (c.in_ok-members-in-Ok-true.ensures i (subst (λ j. i < j) (sym members) lt)))
+    (λ next i lt. next_turn next i n k c.in-Some.more old st new m x refl place more c.in_ok-push_loop-in-Ok-push.ensures c.in-Ok-push.ensures.items (c.in-Ok.ensures i (subst (λ j. i < j) (sym members) lt)))
 
 pub returns-in_ok-pass-in-Ok-false-clause-acts : goal.returns-in_ok-pass-in-Ok-false-clause-acts
 returns-in_ok-pass-in-Ok-false-clause-acts g c functions =

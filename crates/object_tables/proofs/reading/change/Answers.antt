@@ -1,0 +1,12 @@
+use Rattle.std.proofs.Common.{arith}
+use Rattle.std.proofs.lemmas.Grind.{common_steps}
+use Rattle.object_tables.proofs.reading.change.Goals as goal
+
+pub loop-change-init : goal.loop-change-init
+loop-change-init c = grind (arith, common_steps)
+
+pub loop-change-preserved : goal.loop-change-preserved
+loop-change-preserved c = grind (arith, common_steps)
+
+pub returns : goal.returns
+returns c = grind (arith, common_steps)

@@ -1,0 +1,12 @@
+use Rattle.std.proofs.Common.{arith}
+use Rattle.std.proofs.lemmas.Grind.{common_steps}
+use Rattle.object_tables.proofs.reading.taken_rows.Goals as goal
+
+pub loop-key-init : goal.loop-key-init
+loop-key-init c = grind (arith, common_steps)
+
+pub loop-key-preserved : goal.loop-key-preserved
+loop-key-preserved c = grind (arith, common_steps)
+
+pub returns : goal.returns
+returns c = grind (arith, common_steps)

@@ -10,8 +10,6 @@ use Rattle.script_tree.specs.declared.transaction.Change.{Change}
 use Rattle.script_tree.specs.declared.transaction.Statement.{Statement}
 use Rattle.script_tree.specs.declared.transaction.Statement.TheVariants.{Insert, Select, Update, Delete, Expect}
 use Rattle.script_tree.specs.declared.transaction.Test.{Test}
-use Rattle.period.specs.declared.report.Log.{Log}
-use Rattle.period.specs.declared.report.LogEntry.{LogEntry}
 use Rattle.wire.specs.Spellings.{Field, value_field}
 use Rattle.report_format.specs.Limits.{AreWithinLimits}
 use Rattle.report_format.specs.Operations.{test_field, change_field, statement_field, act_field}

@@ -37,10 +37,12 @@ impl RecordReader for ReportRecords {
     ) -> Result<ReportRecord, OrMemory<Unreadable>> {
         let (record, next) = read_record(alloc, payload)?;
         if next != payload.len() {
+            drop(record);
             return Err(OrMemory::Other(Unreadable { at: next }));
         }
         let rank = rank_of(&record);
         if rank < self.rank {
+            drop(record);
             return Err(OrMemory::Other(Unreadable { at: 0 }));
         }
         self.rank = rank;
@@ -71,8 +73,13 @@ fn report_from(alloc: Global, records: Items<ReportRecord>) -> Result<Report, Al
     };
     let mut left = records.into_vec().into_iter();
     while let Some(read) = left.next() {
-        add(&mut report, read)?;
+        if let Err(error) = add(&mut report, read) {
+            drop(left);
+            drop(report);
+            return Err(error);
+        }
     }
+    drop(left);
     Ok(report)
 }
 

@@ -1,4 +1,4 @@
-ghost use Rattle.std.specs.Prelude.{◌≡◌, ◌<◌, ◌++◌, ◌^◌, length, map, IfOk, OnOk};
+ghost use Rattle.std.specs.Prelude.{◌≡◌, ◌<◌, ◌++◌, ◌^◌, [], length, map, IfOk, OnOk};
 ghost use Rattle.wire.specs.Files.{LeavesRoom};
 ghost use Rattle.report_format.specs.Parts.{AllAllowed};
 ghost use Rattle.report_format.specs.Reports.{report_format, records_of, IsSpellable, EncodesReport, IsReadAgain};
@@ -122,10 +122,24 @@ fn lent_records(alloc: Global, report: &Report) -> Result<Items<LentRecord<'_>>,
     ensures { IfOk result (λ records. records ≡ records_of report.now) }
 {
     let mut records = Vec::new(alloc);
-    lend_counts(&mut records, report.counts.as_slice())?;
-    lend_logs(&mut records, report.logs.as_slice())?;
-    lend_groups(&mut records, report.groups.as_slice())?;
-    Ok(Items::from_vec(records))
+    match lend_all(&mut records, report) {
+        Ok(()) => Ok(Items::from_vec(records)),
+        Err(error) => {
+            drop(records);
+            Err(error)
+        }
+    }
+}
+
+/// Adds all records of a report, where there is none so far.
+fn lend_all<'a>(records: &mut Vec<LentRecord<'a>>, report: &'a Report) -> Result<(), AllocError>
+    requires empty { records.old.items ≡ [] }
+    requires spellable { IsSpellable report.now }
+    ensures { OnOk result (records.new.items ≡ records_of report.now) }
+{
+    lend_counts(records, report.counts.as_slice())?;
+    lend_logs(records, report.logs.as_slice())?;
+    lend_groups(records, report.groups.as_slice())
 }
 
 /// Adds the counts of a report.
@@ -167,7 +181,9 @@ pub fn encode(alloc: Global, report: &Report) -> Result<Vec<u8>, OrMemory<PastLi
     ensures { EncodesReport report.now result }
 {
     let records = lent_records(alloc, report)?;
-    write_file_within::<LentRecords>(alloc, MOST_FILE_BYTES, &records)
+    let file = write_file_within::<LentRecords>(alloc, MOST_FILE_BYTES, &records);
+    drop(records);
+    file
 }
 
 /// What is encoded is decoded again.

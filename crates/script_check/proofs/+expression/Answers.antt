@@ -1,3 +1,4 @@
+use Rattle.std.proofs.lemmas.Grind.{common_steps}
 use Rattle.std.proofs.Common.{◌-◌, length, take, drop, refl, sym, ap, ◌∙◌, arith}
 use Rattle.std.specs.Option.{option_copied}
 use Rattle.script_tree.specs.Builtins.{builtin_of}
@@ -5,6 +6,7 @@ use Rattle.script_tree.specs.SyntaxLists.{expressions_of}
 use Rattle.script_check.specs.Least.{lower}
 use Rattle.script_check.specs.Members.{in_expressions, in_queries, in_tests, in_sets}
 use Rattle.script_check.specs.Validity.{arguments_faults, store_faults, expression_faults, query_faults, column_faults, set_faults, columns_in}
+use Rattle.script_check.proofs.Least.{lower_append, lower_none}
 use Rattle.script_check.proofs.Lists.{next_of_loop, end_of_loop, then_next}
 use Rattle.script_check.proofs.Trees.{store_and_others, call_found, row_found, faults_of_condition, faults_of_assignment, conditions_step, assignments_step, lighter_expression, lighter_query, lighter_condition, lighter_assignment}
 use Rattle.script_check.proofs.+expression.Goals as goal
@@ -92,3 +94,90 @@ query::check_sets-loop-set-preserved t c =
 
 pub query::check_sets-returns : goal.query::check_sets-returns
 query::check_sets-returns t c = end_of_loop (in_sets c.args.index.now c.args.scope.now c.args.table) refl c.args.sets.now c.loop-set.set-index c.args.found.now.least c.loop-set.found.least c.loop-set-test.false c.loop-set.invariant.faults
+
+pub expression::check_node-returns-in-Transact : goal.expression::check_node-returns-in-Transact
+expression::check_node-returns-in-Transact t c = grind (arith, common_steps, lower_append, lower_none)
+
+pub expression::check_node-returns-in-Binary : goal.expression::check_node-returns-in-Binary
+expression::check_node-returns-in-Binary t c = grind (arith, common_steps, lower_append, lower_none)
+
+pub expression::check_node-returns-in-And : goal.expression::check_node-returns-in-And
+expression::check_node-returns-in-And t c = grind (arith, common_steps, lower_append, lower_none)
+
+pub expression::check_node-returns-in-Or : goal.expression::check_node-returns-in-Or
+expression::check_node-returns-in-Or t c = grind (arith, common_steps, lower_append, lower_none)
+
+pub expression::check_node-returns-in-Index : goal.expression::check_node-returns-in-Index
+expression::check_node-returns-in-Index t c = grind (arith, common_steps, lower_append, lower_none)
+
+pub query::check_query_node-returns-in-Select : goal.query::check_query_node-returns-in-Select
+query::check_query_node-returns-in-Select t c = grind (arith, common_steps, lower_append, lower_none)
+
+pub query::check_query_node-returns-in-Update : goal.query::check_query_node-returns-in-Update
+query::check_query_node-returns-in-Update t c = grind (arith, common_steps, lower_append, lower_none)
+
+pub query::check_query_node-returns-in-Delete : goal.query::check_query_node-returns-in-Delete
+query::check_query_node-returns-in-Delete t c = grind (arith, common_steps, lower_append, lower_none)
+
+pub query::check_query_node-returns-in-Expect : goal.query::check_query_node-returns-in-Expect
+query::check_query_node-returns-in-Expect t c = grind (arith, common_steps, lower_append, lower_none)
+
+pub expression::check_node-check_expression-requires : goal.expression::check_node-check_expression-requires
+expression::check_node-check_expression-requires t c = grind (arith, common_steps)
+
+pub expression::check_node-check_expression-requires-in-Unary : goal.expression::check_node-check_expression-requires-in-Unary
+expression::check_node-check_expression-requires-in-Unary t c = grind (arith, common_steps)
+
+pub expression::check_node-check_expression-requires-in-Binary : goal.expression::check_node-check_expression-requires-in-Binary
+expression::check_node-check_expression-requires-in-Binary t c = grind (arith, common_steps)
+
+pub expression::check_node-check_expression-requires-in-Binary-2 : goal.expression::check_node-check_expression-requires-in-Binary-2
+expression::check_node-check_expression-requires-in-Binary-2 t c = grind (arith, common_steps)
+
+pub expression::check_node-check_expression-requires-in-And : goal.expression::check_node-check_expression-requires-in-And
+expression::check_node-check_expression-requires-in-And t c = grind (arith, common_steps)
+
+pub expression::check_node-check_expression-requires-in-And-2 : goal.expression::check_node-check_expression-requires-in-And-2
+expression::check_node-check_expression-requires-in-And-2 t c = grind (arith, common_steps)
+
+pub expression::check_node-check_expression-requires-in-Or : goal.expression::check_node-check_expression-requires-in-Or
+expression::check_node-check_expression-requires-in-Or t c = grind (arith, common_steps)
+
+pub expression::check_node-check_expression-requires-in-Or-2 : goal.expression::check_node-check_expression-requires-in-Or-2
+expression::check_node-check_expression-requires-in-Or-2 t c = grind (arith, common_steps)
+
+pub expression::check_node-check_expression-requires-in-Index : goal.expression::check_node-check_expression-requires-in-Index
+expression::check_node-check_expression-requires-in-Index t c = grind (arith, common_steps)
+
+pub expression::check_node-check_expression-requires-in-Index-2 : goal.expression::check_node-check_expression-requires-in-Index-2
+expression::check_node-check_expression-requires-in-Index-2 t c = grind (arith, common_steps)
+
+pub expression::check_node-check_call-requires : goal.expression::check_node-check_call-requires
+expression::check_node-check_call-requires t c = grind (arith, common_steps)
+
+pub expression::check_node-check_expressions-requires : goal.expression::check_node-check_expressions-requires
+expression::check_node-check_expressions-requires t c = grind (arith, common_steps)
+
+pub expression::check_node-check_queries-requires : goal.expression::check_node-check_queries-requires
+expression::check_node-check_queries-requires t c = grind (arith, common_steps)
+
+pub query::check_query_node-check_expression-requires : goal.query::check_query_node-check_expression-requires
+query::check_query_node-check_expression-requires t c = grind (arith, common_steps)
+
+pub query::check_query_node-check_expressions-requires : goal.query::check_query_node-check_expressions-requires
+query::check_query_node-check_expressions-requires t c = grind (arith, common_steps)
+
+pub query::check_query_node-check_sets-requires : goal.query::check_query_node-check_sets-requires
+query::check_query_node-check_sets-requires t c = grind (arith, common_steps)
+
+pub query::check_query_node-check_tests-requires : goal.query::check_query_node-check_tests-requires
+query::check_query_node-check_tests-requires t c = grind (arith, common_steps)
+
+pub query::check_query_node-check_tests-requires-in-Delete : goal.query::check_query_node-check_tests-requires-in-Delete
+query::check_query_node-check_tests-requires-in-Delete t c = grind (arith, common_steps)
+
+pub query::check_query_node-check_tests-requires-in-Expect : goal.query::check_query_node-check_tests-requires-in-Expect
+query::check_query_node-check_tests-requires-in-Expect t c = grind (arith, common_steps)
+
+pub query::check_query_node-check_tests-requires-in-Update : goal.query::check_query_node-check_tests-requires-in-Update
+query::check_query_node-check_tests-requires-in-Update t c = grind (arith, common_steps)

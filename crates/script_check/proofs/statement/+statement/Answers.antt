@@ -1,6 +1,8 @@
+use Rattle.std.proofs.lemmas.Grind.{common_steps}
 use Rattle.std.proofs.Common.{◌-◌, ◌++◌, length, drop, sym, ap, ◌∙◌, arith}
 use Rattle.script_check.specs.Least.{lower}
 use Rattle.script_check.specs.Validity.{declared_where, with_name, expression_faults, block_faults}
+use Rattle.script_check.proofs.Least.{lower_append, lower_none}
 use Rattle.script_check.proofs.Lists.{then_next, then_before}
 use Rattle.script_check.proofs.Blocks.{grows_then, after_grows, left_again, lighter_statement, block_next, block_end}
 use Rattle.script_check.proofs.statement.+statement.Goals as goal
@@ -50,3 +52,12 @@ check_statement_node-returns-in_ok-check_block-in-For-clause-ok t c =
     (c.in_ok-check_block-in-For.ensures.ok ∙ ap
     (λ k. lower before (block_faults ds k c.as_slice-in-For.result.now)) c.in_ok-declare-in-For.ensures.declared
     ∙ ap (λ ss. lower before (block_faults ds inner ss)) c.as_slice-in-For.ensures))
+
+pub check_statement_node-returns-in_ok-check_block-in-If-clause-ok : goal.check_statement_node-returns-in_ok-check_block-in-If-clause-ok
+check_statement_node-returns-in_ok-check_block-in-If-clause-ok t c = grind (arith, common_steps, lower_append, lower_none)
+
+pub check_statement_node-returns-in-While-clause-ok : goal.check_statement_node-returns-in-While-clause-ok
+check_statement_node-returns-in-While-clause-ok t c = grind (arith, common_steps, lower_append, lower_none)
+
+pub check_statement_node-returns-in-Set-clause-ok : goal.check_statement_node-returns-in-Set-clause-ok
+check_statement_node-returns-in-Set-clause-ok t c = grind (arith, common_steps, lower_append, lower_none)

@@ -1,3 +1,4 @@
+use Rattle.std.proofs.lemmas.Grind.{common_steps}
 use Rattle.std.proofs.Common.{◌∙◌, ◌≡◌, ◌++◌, ap, sym, arith, map, append_assoc}
 use Rattle.script_tree.specs.ExpressionView.{condition_of, assignment_of}
 use Rattle.script_tree.specs.ExpressionWeight.{condition_list_weight, assignment_list_weight}
@@ -79,3 +80,66 @@ expression_node-returns-in_ok-expressions-in-List t c =
     (OnOk-map c.put-in-List.result
     (λ e. list_written c.args.self.now c.args.scope.now c.args.at c.in-List.members c.as_slice.result.now c.len.result c.args.code.now.items c.expressions.new.code.items c.put-in-List.new.code.items c.as_slice.ensures c.len.ensures c.in_ok-expressions-in-List.ensures e)
     c.put-in-List.ensures)
+
+pub and-overflow_sub-past : goal.and-overflow_sub-past
+and-overflow_sub-past c = grind (arith, common_steps)
+
+pub and-overflow_sub-past-2 : goal.and-overflow_sub-past-2
+and-overflow_sub-past-2 c = grind (arith, common_steps)
+
+pub and-replace-requires : goal.and-replace-requires
+and-replace-requires c = grind (arith, common_steps)
+
+pub arguments-returns-in-None : goal.arguments-returns-in-None
+arguments-returns-in-None c = grind (arith, common_steps)
+
+pub assignments-loop-assignment-preserved : goal.assignments-loop-assignment-preserved
+assignments-loop-assignment-preserved c = grind (arith, common_steps)
+
+pub assignments-returns : goal.assignments-returns
+assignments-returns c = grind (arith, common_steps)
+
+pub conditions-loop-condition-preserved : goal.conditions-loop-condition-preserved
+conditions-loop-condition-preserved c = grind (arith, common_steps)
+
+pub conditions-returns : goal.conditions-returns
+conditions-returns c = grind (arith, common_steps)
+
+pub expression_node-returns-in_ok-shapes-in-Transact : goal.expression_node-returns-in_ok-shapes-in-Transact
+expression_node-returns-in_ok-shapes-in-Transact c = grind (arith, common_steps)
+
+pub expression_node-returns-in_ok-expression-in-Binary : goal.expression_node-returns-in_ok-expression-in-Binary
+expression_node-returns-in_ok-expression-in-Binary c = grind (arith, common_steps)
+
+pub expression_node-returns-in_ok-expression-in-Index : goal.expression_node-returns-in_ok-expression-in-Index
+expression_node-returns-in_ok-expression-in-Index c = grind (arith, common_steps)
+
+pub expression_then-returns : goal.expression_then-returns
+expression_then-returns c = grind (arith, common_steps)
+
+pub expressions-loop-operand-preserved : goal.expressions-loop-operand-preserved
+expressions-loop-operand-preserved c = grind (arith, common_steps)
+
+pub expressions-returns : goal.expressions-returns
+expressions-returns c = grind (arith, common_steps)
+
+pub or-overflow_sub-past : goal.or-overflow_sub-past
+or-overflow_sub-past c = grind (arith, common_steps)
+
+pub or-overflow_sub-past-2 : goal.or-overflow_sub-past-2
+or-overflow_sub-past-2 c = grind (arith, common_steps)
+
+pub or-replace-requires : goal.or-replace-requires
+or-replace-requires c = grind (arith, common_steps)
+
+pub queries-loop-query-preserved : goal.queries-loop-query-preserved
+queries-loop-query-preserved c = grind (arith, common_steps)
+
+pub queries-returns : goal.queries-returns
+queries-returns c = grind (arith, common_steps)
+
+pub query_node-returns-in_ok-assignments-in-Update : goal.query_node-returns-in_ok-assignments-in-Update
+query_node-returns-in_ok-assignments-in-Update c = grind (arith, common_steps)
+
+pub query_node-returns-in_ok-expression-in-Expect : goal.query_node-returns-in_ok-expression-in-Expect
+query_node-returns-in_ok-expression-in-Expect c = grind (arith, common_steps)

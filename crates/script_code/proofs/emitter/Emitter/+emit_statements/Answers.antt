@@ -1,3 +1,4 @@
+use Rattle.std.proofs.lemmas.Grind.{common_steps}
 use Rattle.std.proofs.Common.{◌∙◌, ◌≡◌, ap, arith}
 use Rattle.script_tree.specs.StatementView.{else_of}
 use Rattle.script_tree.specs.StatementWeight.{statement_list_weight}
@@ -47,3 +48,75 @@ statement_node-returns-in-While-clause-code t c = rw c.in-While.is (c.while_loop
 
 pub statement_node-returns-in-For-clause-code : goal.statement_node-returns-in-For-clause-code
 statement_node-returns-in-For-clause-code t c = rw c.in-For.is (c.for_loop.ensures.code c.args.at)
+
+pub block-loop-s-init : goal.block-loop-s-init
+block-loop-s-init c = grind (arith, common_steps)
+
+pub block-loop-s-preserved : goal.block-loop-s-preserved
+block-loop-s-preserved c = grind (arith, common_steps)
+
+pub block-returns-clause-code : goal.block-returns-clause-code
+block-returns-clause-code c = grind (arith, common_steps)
+
+pub body-overflow_sub-past : goal.body-overflow_sub-past
+body-overflow_sub-past c = grind (arith, common_steps)
+
+pub body-overflow_sub-past-2 : goal.body-overflow_sub-past-2
+body-overflow_sub-past-2 c = grind (arith, common_steps)
+
+pub body-replace-requires : goal.body-replace-requires
+body-replace-requires c = grind (arith, common_steps)
+
+pub first-overflow_sub-past : goal.first-overflow_sub-past
+first-overflow_sub-past c = grind (arith, common_steps)
+
+pub first-replace-requires : goal.first-replace-requires
+first-replace-requires c = grind (arith, common_steps)
+
+pub for_loop-overflow_sub-back : goal.for_loop-overflow_sub-back
+for_loop-overflow_sub-back c = grind (arith, common_steps)
+
+pub for_loop-overflow_sub-back-2 : goal.for_loop-overflow_sub-back-2
+for_loop-overflow_sub-back-2 c = grind (arith, common_steps)
+
+pub for_loop-returns-clause-code : goal.for_loop-returns-clause-code
+for_loop-returns-clause-code c = grind (arith, common_steps)
+
+pub scoped-returns-clause-code : goal.scoped-returns-clause-code
+scoped-returns-clause-code c = grind (arith, common_steps)
+
+pub second-overflow_sub-past : goal.second-overflow_sub-past
+second-overflow_sub-past c = grind (arith, common_steps)
+
+pub second-overflow_sub-past-2 : goal.second-overflow_sub-past-2
+second-overflow_sub-past-2 c = grind (arith, common_steps)
+
+pub second-replace-requires : goal.second-replace-requires
+second-replace-requires c = grind (arith, common_steps)
+
+pub statement_node-returns-in_ok-first-in-If-clause-code : goal.statement_node-returns-in_ok-first-in-If-clause-code
+statement_node-returns-in_ok-first-in-If-clause-code c = grind (arith, common_steps)
+
+pub turn-returns-clause-code : goal.turn-returns-clause-code
+turn-returns-clause-code c = grind (arith, common_steps)
+
+pub turn-returns-clause-scope : goal.turn-returns-clause-scope
+turn-returns-clause-scope c = grind (arith, common_steps)
+
+pub turns-overflow_sub-past : goal.turns-overflow_sub-past
+turns-overflow_sub-past c = grind (arith, common_steps)
+
+pub turns-overflow_sub-past-2 : goal.turns-overflow_sub-past-2
+turns-overflow_sub-past-2 c = grind (arith, common_steps)
+
+pub turns-replace-requires : goal.turns-replace-requires
+turns-replace-requires c = grind (arith, common_steps)
+
+pub while_loop-overflow_sub-back : goal.while_loop-overflow_sub-back
+while_loop-overflow_sub-back c = grind (arith, common_steps)
+
+pub while_loop-overflow_sub-back-2 : goal.while_loop-overflow_sub-back-2
+while_loop-overflow_sub-back-2 c = grind (arith, common_steps)
+
+pub while_loop-returns-clause-code : goal.while_loop-returns-clause-code
+while_loop-returns-clause-code c = grind (arith, common_steps)

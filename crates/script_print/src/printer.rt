@@ -3,10 +3,10 @@ ghost use Rattle.script_tokens.specs.Kinds.{Kind, fixed, name, number, text};
 ghost use Rattle.script_print.specs.Prints.{spaced, joined, Adds};
 
 use itoa::Buffer;
+use script_tokens::print::push_text;
 use script_tokens::word::Word;
 use std::alloc::{AllocError, Global};
 use std::marker::Model;
-use script_tokens::print::push_text;
 
 /// Prints tokens one after another. Contracts see the bytes so far, where a space stands behind each
 /// token. After an error it has bytes of part of a token.

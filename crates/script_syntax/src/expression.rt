@@ -111,7 +111,13 @@ pub fn operand(alloc: Global, tokens: &mut Tokens<'_>, level: u32) -> Result<Exp
     let mut value = operand(alloc, tokens, level - 1)?;
     let mut left = most_repeats(level);
     while let Some(joint) = joint_at(tokens, level) {
-        let right = behind_joint(alloc, tokens, level, left)?;
+        let right = match behind_joint(alloc, tokens, level, left) {
+            Ok(right) => right,
+            Err(stop) => {
+                drop(value);
+                return Err(stop);
+            }
+        };
         value = joined(alloc, joint, value, right)?;
         left -= 1;
     }
@@ -145,8 +151,13 @@ pub fn closed(alloc: Global, tokens: &mut Tokens<'_>, close: Word) -> Result<Exp
     ensures shorter { OnOk result (length tokens.new.tokens < length tokens.old.tokens) }
 {
     let value = operand(alloc, tokens, EXPRESSION)?;
-    take(tokens, close)?;
-    Ok(value)
+    match take(tokens, close) {
+        Ok(()) => Ok(value),
+        Err(stop) => {
+            drop(value);
+            Err(stop)
+        }
+    }
 }
 
 /// An operand behind so many prefixes at most.
@@ -179,7 +190,13 @@ fn indexed(alloc: Global, tokens: &mut Tokens<'_>) -> Result<Expression, Stop>
     let mut value = atom(alloc, tokens)?;
     let mut left = MOST_REPEATS;
     while tokens.stands(Word::SquareOpen) {
-        let place = place(alloc, tokens, left)?;
+        let place = match place(alloc, tokens, left) {
+            Ok(place) => place,
+            Err(stop) => {
+                drop(value);
+                return Err(stop);
+            }
+        };
         value = joined(alloc, Joint::Indexing, value, place)?;
         left -= 1;
     }

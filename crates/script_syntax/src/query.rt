@@ -119,8 +119,13 @@ fn expect(alloc: Global, tokens: &mut Tokens<'_>, at: usize) -> Result<Query, St
     ensures shorter { OnOk result (length tokens.new.tokens < length tokens.old.tokens) }
 {
     let count = closed(alloc, tokens, Word::From)?;
-    let (table, tests) = selection(alloc, tokens)?;
-    Ok(expected(alloc, at, count, table, tests)?)
+    match selection(alloc, tokens) {
+        Ok((table, tests)) => Ok(expected(alloc, at, count, table, tests)?),
+        Err(stop) => {
+            drop(count);
+            Err(stop)
+        }
+    }
 }
 
 /// The statement that expects so many rows.

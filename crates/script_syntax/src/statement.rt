@@ -53,8 +53,13 @@ fn headed(alloc: Global, tokens: &mut Tokens<'_>) -> Result<(Expression, Block),
     ensures shorter { OnOk result (length tokens.new.tokens < length tokens.old.tokens) }
 {
     let head = operand(alloc, tokens, EXPRESSION)?;
-    let body = block(alloc, tokens)?;
-    Ok((head, body))
+    match block(alloc, tokens) {
+        Ok(body) => Ok((head, body)),
+        Err(stop) => {
+            drop(head);
+            Err(stop)
+        }
+    }
 }
 
 #[cycle(statement)]
@@ -118,9 +123,17 @@ fn if_statement(alloc: Global, tokens: &mut Tokens<'_>, at: usize) -> Result<Sta
     ensures shorter { OnOk result (length tokens.new.tokens < length tokens.old.tokens) }
 {
     let (condition, body) = headed(alloc, tokens)?;
-    let other = otherwise(alloc, tokens)?;
-    let node = StatementNode::If(condition, body, other);
-    Ok(Statement { at, node })
+    match otherwise(alloc, tokens) {
+        Ok(other) => {
+            let node = StatementNode::If(condition, body, other);
+            Ok(Statement { at, node })
+        }
+        Err(stop) => {
+            drop(condition);
+            drop(body);
+            Err(stop)
+        }
+    }
 }
 
 #[cycle(statement)]

@@ -93,21 +93,20 @@ expression::named-returns-in_ok-items-clause-gives t c = λ k vs.
     ∙ c.in_ok-items.ensures.gives (act (called c.args.name.at c.args.name.text) ∷ k) vs
     ∙ act_runs (called c.args.name.at c.args.name.text) c.arguments.new.tokens k (of_expressions c.in_ok-items.items ∷ vs)
 
-pub expression::indexed-returns-in_err-place-clause-gives : goal.expression::indexed-returns-in_err-place-clause-gives
-expression::indexed-returns-in_err-place-clause-gives t c =
-    let p = err_from_is_err_and c.from_residual-in_err-place.result c.from_residual-in_err-place.ensures.1 in
-    rw (p.1, p.2) (joint_fails (atom ∷ tail 0 (most_repeats 0) ∷ []) 0 c.loop-alloc.left (of_expression c.loop-alloc.value) c.args.tokens.now c.loop-alloc.tokens _
-    c.loop-alloc.invariant.told (c.in_err-place.ensures.gives (sym c.stands.ensures ∙ c.loop-alloc-test.true)))
+pub expression::indexed-returns-in-Err-clause-gives : goal.expression::indexed-returns-in-Err-clause-gives
+expression::indexed-returns-in-Err-clause-gives t c =
+    joint_fails (atom ∷ tail 0 (most_repeats 0) ∷ []) 0 c.loop-alloc.left (of_expression c.loop-alloc.value) c.args.tokens.now c.loop-alloc.tokens _
+    c.loop-alloc.invariant.told (c.in-Err.ensures.gives (sym c.stands.ensures ∙ c.loop-alloc-test.true))
 
 pub expression::indexed-loop-alloc-preserved : goal.expression::indexed-loop-alloc-preserved
 expression::indexed-loop-alloc-preserved t c = record {
   told = λ k vs.
       c.loop-alloc.invariant.told k vs
-      ∙ c.in_ok-place.ensures.gives (sym c.stands.ensures ∙ c.loop-alloc-test.true) k (of_expression c.loop-alloc.value ∷ vs)
+      ∙ c.in-Ok.ensures.gives (sym c.stands.ensures ∙ c.loop-alloc-test.true) k (of_expression c.loop-alloc.value ∷ vs)
       ∙ act_runs (joined_by Indexing) c.place.new.tokens (tail 0 (c.loop-alloc.left - 1) ∷ k)
-      (of_expression c.in_ok-place.place ∷ of_expression c.loop-alloc.value ∷ vs)
+      (of_expression c.in-Ok.place ∷ of_expression c.loop-alloc.value ∷ vs)
       ∙ ap (λ e. reading c.place.new.tokens (tail 0 (c.loop-alloc.left - 1) ∷ k) (of_expression e ∷ vs)) (sym c.in_ok-value-2.ensures);
-  shorter = omega (arith, c.loop-alloc.invariant.shorter, c.in_ok-place.ensures.shorter);
+  shorter = omega (arith, c.loop-alloc.invariant.shorter, c.in-Ok.ensures.shorter);
 }
 
 pub expression::place-returns-then-left-eq0-clause-gives : goal.expression::place-returns-then-left-eq0-clause-gives
@@ -150,22 +149,21 @@ expression::operand-loop-joint-init t c = record {
   shorter = c.in_ok-value.ensures.shorter;
 }
 
-pub expression::operand-returns-in_err-right-clause-gives : goal.expression::operand-returns-in_err-right-clause-gives
-expression::operand-returns-in_err-right-clause-gives t c =
-    let p = err_from_is_err_and c.from_residual-in_err-right.result c.from_residual-in_err-right.ensures.1 in
-    rw (p.1, p.2) (joint_fails (operand c.args.level ∷ []) c.args.level c.loop-joint.left (of_expression c.loop-joint.value) c.args.tokens.now c.loop-joint.tokens _
-    c.loop-joint.invariant.told (c.in_err-right.ensures.gives c.in-Some.joint (sym c.joint_at.ensures ∙ c.in-Some.is)))
+pub expression::operand-returns-in-Err-clause-gives : goal.expression::operand-returns-in-Err-clause-gives
+expression::operand-returns-in-Err-clause-gives t c =
+    joint_fails (operand c.args.level ∷ []) c.args.level c.loop-joint.left (of_expression c.loop-joint.value) c.args.tokens.now c.loop-joint.tokens _
+    c.loop-joint.invariant.told (c.in-Err.ensures.gives c.in-Some.joint (sym c.joint_at.ensures ∙ c.in-Some.is))
 
 pub expression::operand-loop-joint-preserved : goal.expression::operand-loop-joint-preserved
 expression::operand-loop-joint-preserved t c = record {
   big = c.loop-joint.invariant.big;
   told = λ k vs.
       c.loop-joint.invariant.told k vs
-      ∙ c.in_ok-right.ensures.gives c.in-Some.joint (sym c.joint_at.ensures ∙ c.in-Some.is) k (of_expression c.loop-joint.value ∷ vs)
+      ∙ c.in-Ok.ensures.gives c.in-Some.joint (sym c.joint_at.ensures ∙ c.in-Some.is) k (of_expression c.loop-joint.value ∷ vs)
       ∙ act_runs (joined_by c.in-Some.joint) c.behind_joint.new.tokens (tail c.args.level (c.loop-joint.left - 1) ∷ k)
-      (of_expression c.in_ok-right.right ∷ of_expression c.loop-joint.value ∷ vs)
+      (of_expression c.in-Ok.right ∷ of_expression c.loop-joint.value ∷ vs)
       ∙ ap (λ e. reading c.behind_joint.new.tokens (tail c.args.level (c.loop-joint.left - 1) ∷ k) (of_expression e ∷ vs)) (sym c.in_ok-value-2.ensures);
-  shorter = omega (arith, c.loop-joint.invariant.shorter, c.in_ok-right.ensures.shorter);
+  shorter = omega (arith, c.loop-joint.invariant.shorter, c.in-Ok.ensures.shorter);
 }
 
 pub expression::behind_joint-returns-then-left-eq0-clause-gives : goal.expression::behind_joint-returns-then-left-eq0-clause-gives
@@ -287,13 +285,13 @@ query::delete-returns-clause-gives t c = λ k vs.
     c.in_ok-table.ensures.gives (act (deleted c.args.at) ∷ k) vs
     ∙ act_runs (deleted c.args.at) c.selection.new.tokens k (of_tests (map condition_of c.in_ok-table.tests) ∷ of_name c.in_ok-table.table ∷ vs)
 
-pub query::expect-returns-clause-gives : goal.query::expect-returns-clause-gives
-query::expect-returns-clause-gives t c = λ k vs.
-    let cs = map condition_of c.in_ok-table.tests in
+pub query::expect-returns-in_ok-expected-in-Ok-clause-gives : goal.query::expect-returns-in_ok-expected-in-Ok-clause-gives
+query::expect-returns-in_ok-expected-in-Ok-clause-gives t c = λ k vs.
+    let cs = map condition_of c.in-Ok.tests in
     c.in_ok-count.ensures.gives (a_name ∷ filtered (act (expected c.args.at) ∷ k)) vs
-    ∙ c.in_ok-table.ensures.gives (act (expected c.args.at) ∷ k) (of_expression c.in_ok-count.count ∷ vs)
-    ∙ act_runs (expected c.args.at) c.selection.new.tokens k (of_tests cs ∷ of_name c.in_ok-table.table ∷ of_expression c.in_ok-count.count ∷ vs)
-    ∙ ap (λ q. reading c.selection.new.tokens k (of_query q ∷ vs)) (sym c.in_ok-expected.ensures)
+    ∙ c.in-Ok.ensures.gives (act (expected c.args.at) ∷ k) (of_expression c.in_ok-count.count ∷ vs)
+    ∙ act_runs (expected c.args.at) c.selection.new.tokens k (of_tests cs ∷ of_name c.in-Ok.table ∷ of_expression c.in_ok-count.count ∷ vs)
+    ∙ ap (λ q. reading c.selection.new.tokens k (of_query q ∷ vs)) (sym c.in_ok-expected-in-Ok.ensures)
 
 pub query::insert-returns-in_err-row-clause-gives : goal.query::insert-returns-in_err-row-clause-gives
 query::insert-returns-in_err-row-clause-gives t c =
@@ -465,8 +463,8 @@ expression::prefixed-returns-clause-shorter c = grind (arith, common_steps)
 pub query::delete-returns-clause-shorter : goal.query::delete-returns-clause-shorter
 query::delete-returns-clause-shorter c = grind (arith, common_steps)
 
-pub query::expect-returns-clause-shorter : goal.query::expect-returns-clause-shorter
-query::expect-returns-clause-shorter c = grind (arith, common_steps)
+pub query::expect-returns-in_ok-expected-in-Ok-clause-shorter : goal.query::expect-returns-in_ok-expected-in-Ok-clause-shorter
+query::expect-returns-in_ok-expected-in-Ok-clause-shorter c = grind (arith, common_steps)
 
 pub query::insert-returns-clause-shorter : goal.query::insert-returns-clause-shorter
 query::insert-returns-clause-shorter c = grind (arith, common_steps)

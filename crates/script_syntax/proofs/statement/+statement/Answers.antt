@@ -34,11 +34,12 @@ block-loop-alloc-preserved t c = record {
   shorter = omega (arith, c.loop-alloc.invariant.shorter, c.in_ok-statement.ensures.shorter);
 }
 
-pub if_statement-returns-clause-gives : goal.if_statement-returns-clause-gives
-if_statement-returns-clause-gives t c = λ k vs.
+pub if_statement-returns-in-Ok-clause-gives : goal.if_statement-returns-in-Ok-clause-gives
+if_statement-returns-in-Ok-clause-gives t c = λ k vs.
     c.in_ok-condition.ensures.gives (else_part ∷ act (branched c.args.at) ∷ k) vs
-    ∙ c.in_ok-other.ensures.gives (act (branched c.args.at) ∷ k) (of_statements c.in_ok-condition.body ∷ of_expression c.in_ok-condition.condition ∷ vs)
-    ∙ act_runs (branched c.args.at) c.otherwise.new.tokens k (of_else (else_of c.in_ok-other.other) ∷ of_statements c.in_ok-condition.body ∷ of_expression c.in_ok-condition.condition ∷ vs)
+    ∙ c.in-Ok.ensures.gives (act (branched c.args.at) ∷ k) (of_statements c.in_ok-condition.body ∷ of_expression c.in_ok-condition.condition ∷ vs)
+    ∙ act_runs (branched c.args.at) c.otherwise.new.tokens k
+    (of_else (else_of c.in-Ok.other) ∷ of_statements c.in_ok-condition.body ∷ of_expression c.in_ok-condition.condition ∷ vs)
 
 pub otherwise-returns-clause-gives : goal.otherwise-returns-clause-gives
 otherwise-returns-clause-gives t c = λ k vs.
@@ -96,8 +97,8 @@ statement_of-returns-in-Do-clause-gives t c =
 pub for_statement-returns-clause-shorter : goal.for_statement-returns-clause-shorter
 for_statement-returns-clause-shorter c = grind (arith, common_steps)
 
-pub if_statement-returns-clause-shorter : goal.if_statement-returns-clause-shorter
-if_statement-returns-clause-shorter c = grind (arith, common_steps)
+pub if_statement-returns-in-Ok-clause-shorter : goal.if_statement-returns-in-Ok-clause-shorter
+if_statement-returns-in-Ok-clause-shorter c = grind (arith, common_steps)
 
 pub while_statement-returns-clause-shorter : goal.while_statement-returns-clause-shorter
 while_statement-returns-clause-shorter c = grind (arith, common_steps)

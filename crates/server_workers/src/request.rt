@@ -81,8 +81,13 @@ fn arrive<'c, R: Wait, J: Journal>(
         reading (job.now.value ∷ []) old new dice dice (Some machine)) }
 {
     let request = job.unpack(alloc)?;
-    arrive_at(rt, desk, seat, job)?;
-    Ok(Machine::start(alloc, code, request))
+    match arrive_at(rt, desk, seat, job) {
+        Ok(()) => Ok(Machine::start(alloc, code, request)),
+        Err(error) => {
+            drop(request);
+            Err(error)
+        }
+    }
 }
 
 /// A request arrives at a seat. A machine at its start stands there then.
@@ -124,7 +129,9 @@ fn serve_open<R: Wait, C: Clock, J: Journal>(
     ensures goes { let old = view seat.old in let new = view seat.new in OnOk result
         (Goes (start_of desk.now) (C.reading clock.now) [] old new dice.old dice.new None) }
 {
-    go_to_end(rt, desk, seat, &mut machine, dice, clock)
+    let departed = go_to_end(rt, desk, seat, &mut machine, dice, clock);
+    drop(machine);
+    departed
 }
 
 /// The open request of a machine goes on until it departs.

@@ -1,7 +1,15 @@
+use Rattle.std.proofs.Common.{arith}
+use Rattle.std.proofs.lemmas.Grind.{common_steps}
 use Rattle.shared_desk.proofs.Seating.{IsClosed, closes}
 use Rattle.shared_desk.proofs.Told.{closed_some, closed_none}
 use Rattle.shared_desk.proofs.shared.Desk.close.Given as given
 use Rattle.shared_desk.proofs.shared.Desk.close.Goals as goal
+
+pub take-slot-requires : goal.take-slot-requires
+take-slot-requires g c = grind (arith, common_steps)
+
+pub free-requires : goal.free-requires
+free-requires g c = grind (arith, common_steps)
 
 closed : (g : given.Over) (c : goal.In-Some g) → IsClosed g.B.Bench.steps c.args.self.table.shared.key.value g.J.CallJournal.keeps c.args.seat.seat.me.0 c.in-Some.held
 closed g c =

@@ -47,6 +47,7 @@ impl RecordReader for Events {
     fn read(&mut self, alloc: Global, payload: &[u8]) -> Result<TraceEvent, OrMemory<Unreadable>> {
         let (event, next) = read_event(alloc, payload, self.asked)?;
         if next != payload.len() {
+            drop(event);
             return Err(OrMemory::Other(Unreadable { at: next }));
         }
         if let TraceEvent::Asked(..) = event {

@@ -119,8 +119,13 @@ fn take_answer(
     ensures ready { OnOk result (IsReady machine.new) }
     ensures same { IfOk result (λ told. told ≡ happening) }
 {
-    machine.answer(answer)?;
-    Ok(happening)
+    match machine.answer(answer) {
+        Ok(()) => Ok(happening),
+        Err(error) => {
+            drop(happening);
+            Err(error)
+        }
+    }
 }
 
 /// The recording takes an event to which no reply is wanted. Tells what happened.

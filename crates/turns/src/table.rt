@@ -114,11 +114,11 @@ fn seats<'c>(alloc: Global, seed: u64) -> Result<(Vec<Option<Machine<'c>>>, Vec<
         (seat : ℕ) → slice_index_or r.1.items seat (dice_of seed seat) ≡ dice_of seed seat) }
     ensures dice { IfOk result (λ r. length r.1.items ≡ SEATS) }
 {
-    let mut runs = Vec::with_capacity(alloc, usize::from(SEATS))?;
     let mut dice = Vec::with_capacity(alloc, usize::from(SEATS))?;
+    let mut runs = Vec::with_capacity(alloc, usize::from(SEATS))?;
     for seat in 0..SEATS {
-        runs.push(None)?;
-        dice.push(Dice::new(seed, u64::from(seat)))?;
+        runs.push_reserved(None);
+        dice.push_reserved(Dice::new(seed, u64::from(seat)));
     }
     Ok((runs, dice))
 }

@@ -3,10 +3,10 @@ ghost use Rattle.script_tokens.specs.PrintedTexts.{printed_text};
 ghost use Rattle.verdict_lines.specs.Fields.{cycle_text, entry_text, node_text, object_text};
 
 use audit_meaning::node::Node;
+use script_tokens::print::print_text;
 use script_tree::operation::Object;
 use script_tree::text::Text;
 use std::alloc::{AllocError, Global};
-use script_tokens::print::print_text;
 
 /// An object, by the word for it and its name where it has one.
 pub(crate) fn object_text(alloc: Global, object: &Object) -> Result<Vec<u8>, AllocError>

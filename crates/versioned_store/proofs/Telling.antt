@@ -18,6 +18,7 @@ use Rattle.object_set.specs.ObjectSets.{HeldObjects, objects_of}
 use Rattle.versioned_cells.specs.Versions.{Versions as CellVersions, VersionsByKey, as_of, held_at}
 use Rattle.versioned_tables.specs.OverTime.{FitEntries}
 use Rattle.versioned_store.specs.Logged.{Logged, cell_before, named_cell, FitAll}
+use Rattle.versioned_store.specs.Entries.{HasEntry}
 use Rattle.versioned_store.specs.Sources.{selects_alone}
 use Rattle.versioned_store.specs.Tables.{TellsSelects, IsToldSelects}
 use Rattle.versioned_store.specs.Tellings.{Tells}
@@ -44,6 +45,13 @@ place (y ∷ xs) (suc i) d h = place xs i d (omega arith)
 
 pub nth_get : {A : Type 0} (xs : List A) (i : ℕ) (x d : A) → i < length xs → x ≡ get_or xs i d → nth xs i ≡ Some x
 nth_get xs i x d h is = place xs i d h ∙ ap Some (sym is)
+
+-- the object of the log in which there is an entry
+pub logged_there : (inside logs : List Logged) (l p : ℕ) (x o : Logged) → inside ≡ logs → HasEntry logs l p
+    → x ≡ get_or inside l x → nth logs l ≡ Some o → x ≡ o
+logged_there inside logs l p x o same entry is at =
+    let found : nth inside l ≡ Some entry.object = ap (λ ls. nth ls l) same ∙ entry.log_is in
+    some_is (sym (nth_get inside l x x (within inside l entry.object found) is) ∙ ap (λ ls. nth ls l) same ∙ at)
 
 -- what holds at a place, and at those before it
 pub last_or : (P : ℕ → Type 0) (i j : ℕ) → j < i + 1 → (j ≡ i → P j) → (j < i → P j) → P j

@@ -1,4 +1,4 @@
-ghost use Rattle.std.specs.Prelude.{◌≡◌, ◌<◌, ℕ, IfOk, IfSome, Some, length, slice_index_or};
+ghost use Rattle.std.specs.Prelude.{◌≡◌, ◌<◌, ℕ, [], IfOk, OnOk, IfSome, Some, length, slice_index_or};
 ghost use Rattle.std.specs.Option.{is_some, option_copied};
 ghost use Rattle.basis.specs.Lists.{nth};
 ghost use Rattle.script_fit.specs.FitsOperation.{FitsTables};
@@ -96,12 +96,34 @@ fn kept_answers(
     ensures { IfOk result (λ kept. AreKept entries.now tables.now sources.now kept.items) }
 {
     let mut kept = Vec::with_capacity(alloc, entries.len())?;
+    match add_kept(&mut kept, tables, sources, entries) {
+        Ok(()) => Ok(kept),
+        Err(error) => {
+            drop(kept);
+            Err(error)
+        }
+    }
+}
+
+/// Puts these answers into a list that has none.
+fn add_kept(
+    kept: &mut Vec<Option<Value>>,
+    tables: &VersionedTables,
+    sources: &[u32],
+    entries: &[LogEntry],
+) -> Result<(), AllocError>
+    requires fits { FitEntries tables.now.widths entries.now }
+    requires stands { (p : ℕ) → Stands tables.now.widths p tables.now.rows }
+    requires count { length sources.now ≡ length entries.now }
+    requires empty { kept.old.items ≡ [] }
+    ensures { OnOk result (AreKept entries.now tables.now sources.now kept.new.items) }
+{
     let mut position = 0u32;
     for entry in entries {
         kept.push(kept_answer(tables, sources[position as usize], position, entry)?)?;
         position = next_position(position)?;
     }
-    Ok(kept)
+    Ok(())
 }
 
 fn kept_answer(

@@ -1,4 +1,4 @@
-ghost use Rattle.std.specs.Prelude.{◌≡◌, ◌↔◌, IfOk, IsTrue, map};
+ghost use Rattle.std.specs.Prelude.{◌≡◌, ◌↔◌, [], IfOk, OnOk, IsTrue, map};
 ghost use Rattle.std.specs.Option.{option_copied};
 ghost use Rattle.versioned_store.specs.Logged.{FitLogs, logged};
 ghost use Rattle.versioned_store.specs.Entries.{HasEntry, IsAnswerIn, IsCellIn, IsSourceIn, IsKeptIn};
@@ -41,10 +41,13 @@ impl<'a> VersionedStore<'a> {
         ensures { IfOk result (λ store. store ≡ map (logged start.now) logs.now) }
     {
         let mut versioned = Vec::with_capacity(alloc, logs.len())?;
-        for log in logs {
-            versioned.push(VersionedLog::build(alloc, start, log)?)?;
+        match add_logs(alloc, &mut versioned, start, logs) {
+            Ok(()) => Ok(VersionedStore { logs: versioned }),
+            Err(error) => {
+                drop(versioned);
+                Err(error)
+            }
         }
-        Ok(VersionedStore { logs: versioned })
     }
 
     /// Whether there is such an entry.
@@ -90,4 +93,21 @@ impl<'a> VersionedStore<'a> {
     {
         self.logs[log as usize].kept_answer(position)
     }
+}
+
+/// Puts the object of each log over time into a list that has none.
+fn add_logs<'a>(
+    alloc: Global,
+    versioned: &mut Vec<VersionedLog<'a>>,
+    start: &'a ObjectSet,
+    logs: &'a [Log],
+) -> Result<(), AllocError>
+    requires fit { FitLogs start.now logs.now }
+    requires empty { versioned.old.items ≡ [] }
+    ensures { OnOk result (versioned.new.items ≡ map (logged start.now) logs.now) }
+{
+    for log in logs {
+        versioned.push(VersionedLog::build(alloc, start, log)?)?;
+    }
+    Ok(())
 }

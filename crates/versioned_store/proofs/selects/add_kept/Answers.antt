@@ -9,14 +9,14 @@ use Rattle.versioned_tables.specs.OverTime.{IsAnswerThen}
 use Rattle.versioned_store.specs.Tables.{is_own}
 use Rattle.versioned_store.proofs.Kept.{push_nth}
 use Rattle.versioned_store.proofs.Telling.{nth_get}
-use Rattle.versioned_store.proofs.selects.kept_answers.Goals as goal
+use Rattle.versioned_store.proofs.selects.add_kept.Goals as goal
 
 pub bounds-sources-position : goal.bounds-sources-position
 bounds-sources-position c = omega (arith, c.loop-entry.invariant.place, c.loop-entry-test.true, c.requires.count)
 
 pub loop-entry-init : goal.loop-entry-init
 loop-entry-init c =
-    let none = c.in_ok-kept.ensures.items in
+    let none = c.requires.empty in
     record {
       place = refl;
       count = ap (λ (xs : List (Option Datum)). length xs) none;

@@ -6,7 +6,7 @@ use Rattle.script_tree.specs.Datum.{Datum}
 use Rattle.period.specs.declared.report.LogEntry.{LogEntry}
 use Rattle.versioned_tables.specs.OverTime.{IsAnswerThen}
 use Rattle.versioned_store.specs.Tables.{is_own}
-use Rattle.versioned_store.proofs.selects.kept_answers.Given as goal
+use Rattle.versioned_store.proofs.selects.add_kept.Given as goal
 
 abbrev pub invariant-loop-entry : goal.invariant-loop-entry
 invariant-loop-entry l = record {

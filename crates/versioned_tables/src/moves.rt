@@ -78,8 +78,8 @@ fn advance_on(
     ensures { OnOk result
         (Advances widths.now position statements.now tables.old.items tables.new.items) }
 {
-    let mut part = part_at(alloc, widths, tables.as_slice(), position, found, keys)?;
     let since = next_position(position)?;
+    let mut part = part_at(alloc, widths, tables.as_slice(), position, found, keys)?;
     match part.transact(alloc, statements)? {
         TransactionEnd::Committed(_) => note_rows(alloc, tables, since, keys, &part),
         TransactionEnd::Aborted(_) => Ok(()),

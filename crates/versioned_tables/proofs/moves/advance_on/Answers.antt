@@ -1,4 +1,4 @@
-use Rattle.std.proofs.Common.{◌≡◌, ◌+◌, subst, refl}
+use Rattle.std.proofs.Common.{◌≡◌, subst, refl}
 use Rattle.object_tables.specs.TransactionEnds.{IsTransactionEnd}
 use Rattle.versioned_tables.specs.Standing.{NotesRows}
 use Rattle.versioned_tables.proofs.Moving.{committed, aborted, part_is, is_of_part}

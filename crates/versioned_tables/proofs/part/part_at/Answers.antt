@@ -1,4 +1,5 @@
-use Rattle.std.proofs.Common.{◌≡◌, ◌∙◌}
+use Rattle.std.proofs.lemmas.Grind.{common_steps}
+use Rattle.std.proofs.Common.{arith, ◌≡◌, ◌∙◌}
 use Rattle.versioned_tables.proofs.PartRows.{part_begins, part_more, standing_fits_in}
 use Rattle.versioned_tables.proofs.part.part_at.Goals as goal
 
@@ -15,3 +16,6 @@ pub loop-key-preserved : goal.loop-key-preserved
 loop-key-preserved c =
     part_more c.args.position c.args.tables.now c.args.keys.now c.loop-key.key-index c.key-item.result c.args.widths.now c.loop-key.part c.add_row.new.part c.loop-key-test.true c.key-item.is c.loop-key.invariant
     c.in_ok-add_row.ensures.added c.in_ok-add_row.ensures.widths
+
+pub returns : goal.returns
+returns c = grind (arith, common_steps)

@@ -1,6 +1,7 @@
+use Rattle.std.proofs.lemmas.Grind.{common_steps}
 use Rattle.std.proofs.Common.{◌∙◌, ◌+◌, ◌∷◌, [], refl, sym, subst, ap, arith, length, length-append, List, Option, ℕ}
 use Rattle.script_tree.specs.Transactions.{Row}
-use Rattle.versioned_tables.specs.Standing.{Stands}
+use Rattle.versioned_tables.specs.Standing.{Stands, AreFrom}
 use Rattle.versioned_tables.specs.OverTime.{FitEntries, AdvancesBy}
 use Rattle.versioned_tables.proofs.Building.{tells_none, tells_more, from_more, changes_more, count_more, entry_fits, stands_at}
 use Rattle.versioned_tables.proofs.Finding.{found_none, found_more}
@@ -47,3 +48,9 @@ loop-entry-preserved c =
           ∙ omega (arith, length-append c.loop-entry.found.items (c.in_ok-note_act.field-0 ∷ []), c.loop-entry.invariant.many);
       count = count_more widths c.loop-entry.entry-index e.act c.loop-entry.tables.items c.note_act.new.tables.items fits done ∙ c.loop-entry.invariant.count;
     }
+
+pub returns-clause-tells : goal.returns-clause-tells
+returns-clause-tells c = grind (arith, common_steps)
+
+pub note_act-requires-clause-from : goal.note_act-requires-clause-from
+note_act-requires-clause-from c = subst (λ n. AreFrom n c.loop-entry.tables.items) (sym c.loop-entry.invariant.count_is) c.loop-entry.invariant.from

@@ -8,3 +8,9 @@ pub returns-in-Some-len8-up-clause-field : goal.returns-in-Some-len8-up-clause-f
 returns-in-Some-len8-up-clause-field c =
     number_found w64 wide64 c.args.bytes.now c.args.at c.from_be_bytes.result (c.args.at + 8)
     (λ i. omega (arith, c.type_inv.bytes i)) (grind (arith, common_steps))
+
+pub returns-in_default-clause-field : goal.returns-in_default-clause-field
+returns-in_default-clause-field c = grind (arith, common_steps)
+
+pub returns-in_default-2-clause-field : goal.returns-in_default-2-clause-field
+returns-in_default-2-clause-field c = grind (arith, common_steps)

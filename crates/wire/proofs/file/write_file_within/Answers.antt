@@ -1,3 +1,4 @@
+use Rattle.std.proofs.lemmas.Grind.{common_steps}
 use Rattle.std.proofs.Common.{◌≡◌, ◌+◌, ◌++◌, length, ap, ◌∙◌, arith}
 use Rattle.std.proofs.lemmas.List.{length-append}
 use Rattle.wire.specs.Files.{record_spelling}
@@ -20,3 +21,6 @@ loop-item-preserved g c =
       spelled = written_more format c.as_slice-items.result.now c.loop-item.item-index item old new c.loop-item-test.true c.loop-item.invariant.spelled (written ∙ ap (λ x. old ++ record_spelling format x) c.item-item.is);
       within = omega (arith, ap length written, length-append old (record_spelling format item), c.in-Some.ensures.0, c.in-Some.ensures.1);
     }
+
+pub returns : goal.returns
+returns g c = grind (arith, common_steps)

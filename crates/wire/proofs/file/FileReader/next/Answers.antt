@@ -1,3 +1,4 @@
+use Rattle.std.proofs.lemmas.Grind.{common_steps}
 use Rattle.std.proofs.Common.{length, ap, subst, arith}
 use Rattle.wire.specs.Spellings.{IsFieldAt, bytes_field}
 use Rattle.wire.proofs.FileSteps.{one_more, record_there, bad_record}
@@ -24,3 +25,6 @@ returns-in-Err-Other-clause-reads g c bytes items so_far =
     bad_record g.R.RecordFormat.format items bytes c.in_ok-payload.payload.now at c.in_ok-payload.next so_far.read
     (omega (arith, ap length so_far.of, c.in_ok-payload.ensures.within)) framed
     (rw c.in-Err-Other.field-0-is at c.in-Err-Other.ensures.takes items so_far.kept)
+
+pub returns-then-at-self-clause-reads : goal.returns-then-at-self-clause-reads
+returns-then-at-self-clause-reads g c = grind (arith, common_steps)

@@ -1,0 +1,12 @@
+use Rattle.std.proofs.Common.{arith}
+use Rattle.std.proofs.lemmas.Grind.{common_steps}
+use Rattle.wire.proofs.field.read_u16.Goals as goal
+
+pub returns-in-Some-len2-up-clause-field : goal.returns-in-Some-len2-up-clause-field
+returns-in-Some-len2-up-clause-field c = grind (arith, common_steps)
+
+pub returns-in_default-clause-field : goal.returns-in_default-clause-field
+returns-in_default-clause-field c = grind (arith, common_steps)
+
+pub returns-in_default-2-clause-field : goal.returns-in_default-2-clause-field
+returns-in_default-2-clause-field c = grind (arith, common_steps)

@@ -102,11 +102,35 @@ fn job_with(
 ) -> Option<Job>
     ensures { result ≡ job_with method path parameters body }
 {
+    let Some(method) = method else {
+        drop(path);
+        drop(parameters);
+        drop(body);
+        return None;
+    };
+    let Some(path) = path else {
+        drop(method);
+        drop(parameters);
+        drop(body);
+        return None;
+    };
+    let Some(parameters) = parameters else {
+        drop(method);
+        drop(path);
+        drop(body);
+        return None;
+    };
+    let Some(body) = body else {
+        drop(method);
+        drop(path);
+        drop(parameters);
+        return None;
+    };
     Some(Job {
-        method: method?,
-        path: path?,
-        parameters: parameters?,
-        body: body?,
+        method,
+        path,
+        parameters,
+        body,
     })
 }
 

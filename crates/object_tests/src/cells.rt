@@ -14,7 +14,25 @@ fn registers(alloc: Global) -> Result<Registers, AllocError> {
 
 fn registers_keep(alloc: Global) -> Result<bool, AllocError> {
     let mut registers = registers(alloc)?;
-    let copy = registers.clone()?;
+    let copy: Result<_, AllocError> = registers.clone();
+    let keep = match copy {
+        Ok(copy) => {
+            let keep = register_is_removed(alloc, &mut registers, &copy);
+            drop(copy);
+            keep
+        }
+        Err(AllocError) => Err(AllocError),
+    };
+    drop(registers);
+    keep
+}
+
+/// Whether the register is gone where it is removed, and still in the copy.
+fn register_is_removed(
+    alloc: Global,
+    registers: &mut Registers,
+    copy: &Registers,
+) -> Result<bool, AllocError> {
     let key = text(alloc, b"a")?;
     registers.remove(&key);
     let is_gone = registers.get(&key)? == Value::null() && registers.iter().next().is_none();
@@ -29,12 +47,25 @@ fn a_register_has_a_value_until_it_is_removed(rt: HostRuntime) {
 /// The stores `s` and `r`, of which `s` holds true under `k`.
 fn stores(alloc: Global) -> Result<Stores, AllocError> {
     let program = program(alloc, b"store s; table t (k); store r;")?;
-    let mut stores = Stores::new(alloc, program.declarations())?;
+    let stores = Stores::new(alloc, program.declarations());
+    drop(program);
+    let mut stores = stores?;
+    match put_true(alloc, &mut stores) {
+        Ok(()) => Ok(stores),
+        Err(AllocError) => {
+            drop(stores);
+            Err(AllocError)
+        }
+    }
+}
+
+/// Puts true under `k` of the store `s`, where it is there.
+fn put_true(alloc: Global, stores: &mut Stores) -> Result<(), AllocError> {
     let name = text(alloc, b"s")?;
     if stores.has(&name) {
         stores.put(&name, text(alloc, b"k")?, Value::bool(true))?;
     }
-    Ok(stores)
+    Ok(())
 }
 
 /// Whether the store of this name holds true under `k`.
@@ -46,10 +77,24 @@ fn holds(alloc: Global, stores: &Stores, name: &[u8]) -> Result<bool, AllocError
 
 fn stores_keep(alloc: Global) -> Result<bool, AllocError> {
     let mut stores = stores(alloc)?;
-    let copy = stores.clone()?;
+    let copy: Result<_, AllocError> = stores.clone();
+    let keep = match copy {
+        Ok(copy) => {
+            let keep = cell_is_removed(alloc, &mut stores, &copy);
+            drop(copy);
+            keep
+        }
+        Err(AllocError) => Err(AllocError),
+    };
+    drop(stores);
+    keep
+}
+
+/// Whether the cell is gone where it is removed, and still in the copy, of that store alone.
+fn cell_is_removed(alloc: Global, stores: &mut Stores, copy: &Stores) -> Result<bool, AllocError> {
     stores.remove(&text(alloc, b"s")?, &text(alloc, b"k")?);
-    let is_there = holds(alloc, &copy, b"s")? && !holds(alloc, &copy, b"r")?;
-    Ok(is_there && !holds(alloc, &stores, b"s")?)
+    let is_there = holds(alloc, copy, b"s")? && !holds(alloc, copy, b"r")?;
+    Ok(is_there && !holds(alloc, stores, b"s")?)
 }
 
 #[test]

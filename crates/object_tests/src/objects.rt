@@ -14,7 +14,9 @@ const STATE: &[u8] =
 
 fn state(alloc: Global) -> Result<ObjectSet, AllocError> {
     let program = program(alloc, PROGRAM)?;
-    match read_state(alloc, &program, STATE) {
+    let read = read_state(alloc, &program, STATE);
+    drop(program);
+    match read {
         Ok(objects) => Ok(objects),
         Err(_) => Err(AllocError),
     }
@@ -33,8 +35,17 @@ fn has_cell(alloc: Global, objects: &ObjectSet) -> Result<bool, AllocError> {
 }
 
 fn has_all(alloc: Global) -> Result<bool, AllocError> {
-    let objects = state(alloc)?.clone()?;
-    let has_stored = has_register(alloc, &objects)? && has_cell(alloc, &objects)?;
+    let objects = state(alloc)?;
+    let copy: Result<_, AllocError> = objects.clone();
+    drop(objects);
+    let copy = copy?;
+    let has_all = holds_all(alloc, &copy);
+    drop(copy);
+    has_all
+}
+
+fn holds_all(alloc: Global, objects: &ObjectSet) -> Result<bool, AllocError> {
+    let has_stored = has_register(alloc, objects)? && has_cell(alloc, objects)?;
     Ok(has_stored && row_count(objects.tables()) == 1 && objects.clock() == 7)
 }
 

@@ -1,10 +1,15 @@
 //! What happens where two jobs overlap, and the files of one job, as docs/formats.md shows them.
 
+ghost use Rattle.std.specs.Prelude.{[], IfOk};
+ghost use Rattle.script_code.specs.Translated.{IsCodeOf};
+ghost use Rattle.object_tests.specs.Histories.{KeepsHistory};
+
 use crate::programs::program;
-use history::{Happening, History};
+use history::{Happening, History, Journal};
 use object_set::ObjectSet;
 use outside::FixedClock;
-use script_code::translate::translate;
+use script_check::program::Program;
+use script_code::translate::{Code, translate};
 use std::alloc::{AllocError, Global};
 use trace_and_report::{FileJournal, Recorded};
 use turns::run_turns;
@@ -24,23 +29,89 @@ fn jobs(alloc: Global, file: &[u8]) -> Result<Requests, AllocError> {
     }
 }
 
-/// What happens to these jobs of a program, where no turns are listed.
-fn history(alloc: Global, source: &[u8], file: &[u8]) -> Result<History, AllocError> {
-    let program = program(alloc, source)?;
-    let code = translate(alloc, &program)?;
-    let objects = ObjectSet::new(alloc, program.declarations())?;
-    let jobs = jobs(alloc, file)?;
-    run_turns(
-        alloc,
-        &program,
-        &code,
-        objects,
-        jobs,
-        &[],
-        0,
-        &FixedClock(5),
-        History::new(alloc),
-    )
+/// Runs these jobs of a program, where no turns are listed, and gives what happens to the journal.
+fn run<J: Journal>(alloc: Global, source: &[u8], file: &[u8], journal: J) -> Result<J, AllocError>
+    requires { J.keeps [] journal }
+    ensures { IfOk result (KeepsHistory J.keeps) }
+{
+    match program(alloc, source) {
+        Ok(program) => {
+            let kept = run_program(alloc, &program, file, journal);
+            drop(program);
+            kept
+        }
+        Err(AllocError) => {
+            drop(journal);
+            Err(AllocError)
+        }
+    }
+}
+
+/// Runs these jobs of this program.
+fn run_program<J: Journal>(
+    alloc: Global,
+    program: &Program,
+    file: &[u8],
+    journal: J,
+) -> Result<J, AllocError>
+    requires { J.keeps [] journal }
+    ensures { IfOk result (KeepsHistory J.keeps) }
+{
+    match translate(alloc, program) {
+        Ok(code) => {
+            let kept = run_code(alloc, program, &code, file, journal);
+            drop(code);
+            kept
+        }
+        Err(AllocError) => {
+            drop(journal);
+            Err(AllocError)
+        }
+    }
+}
+
+/// The same by its code.
+fn run_code<J: Journal>(
+    alloc: Global,
+    program: &Program,
+    code: &Code,
+    file: &[u8],
+    journal: J,
+) -> Result<J, AllocError>
+    requires code { IsCodeOf program.now code.now }
+    requires nothing_kept { J.keeps [] journal }
+    ensures { IfOk result (KeepsHistory J.keeps) }
+{
+    match jobs(alloc, file) {
+        Ok(jobs) => run_jobs(alloc, program, code, jobs, journal),
+        Err(AllocError) => {
+            drop(journal);
+            Err(AllocError)
+        }
+    }
+}
+
+/// The same of the jobs that were read.
+fn run_jobs<J: Journal>(
+    alloc: Global,
+    program: &Program,
+    code: &Code,
+    jobs: Requests,
+    journal: J,
+) -> Result<J, AllocError>
+    requires code { IsCodeOf program.now code.now }
+    requires nothing_kept { J.keeps [] journal }
+    ensures { IfOk result (KeepsHistory J.keeps) }
+{
+    let clock = FixedClock(5);
+    match ObjectSet::new(alloc, program.declarations()) {
+        Ok(start) => run_turns(alloc, program, code, start, jobs, &[], 0, &clock, journal),
+        Err(AllocError) => {
+            drop(jobs);
+            drop(journal);
+            Err(AllocError)
+        }
+    }
 }
 
 /// Whether an arrival (A), an operation (X) or a departure (D) happened, and at which seat.
@@ -55,7 +126,8 @@ fn line(happening: &Happening) -> (u8, u32) {
 /// Whether this is what happens to two jobs of a page that reads a register twice.
 fn happens(alloc: Global, lines: &[(u8, u32)]) -> Result<bool, AllocError> {
     let source = b"page \"/e\" { echo read(\"r\"); echo read(\"r\"); }";
-    let history = history(alloc, source, b"[{\"path\":\"/e\"},{\"path\":\"/e\"}]")?;
+    let jobs = b"[{\"path\":\"/e\"},{\"path\":\"/e\"}]";
+    let history = run(alloc, source, jobs, History::new(alloc))?;
     let history = history.as_slice();
     Ok(
         history.len() == lines.len()
@@ -83,24 +155,7 @@ fn two_jobs_go_by_turns(rt: HostRuntime) {
 
 /// The files of these jobs of a program, where no turns are listed.
 fn recorded(alloc: Global, source: &[u8], file: &[u8]) -> Result<Recorded, AllocError> {
-    let program = program(alloc, source)?;
-    let code = translate(alloc, &program)?;
-    let objects = ObjectSet::new(alloc, program.declarations())?;
-    let jobs = jobs(alloc, file)?;
-    let journal = FileJournal::new(alloc)?;
-    let clock = FixedClock(5);
-    let journal = run_turns(
-        alloc,
-        &program,
-        &code,
-        objects,
-        jobs,
-        &[],
-        0,
-        &clock,
-        journal,
-    )?;
-    journal.finish()
+    run(alloc, source, file, FileJournal::new(alloc)?)?.finish()
 }
 
 /// Whether the files of one job of a page that echoes 3 are those.

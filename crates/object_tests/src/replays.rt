@@ -48,18 +48,47 @@ fn schedule(alloc: Global, bytes: &[u8]) -> Result<ScheduleFile, AllocError> {
 }
 
 fn played(alloc: Global, bytes: &[u8]) -> Result<Option<ReplayReason>, AllocError> {
-    let program = program(alloc, b"")?;
-    let start = ObjectSet::new(alloc, program.declarations())?;
-    let index = Index::new(alloc, &program)?;
     let trace = trace(alloc)?;
-    replay_by(
-        alloc,
-        &Idle,
-        &index,
-        start,
-        &trace,
-        &schedule(alloc, bytes)?,
-    )
+    let reason = match schedule(alloc, bytes) {
+        Ok(schedule) => {
+            let reason = reason_of(alloc, &trace, &schedule);
+            drop(schedule);
+            reason
+        }
+        Err(AllocError) => Err(AllocError),
+    };
+    drop(trace);
+    reason
+}
+
+/// Why the schedule isn't one of the trace, where the program declares nothing.
+fn reason_of(
+    alloc: Global,
+    trace: &TraceFile,
+    schedule: &ScheduleFile,
+) -> Result<Option<ReplayReason>, AllocError> {
+    let program = program(alloc, b"")?;
+    let reason = match Index::new(alloc, &program) {
+        Ok(index) => {
+            let reason = reason_by(alloc, &index, trace, schedule);
+            drop(index);
+            reason
+        }
+        Err(AllocError) => Err(AllocError),
+    };
+    drop(program);
+    reason
+}
+
+/// The same of the program that this is the index of.
+fn reason_by(
+    alloc: Global,
+    index: &Index<'_>,
+    trace: &TraceFile,
+    schedule: &ScheduleFile,
+) -> Result<Option<ReplayReason>, AllocError> {
+    let start = ObjectSet::new(alloc, index.program().declarations())?;
+    replay_by(alloc, &Idle, index, start, trace, schedule)
 }
 
 #[test]

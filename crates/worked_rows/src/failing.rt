@@ -35,20 +35,27 @@ pub fn wrong_call<R: Threads + Wait + Sync>(
         row,
         run,
     };
-    if let Some(calls) = row.field("shelf")
-        && let Some(call) = trial.wrong_call(number_of(calls)? as usize)?
-    {
-        return Ok(Some(format!(in rt.alloc(); "call {call} of the shelf")?));
-    }
-    if let Some(bytes) = row.field("out")
-        && let Some(write) = trial.wrong_write(number_of(bytes)? as usize)?
-    {
-        return Ok(Some(format!(in rt.alloc(); "write {write} of the line")?));
-    }
-    Ok(None)
+    let wrong = trial.wrong();
+    drop(trial);
+    wrong
 }
 
 impl<R: Threads + Wait + Sync> Trial<'_, R> {
+    /// The call of the shelf, or the write of the line, that doesn't end the run as it should.
+    fn wrong(&self) -> io::Result<Option<String>> {
+        if let Some(calls) = self.row.field("shelf")
+            && let Some(call) = self.wrong_call(number_of(calls)? as usize)?
+        {
+            return Ok(Some(format!(in self.rt.alloc(); "call {call} of the shelf")?));
+        }
+        if let Some(bytes) = self.row.field("out")
+            && let Some(write) = self.wrong_write(number_of(bytes)? as usize)?
+        {
+            return Ok(Some(format!(in self.rt.alloc(); "write {write} of the line")?));
+        }
+        Ok(None)
+    }
+
     /// The status with which the run ends where these calls of the shelf fail, and the files that it
     /// leaves.
     fn end(&self, failing: Vec<u64>, out: &mut MemSink) -> io::Result<(u8, MemShelf)> {

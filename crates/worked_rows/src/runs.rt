@@ -231,8 +231,25 @@ pub fn checked<R: Threads + Wait + Sync>(
     program: &str,
 ) -> io::Result<String> {
     let mut shelf = MemShelf::new(alloc, Vec::new(alloc));
-    put(alloc, &mut shelf, PROGRAM, program)?;
-    Ok(Run::new(alloc, &["check", PROGRAM], 0)?.ended(threads, alloc, &mut shelf)?)
+    let ended = match put(alloc, &mut shelf, PROGRAM, program) {
+        Ok(()) => ended_by(threads, alloc, &["check", PROGRAM], &mut shelf),
+        Err(error) => Err(error),
+    };
+    drop(shelf);
+    ended
+}
+
+/// How the run of these words ends over these files.
+fn ended_by<R: Threads + Wait + Sync>(
+    threads: &R,
+    alloc: Global,
+    words: &[&str],
+    shelf: &mut MemShelf,
+) -> io::Result<String> {
+    let run = Run::new(alloc, words, 0)?;
+    let ended = run.ended(threads, alloc, shelf);
+    drop(run);
+    Ok(ended?)
 }
 
 /// How a row ends, and whether it writes other files than it should.
@@ -243,16 +260,25 @@ pub fn ended<R: Threads + Wait + Sync>(
     row: Row<'_>,
 ) -> io::Result<String> {
     let mut shelf = shelf_of(rt, kind, row, Vec::new(rt.alloc()))?;
+    let ended = ended_over(threads, rt.alloc(), kind, row, &mut shelf);
+    drop(shelf);
+    ended
+}
+
+fn ended_over<R: Threads + Wait + Sync>(
+    threads: &R,
+    alloc: Global,
+    kind: Kind,
+    row: Row<'_>,
+    shelf: &mut MemShelf,
+) -> io::Result<String> {
     match kind {
-        Kind::Replay => {
-            let replay = Run::new(rt.alloc(), &REPLAYING, 0)?;
-            Ok(replay.ended(threads, rt.alloc(), &mut shelf)?)
-        }
+        Kind::Replay => ended_by(threads, alloc, &REPLAYING, shelf),
         Kind::Record => match row.field(TIMES) {
-            Some(times) => recorded_often(threads, rt.alloc(), &mut shelf, row, number_of(times)?),
-            None => recorded(threads, rt.alloc(), &mut shelf, row),
+            Some(times) => recorded_often(threads, alloc, shelf, row, number_of(times)?),
+            None => recorded(threads, alloc, shelf, row),
         },
-        Kind::Audit => audited(threads, rt.alloc(), &mut shelf, row),
+        Kind::Audit => audited(threads, alloc, shelf, row),
     }
 }
 
@@ -264,8 +290,9 @@ fn recorded<R: Threads + Wait + Sync>(
     row: Row<'_>,
 ) -> io::Result<String> {
     let recording = Run::recording(alloc, row)?;
-    let ended = recording.ended(threads, alloc, shelf)?;
-    let ended = with_others(alloc, shelf, row, ended)?;
+    let ended = recording.ended(threads, alloc, shelf);
+    drop(recording);
+    let ended = with_others(alloc, shelf, row, ended?)?;
     if !ended.as_str().starts_with("0 ") {
         return Ok(ended);
     }
@@ -300,14 +327,14 @@ fn audited<R: Threads + Wait + Sync>(
     shelf: &mut MemShelf,
     row: Row<'_>,
 ) -> io::Result<String> {
-    let audit = Run::new(alloc, &AUDITING, 0)?.ended(threads, alloc, shelf)?;
+    let audit = ended_by(threads, alloc, &AUDITING, shelf)?;
     if has_other_schedule(alloc, shelf, row, audit.as_str())? {
         return Ok(format!(in alloc; "{audit}, with another schedule")?);
     }
     if !audit.as_str().starts_with("0 ") {
         return Ok(audit);
     }
-    let replay = Run::new(alloc, &REPLAYING, 0)?.ended(threads, alloc, shelf)?;
+    let replay = ended_by(threads, alloc, &REPLAYING, shelf)?;
     followed(alloc, audit, "0 agrees", replay.as_str())
 }
 

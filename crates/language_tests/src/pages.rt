@@ -20,20 +20,28 @@ const HIT: &[u8; 107] = b"page \"/p\" { let n = read(\"hits\"); if n == null { s
 
 /// What the page of a program does next after these answers.
 fn step(alloc: Global, text: &[u8], answers: &[Value]) -> Result<WalkerStep, AllocError> {
-    match (program(alloc, text), request(alloc)) {
-        (Ok(program), Some(request)) => next(alloc, &program, &request, answers),
-        _ => Err(AllocError),
-    }
+    let Ok(program) = program(alloc, text) else {
+        return Err(AllocError);
+    };
+    let next = next(alloc, &program, answers);
+    drop(program);
+    next
 }
 
-fn next(
-    alloc: Global,
-    program: &Program,
-    request: &Request,
-    answers: &[Value],
-) -> Result<WalkerStep, AllocError> {
-    let index = Index::new(alloc, program)?;
-    Walker::new(&index, request).next(alloc, answers)
+fn next(alloc: Global, program: &Program, answers: &[Value]) -> Result<WalkerStep, AllocError> {
+    let Some(request) = request(alloc) else {
+        return Err(AllocError);
+    };
+    let next = match Index::new(alloc, program) {
+        Ok(index) => {
+            let next = Walker::new(&index, &request).next(alloc, answers);
+            drop(index);
+            next
+        }
+        Err(AllocError) => Err(AllocError),
+    };
+    drop(request);
+    next
 }
 
 fn empty(alloc: Global) -> Text {
@@ -52,12 +60,16 @@ fn is_read(op: &Op) -> bool {
     }
 }
 
+fn wants_a_read(step: Result<WalkerStep, AllocError>) -> bool {
+    match step {
+        Ok(WalkerStep::Wants(op)) => is_read(&op),
+        Ok(WalkerStep::Ends(..)) | Err(_) => false,
+    }
+}
+
 #[test]
 fn an_operation_is_wanted(rt: HostRuntime) {
-    match step(rt.alloc(), TEXT, &[]) {
-        Ok(WalkerStep::Wants(op)) => assert!(rt; is_read(&op)),
-        Ok(WalkerStep::Ends(..)) | Err(_) => assert!(rt; false, "an operation"),
-    }
+    assert!(rt; wants_a_read(step(rt.alloc(), TEXT, &[])));
 }
 
 /// Whether a request that is answered so ends well by a path of these decisions and steps.

@@ -48,11 +48,16 @@ fn finds_each(alloc: Global, program: &Program) -> bool {
     }
 }
 
+/// Whether the index of the program of this text finds each of these.
+fn is_indexed(alloc: Global, text: &[u8]) -> bool {
+    match program(alloc, text) {
+        Ok(program) => finds_each(alloc, &program),
+        Err(_) => false,
+    }
+}
+
 #[test]
 fn an_index(rt: HostRuntime) {
     let text = b"table t (k, v); function f(x) { return x; } page \"/a\" { echo f(1); }";
-    match program(rt.alloc(), text) {
-        Ok(program) => assert!(rt; finds_each(rt.alloc(), &program)),
-        Err(_) => assert!(rt; false, "a program"),
-    }
+    assert!(rt; is_indexed(rt.alloc(), text));
 }

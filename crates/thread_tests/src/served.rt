@@ -5,6 +5,7 @@ use claims::Workers;
 use history::History;
 use object_set::ObjectSet;
 use outside::{FixedClock, Gate, OpenGate};
+use script_check::program::Program;
 use server_workers::serve_jobs;
 use std::alloc::{AllocError, Global};
 use std::sync::Wait;
@@ -21,15 +22,35 @@ pub(crate) fn history<R: Threads + Wait + Sync, G: Gate + Sync>(
     workers: u32,
     gate: &G,
 ) -> Result<History, AllocError> {
+    let workers = Workers::new(workers).ok_or(AllocError)?;
     let program = hit(alloc)?;
-    let objects = ObjectSet::new(alloc, program.declarations())?;
+    let history = history_of(rt, alloc, &program, file, workers, gate);
+    drop(program);
+    history
+}
+
+/// The same of this program.
+fn history_of<R: Threads + Wait + Sync, G: Gate + Sync>(
+    rt: &R,
+    alloc: Global,
+    program: &Program,
+    file: &[u8],
+    workers: Workers,
+    gate: &G,
+) -> Result<History, AllocError> {
     let jobs = jobs(alloc, file)?;
     let clock = FixedClock(5);
     let history = History::new(alloc);
-    let workers = Workers::new(workers).ok_or(AllocError)?;
-    serve_jobs(
-        rt, alloc, &program, objects, jobs, workers, 7, &clock, gate, history,
-    )
+    match ObjectSet::new(alloc, program.declarations()) {
+        Ok(start) => serve_jobs(
+            rt, alloc, program, start, jobs, workers, 7, &clock, gate, history,
+        ),
+        Err(AllocError) => {
+            drop(jobs);
+            drop(history);
+            Err(AllocError)
+        }
+    }
 }
 
 /// Whether so many workers serve six jobs, each with four happenings.

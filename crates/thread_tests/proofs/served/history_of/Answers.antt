@@ -9,7 +9,7 @@ use Rattle.basis.specs.contracts.items.Items
 use Rattle.script_tree.proofs.Sends as operations
 use Rattle.history.specs.contracts.happening.Happening
 use Rattle.server_workers.proofs.Sends.{packed_send, packed_sync, path_send, response_send}
-use Rattle.thread_tests.proofs.served.history.Goals as goal
+use Rattle.thread_tests.proofs.served.history_of.Goals as goal
 
 number : IsSend (as_row u32-field)
 number = search sendable depth 20

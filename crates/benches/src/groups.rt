@@ -16,6 +16,7 @@ use outside_os::FileShelf;
 use period::report::Report;
 use script_check::program::Program;
 use script_code::translate::{Code, translate};
+use std::alloc::AllocError;
 use std::io::{self, ErrorKind};
 use trace_format::trace_file::TraceFile;
 use trace_index::IndexedTrace;
@@ -58,7 +59,9 @@ fn run_files(
     times: u32,
 ) -> Result<io::Result<()>, InputError> {
     let program = read_program(rt.alloc(), shelf, names.program, MOST_FILE_BYTES)?;
-    run_program(rt, shelf, names, times, &program)
+    let done = run_program(rt, shelf, names, times, &program);
+    drop(program);
+    done
 }
 
 /// The same where this program was read.
@@ -70,11 +73,34 @@ fn run_program(
     program: &Program,
 ) -> Result<io::Result<()>, InputError> {
     let start = read_state(rt.alloc(), shelf, names.state, MOST_FILE_BYTES, program)?;
+    let done = run_state(rt, shelf, names, times, program, &start);
+    drop(start);
+    done
+}
+
+/// The same where this state was read, too.
+fn run_state(
+    rt: &HostRuntime,
+    shelf: &mut FileShelf,
+    names: Names<'_>,
+    times: u32,
+    program: &Program,
+    start: &ObjectSet,
+) -> Result<io::Result<()>, InputError>
+    requires { IsSetOf program.now start.now }
+{
     let trace = read_trace(rt.alloc(), shelf, names.trace, MOST_FILE_BYTES)?;
-    match read_report(rt.alloc(), shelf, names.report, MOST_FILE_BYTES)? {
-        Ok(report) => Ok(run_report(rt, program, &start, &trace, &report, times)),
-        Err(_) => Ok(Err(ErrorKind::InvalidData.into())),
-    }
+    let done = match read_report(rt.alloc(), shelf, names.report, MOST_FILE_BYTES) {
+        Ok(Ok(report)) => {
+            let done = run_report(rt, program, start, &trace, &report, times);
+            drop(report);
+            Ok(done)
+        }
+        Ok(Err(_)) => Ok(Err(ErrorKind::InvalidData.into())),
+        Err(error) => Err(error),
+    };
+    drop(trace);
+    done
 }
 
 /// Runs the groups of a report whose counts and logs have no fault.
@@ -89,16 +115,41 @@ fn run_report(
     requires { IsSetOf program.now start.now }
 {
     let alloc = rt.alloc();
-    let trace = IndexedTrace::new(alloc, trace)?;
-    let Ok(map) = check_logs(alloc, start, &trace, report) else {
-        return Err(ErrorKind::InvalidData.into());
-    };
     if !fit_logs(start, report.logs.as_slice()) {
         return Err(ErrorKind::InvalidData.into());
     }
-    let code = translate(alloc, program)?;
-    let evidence = Evidence::gather(alloc, &trace, start, report, &map)?;
-    compare(rt, &code, &evidence, times)
+    let trace = IndexedTrace::new(alloc, trace)?;
+    let done = match check_logs(alloc, start, &trace, report) {
+        Ok(map) => {
+            let gathered = Evidence::gather(alloc, &trace, start, report, &map);
+            let done = run_evidence(rt, program, gathered, times);
+            drop(map);
+            done
+        }
+        Err(_) => Err(ErrorKind::InvalidData.into()),
+    };
+    drop(trace);
+    done
+}
+
+/// Runs the groups of the evidence, where it was gathered.
+fn run_evidence(
+    rt: &HostRuntime,
+    program: &Program,
+    gathered: Result<Evidence<'_>, AllocError>,
+    times: u32,
+) -> io::Result<()> {
+    let evidence = gathered?;
+    let done = match translate(rt.alloc(), program) {
+        Ok(code) => {
+            let done = compare(rt, &code, &evidence, times);
+            drop(code);
+            done
+        }
+        Err(error) => Err(error.into()),
+    };
+    drop(evidence);
+    done
 }
 
 /// Runs the groups so many times, and tells what came of it.

@@ -56,22 +56,58 @@ fn run_rows(rt: &HostRuntime, file: &str, text: &str) -> io::Result<()> {
 /// What the words of a row come to.
 fn row_told(alloc: Global, words: &str) -> io::Result<String> {
     let trace = trace_of(alloc, words)?;
-    let report = report_of(alloc, words)?;
-    answer_told(alloc, &trace, &report)
+    let told = match report_of(alloc, words) {
+        Ok(report) => {
+            let told = answer_told(alloc, &trace, &report);
+            drop(report);
+            told
+        }
+        Err(error) => Err(error),
+    };
+    drop(trace);
+    told
 }
 
 fn answer_told(alloc: Global, trace: &TraceFile, report: &Report) -> io::Result<String> {
     let trace = indexed(alloc, trace)?;
-    let answer = answer_of(alloc, &trace, report)?;
-    Ok(told(alloc, &answer)?)
+    let answer = answer_of(alloc, &trace, report);
+    drop(trace);
+    match answer {
+        Ok(answer) => {
+            let told = told(alloc, &answer);
+            drop(answer);
+            Ok(told?)
+        }
+        Err(error) => Err(error.into()),
+    }
 }
 
 /// Makes a report and the table of its trace, and orders its events so many times.
 fn run_bench(rt: &HostRuntime, shape: Shape, requests: u32, times: u32) -> io::Result<()> {
     let trace = shape.trace(rt.alloc(), requests)?;
-    let report = shape.report(rt.alloc(), requests)?;
-    let trace = indexed(rt.alloc(), &trace)?;
-    order_times(rt, &trace, &report, times)
+    let done = match shape.report(rt.alloc(), requests) {
+        Ok(report) => {
+            let done = order_report(rt, &trace, &report, times);
+            drop(report);
+            done
+        }
+        Err(error) => Err(error),
+    };
+    drop(trace);
+    done
+}
+
+/// Orders the events of this report so many times.
+fn order_report(
+    rt: &HostRuntime,
+    trace: &TraceFile,
+    report: &Report,
+    times: u32,
+) -> io::Result<()> {
+    let trace = indexed(rt.alloc(), trace)?;
+    let done = order_times(rt, &trace, report, times);
+    drop(trace);
+    done
 }
 
 /// Checks a report and orders its events so many times, and tells what it came to and how long that

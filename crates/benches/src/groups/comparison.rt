@@ -18,8 +18,10 @@ fn told(alloc: Global, outcome: Result<u64, OrMemory<Reason>>) -> Result<String,
         Ok(steps) => format!(in alloc; "steps {steps}"),
         Err(OrMemory::Memory) => Err(AllocError),
         Err(OrMemory::Other(reason)) => {
-            let reason = reason_told(alloc, &reason)?;
-            format!(in alloc; "rejected {reason}")
+            let told = reason_told(alloc, &reason);
+            drop(reason);
+            let told = told?;
+            format!(in alloc; "rejected {told}")
         }
     }
 }
@@ -67,8 +69,9 @@ impl Comparison {
         self.run_at_once(rt, code, evidence)?;
         let start = Instant::now(rt)?;
         let steps = run_plain(rt.alloc(), code, evidence);
-        self.one_by_one = self.one_by_one.saturating_add(start.elapsed(rt)?);
+        let took = start.elapsed(rt);
         let plain = told(rt.alloc(), steps)?;
+        self.one_by_one = self.one_by_one.saturating_add(took?);
         self.tally
             .count(rt, "one by one", self.told.as_str(), plain.as_str())
     }
@@ -82,15 +85,25 @@ impl Comparison {
     ) -> io::Result<()> {
         let start = Instant::now(rt)?;
         let spent = run_groups(rt.alloc(), code, evidence, &OpenGate);
-        self.at_once = self.at_once.saturating_add(start.elapsed(rt)?);
-        self.told = match spent {
+        let took = start.elapsed(rt);
+        self.told = self.spent_told(rt.alloc(), spent)?;
+        self.at_once = self.at_once.saturating_add(took?);
+        Ok(())
+    }
+
+    /// What running them came to, of which it notes how many nodes were evaluated.
+    fn spent_told(
+        &mut self,
+        alloc: Global,
+        spent: Result<Spent, OrMemory<Reason>>,
+    ) -> Result<String, AllocError> {
+        match spent {
             Ok(Spent { evaluated, plain }) => {
                 self.evaluated = evaluated;
-                told(rt.alloc(), Ok(plain))?
+                told(alloc, Ok(plain))
             }
-            Err(fault) => told(rt.alloc(), Err(fault))?,
-        };
-        Ok(())
+            Err(fault) => told(alloc, Err(fault)),
+        }
     }
 
     /// Prints what came of so many groups, and tells how long each form took.

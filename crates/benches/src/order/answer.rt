@@ -67,10 +67,37 @@ fn order_of(
     requires { IsBalanced trace.now }
 {
     let start = ObjectSet::new(alloc, &[])?;
-    let map = check_logs(alloc, &start, trace, report)?;
-    let nodes = acyclic(order_events(alloc, trace, report, &map)?)?;
-    check_groups(alloc, trace, report)?;
-    Ok(nodes)
+    match check_logs(alloc, &start, trace, report) {
+        Ok(map) => {
+            let ordered = order_events(alloc, trace, report, &map);
+            drop(map);
+            drop(start);
+            grouped(alloc, trace, report, ordered?)
+        }
+        Err(error) => {
+            drop(start);
+            Err(error)
+        }
+    }
+}
+
+/// An order, if it is one, of a report whose groups have no fault.
+fn grouped(
+    alloc: Global,
+    trace: &IndexedTrace<'_>,
+    report: &Report,
+    ordered: Ordered,
+) -> Result<Nodes, OrMemory<Reason>>
+    requires { IsBalanced trace.now }
+{
+    let nodes = acyclic(ordered)?;
+    match check_groups(alloc, trace, report) {
+        Ok(()) => Ok(nodes),
+        Err(error) => {
+            drop(nodes);
+            Err(error)
+        }
+    }
 }
 
 /// An order, if it is one.

@@ -21,6 +21,16 @@ const SIDES: i64 = 6;
 /// The trace of a row's arrivals and departures.
 pub fn trace_of(alloc: Global, words: &str) -> io::Result<TraceFile> {
     let mut events = Events::new(alloc)?;
+    match put_events(&mut events, words) {
+        Ok(()) => events.finish(alloc),
+        Err(error) => {
+            drop(events);
+            Err(error)
+        }
+    }
+}
+
+fn put_events(events: &mut Events, words: &str) -> io::Result<()> {
     for word in words.split_whitespace() {
         if let Some(rid) = word.strip_prefix('+') {
             events.ask(number(rid)?)?;
@@ -28,7 +38,7 @@ pub fn trace_of(alloc: Global, words: &str) -> io::Result<TraceFile> {
             events.answer(number(rid)?)?;
         }
     }
-    events.finish(alloc)
+    Ok(())
 }
 
 fn counts_of(alloc: Global, words: &str) -> io::Result<Counts> {

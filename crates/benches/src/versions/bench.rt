@@ -11,11 +11,24 @@ use versioned_store::fitting::fit_logs;
 /// Makes logs, and answers all of their entries so many times.
 pub fn run_bench(rt: &HostRuntime, shape: Shape, entries: u32, times: u32) -> io::Result<()> {
     let start = start_of(rt.alloc(), shape)?;
-    let logs = logs_of(rt.alloc(), shape, entries)?;
-    for _ in 0..times {
-        run_once(rt, &start, logs.as_slice())?;
-    }
+    let done = match logs_of(rt.alloc(), shape, entries) {
+        Ok(logs) => {
+            let done = run_times(rt, &start, logs.as_slice(), times);
+            drop(logs);
+            done
+        }
+        Err(error) => Err(error.into()),
+    };
+    drop(start);
+    done?;
     println!(rt; "entries {entries}, times {times}")
+}
+
+fn run_times(rt: &HostRuntime, start: &ObjectSet, logs: &[Log], times: u32) -> io::Result<()> {
+    for _ in 0..times {
+        run_once(rt, start, logs)?;
+    }
+    Ok(())
 }
 
 /// Builds the versions of some logs and answers all entries, and tells how long that took.
@@ -25,9 +38,12 @@ fn run_once(rt: &HostRuntime, start: &ObjectSet, logs: &[Log]) -> io::Result<()>
     }
     let began = Instant::now(rt)?;
     let store = VersionedStore::build(rt.alloc(), start, logs)?;
-    let built = began.elapsed(rt)?.as_nanos();
-    answer_all(&store)?;
-    let all = began.elapsed(rt)?.as_nanos();
+    let built = began.elapsed(rt);
+    let answered = answer_all(&store);
+    let all = began.elapsed(rt);
+    drop(store);
+    answered?;
+    let (built, all) = (built?.as_nanos(), all?.as_nanos());
     eprintln!(rt; "nanoseconds {built} built, {all} in all")
 }
 

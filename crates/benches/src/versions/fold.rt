@@ -48,12 +48,19 @@ fn run(alloc: Global, objects: &mut ObjectSet, object: &str, entries: &str) -> i
 /// The objects that a row starts with.
 pub fn start_of(alloc: Global, row: Row<'_>) -> io::Result<ObjectSet> {
     let mut objects = empty_objects(alloc)?;
-    run(alloc, &mut objects, row.object, row.start)?;
-    Ok(objects)
+    match run(alloc, &mut objects, row.object, row.start) {
+        Ok(_) => Ok(objects),
+        Err(error) => {
+            drop(objects);
+            Err(error)
+        }
+    }
 }
 
 /// The answers of a row's entries.
 pub fn folded(alloc: Global, row: Row<'_>) -> io::Result<String> {
     let mut objects = start_of(alloc, row)?;
-    run(alloc, &mut objects, row.object, row.entries)
+    let answers = run(alloc, &mut objects, row.object, row.entries);
+    drop(objects);
+    answers
 }

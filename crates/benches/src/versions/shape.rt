@@ -63,11 +63,22 @@ fn key_of(alloc: Global, shape: Shape, number: u32) -> Result<String, AllocError
 /// The objects that the logs start with.
 pub fn start_of(alloc: Global, shape: Shape) -> io::Result<ObjectSet> {
     let mut objects = empty_objects(alloc)?;
+    match add_rows(alloc, shape, &mut objects) {
+        Ok(()) => Ok(objects),
+        Err(error) => {
+            drop(objects);
+            Err(error)
+        }
+    }
+}
+
+/// Adds the rows of a shape to the table.
+fn add_rows(alloc: Global, shape: Shape, objects: &mut ObjectSet) -> io::Result<()> {
     for number in 0..shape.rows() {
         let key = key_of(alloc, shape, number)?;
-        add_row(alloc, &mut objects, key.as_str(), i64::from(number))?;
+        add_row(alloc, objects, key.as_str(), i64::from(number))?;
     }
-    Ok(objects)
+    Ok(())
 }
 
 /// Adds a row to the table, where it may.

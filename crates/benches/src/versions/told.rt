@@ -80,12 +80,22 @@ fn told_by(alloc: Global, start: &ObjectSet, logs: &[Log]) -> io::Result<String>
         return Err(ErrorKind::InvalidData.into());
     }
     let store = VersionedStore::build(alloc, start, logs)?;
-    Ok(answers_of(alloc, &store)?)
+    let told = answers_of(alloc, &store);
+    drop(store);
+    Ok(told?)
 }
 
 /// What the versions of a row's object tell of its entries.
 pub fn versioned(alloc: Global, row: Row<'_>) -> io::Result<String> {
     let start = start_of(alloc, row)?;
-    let log = log_of(alloc, row)?;
-    told_by(alloc, &start, slice::from_ref(&log))
+    let told = match log_of(alloc, row) {
+        Ok(log) => {
+            let told = told_by(alloc, &start, slice::from_ref(&log));
+            drop(log);
+            told
+        }
+        Err(error) => Err(error),
+    };
+    drop(start);
+    told
 }

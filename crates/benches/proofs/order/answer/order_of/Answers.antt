@@ -7,12 +7,13 @@ use Rattle.benches.proofs.order.answer.order_of.Goals as goal
 abbrev program : Program
 program = program_of []
 
-pub order_events-requires-clause-map : goal.order_events-requires-clause-map
-order_events-requires-clause-map c = (c.in_ok-map.ensures program c.in_ok-start.ensures.declared).1
+pub order_events-ordered-requires-clause-map : goal.order_events-ordered-requires-clause-map
+order_events-ordered-requires-clause-map c = (c.in-Ok.ensures program c.in_ok-start.ensures.declared).1
 
-pub order_events-requires-clause-faultless : goal.order_events-requires-clause-faultless
-order_events-requires-clause-faultless c = record {
+pub order_events-ordered-requires-clause-faultless :
+    goal.order_events-ordered-requires-clause-faultless
+order_events-ordered-requires-clause-faultless c = record {
   program = program;
   start = objects_of c.in_ok-start.start;
-  none = (c.in_ok-map.ensures program c.in_ok-start.ensures.declared).0;
+  none = (c.in-Ok.ensures program c.in_ok-start.ensures.declared).0;
 }

@@ -1,6 +1,5 @@
-//! `report` and `report_format`: the examples of docs/formats.md, and files that can't be read.
+//! `report_format`: the examples of docs/formats.md.
 
-use basis::OrMemory;
 use period::report::{Log, LogEntry, Report};
 use report_format::appending::{SpelledEntries, add_count, add_group, add_log, begin};
 use report_format::decoding::decode;
@@ -135,19 +134,4 @@ fn is_file(found: Result<Vec<u8>, AllocError>, file: &[u8]) -> bool {
 #[test]
 fn files_that_grow(rt: HostRuntime) {
     assert!(rt; grows_again(rt.alloc(), FILE) && is_file(log_file(rt.alloc()), LOG));
-}
-
-/// Whether the file can't be read at this place.
-fn fails(alloc: Global, file: &[u8], at: usize) -> bool {
-    match decode(alloc, file) {
-        Err(OrMemory::Other(fault)) => fault.at == at,
-        Ok(_) | Err(OrMemory::Memory) => false,
-    }
-}
-
-#[test]
-fn unreadable_files(rt: HostRuntime) {
-    for (file, at) in [(&FILE[..33], 21), (&FILE[..12], 8), (&FILE[..7], 0)] {
-        assert!(rt; fails(rt.alloc(), file, at), "{at}");
-    }
 }

@@ -1,4 +1,4 @@
-//! `schedule_format`: the examples of docs/formats.md, and files that can't be read.
+//! `schedule_format`: the examples of docs/formats.md.
 
 use basis::OrMemory;
 use period::schedule::Moment;
@@ -32,27 +32,4 @@ fn files_of_the_examples(rt: HostRuntime) {
         Moment::Act(7, Choice::Nothing),
     ];
     assert!(rt; has(rt.alloc(), CHOICES, &moments) == Ok(true));
-}
-
-/// Whether the file can't be read at this place.
-fn fails(alloc: Global, file: &[u8], at: usize) -> bool {
-    match decode(alloc, file) {
-        Err(OrMemory::Other(fault)) => fault.at == at,
-        Ok(_) | Err(OrMemory::Memory) => false,
-    }
-}
-
-#[test]
-fn unreadable_files(rt: HostRuntime) {
-    let files: [(&[u8], usize); 6] = [
-        (&FILE[..7], 0),
-        (&FILE[..9], 8),
-        (&FILE[..25], 17),
-        (b"SSCOSCH1\x00\x00\x00\x06\x01\x00\x00\x00\x00\x00", 8),
-        (b"SSCOSCH1\x00\x00\x00\x05\x04\x00\x00\x00\x00", 8),
-        (b"SSCOSCH2\x00\x00\x00\x05\x01\x00\x00\x00\x00", 0),
-    ];
-    for (file, at) in files {
-        assert!(rt; fails(rt.alloc(), file, at), "{} bytes, {at}", file.len());
-    }
 }

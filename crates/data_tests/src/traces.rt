@@ -1,11 +1,9 @@
-//! `trace_format`: the example of docs/formats.md, files that can't be read, and balance.
+//! `trace_format`: the examples of docs/formats.md.
 
-use basis::OrMemory;
 use period::trace::TraceEvent;
 use script_tree::request::Request;
 use std::alloc::{AllocError, Global};
 use trace_format::appending::{add_request, add_response, begin};
-use trace_format::balance::first_unbalanced;
 use trace_format::decoding::decode;
 use trace_format::encoding::encode;
 use trace_format::packed::PackedRequest;
@@ -166,66 +164,5 @@ fn an_event_of_a_file(rt: HostRuntime) {
     match FILE.to_vec(rt.alloc()) {
         Ok(file) => assert!(rt; reads_one(rt.alloc(), file)),
         Err(_) => assert!(rt; false, "memory"),
-    }
-}
-
-/// Whether the file can't be read at this place.
-fn fails(alloc: Global, file: &[u8], at: usize) -> bool {
-    match decode(alloc, file) {
-        Err(OrMemory::Other(fault)) => fault.at == at,
-        Ok(_) | Err(OrMemory::Memory) => false,
-    }
-}
-
-#[test]
-fn unreadable_files(rt: HostRuntime) {
-    for (len, at) in [(7, 0), (9, 8), (37, 8), (53, 38)] {
-        assert!(rt; fails(rt.alloc(), &FILE[..len], at), "{len} bytes, {at}");
-    }
-}
-
-/// The record of an empty request (1) or of an empty response (2) of this id.
-fn add_empty(file: &mut Vec<u8>, tag: u8, rid: u8) -> Result<(), AllocError> {
-    file.extend_from_slice(&[0, 0, 0, if tag == 1 { 21 } else { 11 }, tag, 0, 0, 0, rid])?;
-    if tag == 1 {
-        file.extend_from_slice(&[0; 16])
-    } else {
-        file.extend_from_slice(&[0, 200, 0, 0, 0, 0])
-    }
-}
-
-/// A file of these events: each an empty request (1) or an empty response (2), and its id.
-fn file_of(alloc: Global, events: &[(u8, u8)]) -> Result<Vec<u8>, AllocError> {
-    let mut file = b"SSCOTRC1".to_vec(alloc)?;
-    for (tag, rid) in events {
-        add_empty(&mut file, *tag, *rid)?;
-    }
-    Ok(file)
-}
-
-/// The first request at which the trace of these events isn't balanced.
-fn unbalanced(alloc: Global, events: &[(u8, u8)]) -> Result<Option<u32>, AllocError> {
-    match TraceFile::read(alloc, file_of(alloc, events)?) {
-        Ok(file) => first_unbalanced(alloc, &file),
-        Err(_) => Err(AllocError),
-    }
-}
-
-#[test]
-fn faults_of_balance(rt: HostRuntime) {
-    let traces: [(&[(u8, u8)], Option<u32>); 9] = [
-        (&[], None),
-        (&[(1, 0), (1, 1), (2, 1), (2, 0)], None),
-        (&[(1, 0), (2, 0), (2, 0)], Some(0)),
-        (&[(1, 4), (2, 3)], Some(3)),
-        (&[(1, 0), (2, 0), (1, 0), (2, 0)], Some(0)),
-        (&[(1, 5), (1, 5), (2, 5)], Some(5)),
-        (&[(1, 2), (1, 1), (2, 1)], Some(2)),
-        (&[(1, 7), (1, 8)], Some(7)),
-        (&[(1, 1), (1, 2), (2, 2), (2, 2)], Some(2)),
-    ];
-    for (events, rid) in traces {
-        let found = unbalanced(rt.alloc(), events);
-        assert!(rt; found == Ok(rid), "{found:?} and {rid:?}");
     }
 }

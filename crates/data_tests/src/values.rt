@@ -1,9 +1,6 @@
-//! `script_tree`: the order of values, their sizes and limits, the limits of requests, what shared
-//! parts give back, and the numbers of faults.
+//! `script_tree`: the order of values, their sizes, and what shared parts give back.
 
 use basis::OrMemory;
-use script_tree::fault::ScriptFault;
-use script_tree::request::{Parameter, Parameters, Request};
 use script_tree::text::Text;
 use script_tree::value::{Value, Values};
 use std::alloc::{AllocError, Global};
@@ -73,89 +70,6 @@ fn values_stand_in_their_order(rt: HostRuntime) {
 #[test]
 fn a_value_inside_others(rt: HostRuntime) {
     assert!(rt; measures(rt.alloc(), NESTED, 8, 2));
-}
-
-fn list_of(alloc: Global, member: Value) -> Result<Value, AllocError> {
-    let mut members = Vec::new(alloc);
-    members.push(member)?;
-    Ok(Value::list(Values::from_vec(members)?))
-}
-
-/// A text of so many bytes inside so many lists.
-fn listed(alloc: Global, len: usize, lists: usize) -> Result<Value, AllocError> {
-    let mut value = Value::text(alloc, Text::from_vec(vec![in alloc; b'a'; len]?))?;
-    for _ in 0..lists {
-        value = list_of(alloc, value)?;
-    }
-    Ok(value)
-}
-
-fn fits(alloc: Global, len: usize, lists: usize) -> Result<bool, AllocError> {
-    Ok(listed(alloc, len, lists)?.is_within_limits())
-}
-
-#[test]
-fn limits_of_values(rt: HostRuntime) {
-    for (len, lists, wanted) in [
-        (65_535, 0, true),
-        (65_536, 0, false),
-        (0, 16, true),
-        (0, 17, false),
-    ] {
-        assert!(rt;
-            fits(rt.alloc(), len, lists) == Ok(wanted),
-            "{len} bytes, {lists} lists"
-        );
-    }
-}
-
-fn empty(alloc: Global) -> Text {
-    Text::from_vec(Vec::new(alloc))
-}
-
-/// So many parameters without letters.
-fn parameters(alloc: Global, count: usize) -> Result<Parameters, AllocError> {
-    let mut parameters = Parameters::new(alloc);
-    for _ in 0..count {
-        parameters.push(Parameter {
-            name: empty(alloc),
-            value: empty(alloc),
-        })?;
-    }
-    Ok(parameters)
-}
-
-/// Whether there is a request with a body of so many bytes and so many parameters.
-fn is_request(alloc: Global, len: usize, count: usize) -> Result<bool, AllocError> {
-    let body = Text::from_vec(vec![in alloc; b'a'; len]?);
-    let parameters = parameters(alloc, count)?;
-    Ok(Request::new(empty(alloc), empty(alloc), parameters, body).is_some())
-}
-
-#[test]
-fn limits_of_requests(rt: HostRuntime) {
-    for (len, count, wanted) in [(65_535, 1_024, true), (65_536, 0, false), (0, 1_025, false)] {
-        let found = is_request(rt.alloc(), len, count);
-        assert!(rt; found == Ok(wanted), "{len} bytes, {count} parameters");
-    }
-}
-
-#[test]
-fn numbers_of_faults(rt: HostRuntime) {
-    let faults = [
-        (ScriptFault::WrongKind, 1),
-        (ScriptFault::Overflow, 2),
-        (ScriptFault::ZeroDivisor, 3),
-        (ScriptFault::OutOfRange, 4),
-        (ScriptFault::TooLarge, 5),
-        (ScriptFault::OutOfSteps, 6),
-        (ScriptFault::TooManyOperations, 7),
-        (ScriptFault::TooDeep, 8),
-        (ScriptFault::BadBound, 9),
-    ];
-    for (fault, number) in faults {
-        assert!(rt; fault.number() == number, "{number}");
-    }
 }
 
 /// Whether a text that has two owners gives its bytes back.

@@ -1,7 +1,7 @@
-//! `script_check`: what a small program declares, and a fault of one.
+//! `script_check`: what the index of a small program finds.
 
 use basis::OrMemory;
-use script_check::fault::{CheckFault, CheckFaultKind};
+use script_check::fault::CheckFault;
 use script_check::lookup::Index;
 use script_check::program::{Program, check};
 use script_syntax::parse::parse;
@@ -13,26 +13,6 @@ pub(crate) fn program(alloc: Global, text: &[u8]) -> Result<Program, OrMemory<Ch
         Ok(tree) => check(alloc, tree),
         Err(_) => Err(OrMemory::Memory),
     }
-}
-
-fn has_a_page(program: Program) -> bool {
-    let counts = program.counts();
-    (counts.pages, counts.functions, counts.stores, counts.tables) == (1, 0, 0, 0)
-        && program.declarations().len() == 1
-        && program.into_tree().declarations.len() == 1
-}
-
-#[test]
-fn declarations(rt: HostRuntime) {
-    assert!(rt; program(rt.alloc(), b"page \"/a\" { echo 1; }").is_ok_and(has_a_page));
-}
-
-#[test]
-fn an_undeclared_variable(rt: HostRuntime) {
-    let kind = CheckFaultKind::Undeclared;
-    let found = program(rt.alloc(), b"page \"/a\" { echo x; }").err();
-    assert!(rt; found == Some(OrMemory::Other(CheckFault { at: 17, kind })));
-    assert!(rt; kind.number() == 1);
 }
 
 /// Whether the index finds a page, a function and a table.

@@ -1,10 +1,7 @@
-//! `script_tokens`, `script_syntax` and `script_print`: what is read of a text, by what it prints
-//! as, and its first fault.
+//! `script_tokens`, `script_syntax` and `script_print`: what is read of a text, by what it prints as.
 
-use basis::OrMemory;
 use script_print::declaration::print;
 use script_syntax::parse::parse;
-use script_tokens::fault::SyntaxFaultKind;
 use script_tokens::print::print_text;
 use std::alloc::{AllocError, Global};
 
@@ -48,22 +45,4 @@ fn programs_print(rt: HostRuntime) {
 fn a_text_prints(rt: HostRuntime) {
     let found = print_text(rt.alloc(), b"\"\\\n\t\x00\x7f\xffa");
     assert!(rt; is_printed(found, b"\"\\\"\\\\\\n\\t\\x00\\x7f\\xffa\""));
-}
-
-/// The first fault of a text: its place and its kind.
-fn fault(alloc: Global, text: &[u8]) -> Option<(usize, SyntaxFaultKind)> {
-    match parse(alloc, text) {
-        Err(OrMemory::Other(fault)) => Some((fault.at, fault.kind)),
-        Ok(_) | Err(OrMemory::Memory) => None,
-    }
-}
-
-#[test]
-fn first_faults(rt: HostRuntime) {
-    let grammar = fault(rt.alloc(), b"page \"/a\" {");
-    assert!(rt; grammar == Some((11, SyntaxFaultKind::Grammar)));
-    let no_token = fault(rt.alloc(), b"page \"/a\" { echo $; }");
-    assert!(rt; no_token == Some((17, SyntaxFaultKind::NoToken)));
-    let limit = fault(rt.alloc(), b"page \"/a\" { echo 9223372036854775808; }");
-    assert!(rt; limit == Some((17, SyntaxFaultKind::Limit)));
 }

@@ -11,8 +11,4 @@ mod objects;
 #[cfg(test)]
 mod programs;
 #[cfg(test)]
-mod recordings;
-#[cfg(test)]
-mod replays;
-#[cfg(test)]
 mod tables;

@@ -1,7 +1,8 @@
-//! Runs the rows of the files that lie beside it, programs that are checked, replays, recordings and
-//! audits, each over memory, and tells those that end in another way than the row says.
+//! Runs the rows of the files that lie beside it, lines of words, programs that are checked, replays,
+//! recordings and audits, each over memory, and tells those that end in another way than the row says.
 #![tactic(auto)]
 
+mod clock;
 mod failing;
 mod row;
 mod runs;
@@ -18,6 +19,8 @@ use std::sync::Wait;
 use std::thread::Threads;
 
 /// The files of rows.
+const WORDS: &str = "words.txt";
+
 const CHECKS: &str = "checks.txt";
 
 const REPLAYS: &str = "replays.txt";
@@ -27,6 +30,7 @@ const RECORDS: &str = "records.txt";
 const AUDITS: &str = "audits.txt";
 
 fn main(rt: HostRuntime) -> io::Result<()> {
+    run_rows(&rt, &rt, WORDS, Kind::Words)?;
     run_checks(&rt, &rt, &fs::read_to_string(&rt, CHECKS)?)?;
     run_rows(&rt, &rt, REPLAYS, Kind::Replay)?;
     run_rows(&rt, &rt, RECORDS, Kind::Record)?;

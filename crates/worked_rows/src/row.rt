@@ -9,9 +9,10 @@ pub struct Row<'a> {
 }
 
 /// What a line may begin with. After `#` it says nothing.
-const KEYS: [&str; 20] = [
-    "#", "", "row", "program", "state", "schedule", "requests", "turns", "files", "workers",
-    "times", "seed", "clock", "ends", "request", "response", "trace", "report", "shelf", "out",
+const KEYS: [&str; 24] = [
+    "#", "", "row", "words", "file", "bytes", "program", "state", "schedule", "requests", "turns",
+    "files", "workers", "times", "seed", "clock", "step", "ends", "request", "response", "trace",
+    "report", "shelf", "out",
 ];
 
 /// The first word of a line, and the rest of it.

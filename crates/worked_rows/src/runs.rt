@@ -1,9 +1,10 @@
 //! The run of a row.
-use crate::row::{Row, number_of, text_of};
+use crate::clock::SteppingClock;
+use crate::row::{Row, number_of, parted, text_of};
 use crate::spelled::{bytes_of, schedule_of, trace_of};
 use command_words::Words;
 use commands::run::run;
-use outside::{FixedClock, MemHouse, MemShelf, MemSink, OpenGate};
+use outside::{MemHouse, MemShelf, MemSink, OpenGate};
 use std::alloc::{AllocError, Global};
 use std::fs;
 use std::io::{self, ErrorKind};
@@ -42,10 +43,17 @@ const INPUTS: [(&str, &str); 4] = [
     (TURNS, "turns.json"),
 ];
 
-/// The words of a replay and of an audit.
-const REPLAYING: [&str; 5] = ["replay", PROGRAM, STATE, TRACE, SCHEDULE];
+/// The words of each command over these files.
+const CHECKING: &str = "check program";
 
-const AUDITING: [&str; 6] = ["audit", PROGRAM, STATE, TRACE, REPORT, SCHEDULE];
+const REPLAYING: &str = "replay program state trace schedule";
+
+const RECORDING: &str = "record program state requests trace report";
+
+const AUDITING: &str = "audit program state trace report schedule";
+
+/// The words of a row's run, where it says them.
+const WORDS: &str = "words";
 
 /// The state where a row says none.
 const NOTHING_STORED: &str = "{}";
@@ -53,6 +61,7 @@ const NOTHING_STORED: &str = "{}";
 /// What the rows of a file tell.
 #[derive(Clone, Copy)]
 pub enum Kind {
+    Words,
     Replay,
     Record,
     Audit,
@@ -61,53 +70,75 @@ pub enum Kind {
 /// The files that a run writes, in their order.
 pub fn outputs_of(kind: Kind) -> &'static [&'static str] {
     match kind {
-        Kind::Replay => &[],
+        Kind::Words | Kind::Replay => &[],
         Kind::Record => &[TRACE, REPORT],
         Kind::Audit => &[SCHEDULE],
     }
 }
 
-/// A run of the program: its words, and what its clock shows.
+/// A run of the program: its words, what its clock shows at first, and how much more each time.
 #[derive(Drop)]
 pub struct Run {
     words: Words,
     clock: u64,
+    step: u64,
+}
+
+/// The words of a line, parted by one blank each: two blanks stand round an empty word.
+fn words_of(alloc: Global, line: &str) -> Result<Words, AllocError> {
+    let mut words = Words::new(alloc);
+    if !line.is_empty() {
+        for word in line.split(' ') {
+            words.push(word)?;
+        }
+    }
+    Ok(words)
+}
+
+/// The line of a recording.
+fn recording_line(alloc: Global, row: Row<'_>) -> Result<String, AllocError> {
+    let seed = row.field("seed").unwrap_or("0");
+    if let Some(workers) = row.field(WORKERS) {
+        return format!(in alloc; "{RECORDING} --seed {seed} --workers {workers}");
+    }
+    if row.field(TURNS).is_some() || row.field(FILES).is_some() {
+        return format!(in alloc; "{RECORDING} --seed {seed} --turns {TURNS}");
+    }
+    format!(in alloc; "{RECORDING} --seed {seed}")
+}
+
+/// What a line of a row's clock says, or 0.
+fn reading_of(row: Row<'_>, key: &str) -> io::Result<u64> {
+    let said = row.field(key).unwrap_or("0");
+    said.parse().ok().ok_or(ErrorKind::InvalidData.into())
 }
 
 impl Run {
-    fn new(alloc: Global, texts: &[&str], clock: u64) -> Result<Run, AllocError> {
-        let mut words = Words::new(alloc);
-        for text in texts {
-            words.push(text)?;
-        }
-        Ok(Run { words, clock })
+    /// The run of these words, on a clock that shows 0.
+    fn new(alloc: Global, line: &str) -> Result<Run, AllocError> {
+        Ok(Run {
+            words: words_of(alloc, line)?,
+            clock: 0,
+            step: 0,
+        })
     }
 
     /// The run of a row.
     pub fn of_row(alloc: Global, kind: Kind, row: Row<'_>) -> io::Result<Run> {
         match kind {
-            Kind::Replay => Ok(Run::new(alloc, &REPLAYING, 0)?),
-            Kind::Audit => Ok(Run::new(alloc, &AUDITING, 0)?),
+            Kind::Words => Ok(Run::new(alloc, row.said(WORDS))?),
+            Kind::Replay => Ok(Run::new(alloc, REPLAYING)?),
+            Kind::Audit => Ok(Run::new(alloc, AUDITING)?),
             Kind::Record => Run::recording(alloc, row),
         }
     }
 
     fn recording(alloc: Global, row: Row<'_>) -> io::Result<Run> {
-        let seed = row.field("seed").unwrap_or("0");
-        let clock = row.field("clock").unwrap_or("0").parse();
-        let clock = clock.ok().ok_or(ErrorKind::InvalidData)?;
-        let (option, value) = match row.field(WORKERS) {
-            Some(workers) => ("--workers", workers),
-            None => ("--turns", TURNS),
-        };
-        let words = [
-            "record", PROGRAM, STATE, REQUESTS, TRACE, REPORT, "--seed", seed, option, value,
-        ];
-        let has_option = [WORKERS, TURNS, FILES]
-            .iter()
-            .any(|key| row.field(key).is_some());
-        let used = if has_option { 10 } else { 8 };
-        Ok(Run::new(alloc, &words[..used], clock)?)
+        let clock = reading_of(row, "clock")?;
+        let step = reading_of(row, "step")?;
+        let line = recording_line(alloc, row)?;
+        let words = words_of(alloc, line.as_str())?;
+        Ok(Run { words, clock, step })
     }
 
     /// The status with which it ends over these files.
@@ -119,7 +150,7 @@ impl Run {
         out: &mut MemSink,
     ) -> u8 {
         let mut house = MemHouse::new(alloc, Vec::new(alloc), Vec::new(alloc));
-        let clock = FixedClock(self.clock);
+        let clock = SteppingClock::new(self.clock, self.step);
         run(
             threads,
             alloc,
@@ -145,9 +176,13 @@ impl Run {
     }
 }
 
+/// A status, and behind it what is printed, which is to be one line.
 fn line_of(alloc: Global, status: u8, written: &[u8]) -> Result<String, AllocError> {
-    let line = String::from_utf8_lossy(alloc, written)?;
-    format!(in alloc; "{status} {}", line.as_str().trim_end())
+    let printed = String::from_utf8_lossy(alloc, written)?;
+    match printed.as_str().strip_suffix('\n') {
+        Some(line) => format!(in alloc; "{status} {line}"),
+        None => format!(in alloc; "{status} {}, with no end of its line", printed.as_str()),
+    }
 }
 
 /// Puts the text that is spelled so under the name.
@@ -166,6 +201,31 @@ fn put_file(
 ) -> io::Result<()> {
     let path = format!(in rt.alloc(); "{folder}/{file}")?;
     Ok(shelf.put(name, &fs::read(rt, path.as_str())?)?)
+}
+
+/// Puts the files of a row, which tells a text as it is spelled, and bytes in hexadecimal digits.
+fn put_files(alloc: Global, shelf: &mut MemShelf, row: Row<'_>) -> io::Result<()> {
+    for line in row.text().lines() {
+        match parted(line) {
+            ("file", said) => put_text(alloc, shelf, said)?,
+            ("bytes", said) => put_bytes(alloc, shelf, said)?,
+            _ => (),
+        }
+    }
+    Ok(())
+}
+
+/// Puts the text that a line tells behind the name.
+fn put_text(alloc: Global, shelf: &mut MemShelf, said: &str) -> io::Result<()> {
+    let (name, spelled) = parted(said);
+    put(alloc, shelf, name, spelled)
+}
+
+/// Puts the bytes that a line tells behind the name.
+fn put_bytes(alloc: Global, shelf: &mut MemShelf, said: &str) -> io::Result<()> {
+    let (name, spelled) = parted(said);
+    let digits = text_of(alloc, spelled)?;
+    Ok(shelf.put(name, &bytes_of(alloc, digits.as_str())?)?)
 }
 
 /// Puts the program and the state of a row.
@@ -217,6 +277,7 @@ pub fn shelf_of(
 ) -> io::Result<MemShelf> {
     let mut shelf = MemShelf::new(rt.alloc(), failing);
     match kind {
+        Kind::Words => put_files(rt.alloc(), &mut shelf, row)?,
         Kind::Replay => put_moments(rt.alloc(), &mut shelf, row)?,
         Kind::Record => put_inputs(rt, &mut shelf, row)?,
         Kind::Audit => put_evidence(rt.alloc(), &mut shelf, row)?,
@@ -232,7 +293,7 @@ pub fn checked<R: Threads + Wait + Sync>(
 ) -> io::Result<String> {
     let mut shelf = MemShelf::new(alloc, Vec::new(alloc));
     let ended = match put(alloc, &mut shelf, PROGRAM, program) {
-        Ok(()) => ended_by(threads, alloc, &["check", PROGRAM], &mut shelf),
+        Ok(()) => ended_by(threads, alloc, CHECKING, &mut shelf),
         Err(error) => Err(error),
     };
     drop(shelf);
@@ -243,10 +304,10 @@ pub fn checked<R: Threads + Wait + Sync>(
 fn ended_by<R: Threads + Wait + Sync>(
     threads: &R,
     alloc: Global,
-    words: &[&str],
+    line: &str,
     shelf: &mut MemShelf,
 ) -> io::Result<String> {
-    let run = Run::new(alloc, words, 0)?;
+    let run = Run::new(alloc, line)?;
     let ended = run.ended(threads, alloc, shelf);
     drop(run);
     Ok(ended?)
@@ -273,13 +334,33 @@ fn ended_over<R: Threads + Wait + Sync>(
     shelf: &mut MemShelf,
 ) -> io::Result<String> {
     match kind {
-        Kind::Replay => ended_by(threads, alloc, &REPLAYING, shelf),
+        Kind::Words => lines_ended(threads, alloc, shelf, row),
+        Kind::Replay => ended_by(threads, alloc, REPLAYING, shelf),
         Kind::Record => match row.field(TIMES) {
             Some(times) => recorded_often(threads, alloc, shelf, row, number_of(times)?),
             None => recorded(threads, alloc, shelf, row),
         },
         Kind::Audit => audited(threads, alloc, shelf, row),
     }
+}
+
+/// What the row says, where each of its lines of words ends so; else the first that ends otherwise.
+fn lines_ended<R: Threads + Wait + Sync>(
+    threads: &R,
+    alloc: Global,
+    shelf: &mut MemShelf,
+    row: Row<'_>,
+) -> io::Result<String> {
+    let wanted = row.said("ends");
+    for line in row.text().lines() {
+        if let (WORDS, words) = parted(line) {
+            let ended = ended_by(threads, alloc, words, shelf)?;
+            if ended.as_str() != wanted {
+                return Ok(format!(in alloc; "{ended} by {words}")?);
+            }
+        }
+    }
+    Ok(format!(in alloc; "{wanted}")?)
 }
 
 /// How a recording over a row's inputs ends. The files of one that ends well are audited.
@@ -327,14 +408,14 @@ fn audited<R: Threads + Wait + Sync>(
     shelf: &mut MemShelf,
     row: Row<'_>,
 ) -> io::Result<String> {
-    let audit = ended_by(threads, alloc, &AUDITING, shelf)?;
+    let audit = ended_by(threads, alloc, AUDITING, shelf)?;
     if has_other_schedule(alloc, shelf, row, audit.as_str())? {
         return Ok(format!(in alloc; "{audit}, with another schedule")?);
     }
     if !audit.as_str().starts_with("0 ") {
         return Ok(audit);
     }
-    let replay = ended_by(threads, alloc, &REPLAYING, shelf)?;
+    let replay = ended_by(threads, alloc, REPLAYING, shelf)?;
     followed(alloc, audit, "0 agrees", replay.as_str())
 }
 

@@ -1,5 +1,5 @@
 //! What the versions of a row's object tell.
-use crate::versions::fold::start_of;
+use crate::versions::start::start_of;
 use crate::versions::words::{Row, log_of};
 use object_set::ObjectSet;
 use period::report::Log;
@@ -43,7 +43,7 @@ fn tell_rows(alloc: Global, told: &mut String, answer: &Value) -> Result<(), All
 }
 
 /// Writes an answer: those of the statements in brackets, or a number or null.
-pub fn tell(alloc: Global, told: &mut String, answer: &Value) -> Result<(), AllocError> {
+fn tell(alloc: Global, told: &mut String, answer: &Value) -> Result<(), AllocError> {
     let Node::List(answers) = &answer.node else {
         return tell_number(alloc, told, answer);
     };

@@ -53,7 +53,7 @@ fn keeps_the_last<S: Shelf>(alloc: Global, shelf: &mut S, name: &str) -> Result<
 #[test]
 fn a_file(rt: HostRuntime) -> Result<(), Fail> {
     let id = process::id(rt.process());
-    let name = format!(in rt.alloc(); "/tmp/command_tests_{id}")?;
+    let name = format!(in rt.alloc(); "/tmp/outside_tests_{id}")?;
     let is_kept = keeps_the_last(rt.alloc(), &mut FileShelf::new(rt.clone()?), name.as_str())?;
     fs::remove_file(&rt, name.as_str())?;
     assert!(rt; is_kept);

@@ -1,6 +1,5 @@
 //! Inputs at their limit, and one byte past it. Of the others the contracts say the same.
 
-use crate::runs::shelf_of;
 use command_inputs::{
     InputError, InputFault, Role, read_report, read_schedule, read_trace, read_turns,
 };
@@ -33,7 +32,10 @@ fn all_have(alloc: Global) -> Result<bool, AllocError> {
         ("report", b"SSCORPT1"),
         ("schedule", b"SSCOSCH1"),
     ];
-    let mut shelf = shelf_of(alloc, &files, Vec::new(alloc))?;
+    let mut shelf = MemShelf::new(alloc, Vec::new(alloc));
+    for (name, bytes) in files {
+        shelf.put(name, bytes)?;
+    }
     Ok(
         [
             (Role::Turns, 3),

@@ -69,7 +69,7 @@ fn is_replaced_or_kept(rt: &HostRuntime, folder: &str) -> Result<bool, Fail> {
 #[test]
 fn outputs(rt: HostRuntime) -> Result<(), Fail> {
     let id = process::id(rt.process());
-    let folder = format!(in rt.alloc(); "/tmp/command_tests_outputs_{id}")?;
+    let folder = format!(in rt.alloc(); "/tmp/outside_tests_outputs_{id}")?;
     fs::create_dir(&rt, folder.as_str())?;
     let is_well = is_replaced_or_kept(&rt, folder.as_str())?;
     fs::remove_dir_all(&rt, folder.as_str())?;

@@ -4,7 +4,7 @@ use Rattle.std.proofs.Common.{refl, sym, ap, ◌∙◌, subst, arith}
 use Rattle.std.specs.List.{flat_map}
 use Rattle.std.proofs.lemmas.List.{append_assoc, append-nil, set_comm, set-set}
 use Rattle.std.proofs.lemmas.List.Concat.{flat_map-append}
-use Rattle.std.proofs.lemmas.List.Elements.{All-head, All-tail}
+use Rattle.std.proofs.lemmas.List.Elements.{All-nil, All-cons, All-head, All-tail}
 use Rattle.std.proofs.lemmas.List.Sorted.{IsPermutation-append_right, IsPermutation-append_comm, IsPermutation-sym, IsPermutation-trans}
 use Rattle.std.proofs.lemmas.List.Sums.{sum_by-set, sum_by-cons, get_or-le-sum_by}
 use mathlib.Core.Option.{some, some-injective, some-ne-none}
@@ -35,6 +35,14 @@ module _ {X : Type 0} where
       let here = below x in let others = sum_by-below f g below xs in
       omega (arith, sum_by-cons f x xs, sum_by-cons g x xs)
 
+first_part : {A : Type 0} (P : A → Type 0) (xs ys : List A) → All P (xs ++ ys) → All P xs
+first_part P [] ys all = All-nil P
+first_part P (x ∷ xs) ys all = All-cons P x xs (All-head P x (xs ++ ys) all) (first_part P xs ys (All-tail P x (xs ++ ys) all))
+
+last_part : {A : Type 0} (P : A → Type 0) (xs ys : List A) → All P (xs ++ ys) → All P ys
+last_part P [] ys all = all
+last_part P (x ∷ xs) ys all = last_part P xs ys (All-tail P x (xs ++ ys) all)
+
 module _ {X A : Type 0} (f : X → List A) where
   -- a member that gives the same
   pub flat_map-same : (xs : List X) (i : ℕ) (x y : X) → get_elem? xs i ≡ some x → f y ≡ f x → flat_map f (set xs i y) ≡ flat_map f xs
@@ -57,6 +65,12 @@ module _ {X A : Type 0} (f : X → List A) where
       let rest = flat_map f zs in
       subst (IsPermutation (f z ++ flat_map f (set zs i y))) (sym (append_assoc (f z) rest more))
       (IsPermutation-append_right (f z) (flat_map f (set zs i y)) (rest ++ more) (flat_map-more more zs i x y at is))
+
+  -- what is true of all that is given is true of what one member gives
+  pub flat_map-at : (P : A → Type 0) (xs : List X) (i : ℕ) (x : X) → get_elem? xs i ≡ some x → All P (flat_map f xs) → All P (f x)
+  flat_map-at P [] i x at all = absurd (some-ne-none x (sym at))
+  flat_map-at P (z ∷ zs) zero x at all = subst (λ (u : X). All P (f u)) (some-injective z x at) (first_part P (f z) (flat_map f zs) all)
+  flat_map-at P (z ∷ zs) (suc i) x at all = flat_map-at P zs i x at (last_part P (f z) (flat_map f zs) all)
 
   -- one more member, which gives nothing
   pub flat_map-push : (xs : List X) (y : X) → f y ≡ [] → flat_map f (xs ++ y ∷ []) ≡ flat_map f xs

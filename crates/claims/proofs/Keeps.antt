@@ -3,7 +3,7 @@ use Rattle.std.proofs.Common.{◌≡◌, ◌≢◌, ℕ, ◌+◌, ◌%◌, ◌^�
 use Rattle.std.proofs.Common.{refl, sym, ap, ◌∙◌, subst, set, min, arith, nat_lt, slice_index, slice_set, ⊎_elim}
 use Rattle.std.specs.List.{flat_map}
 use Rattle.std.proofs.lemmas.Bool.Decides.{nat_tests}
-use Rattle.std.proofs.lemmas.List.Elements.{All-push}
+use Rattle.std.proofs.lemmas.List.Elements.{All-push, All-weaker}
 use Rattle.std.proofs.lemmas.List.Sorted.{IsPermutation-append_left, IsPermutation-cons, IsPermutation-trans}
 use Rattle.std.proofs.lemmas.List.Sums.{sum_by_push}
 use mathlib.Core.Option.{none, some}
@@ -11,13 +11,14 @@ use lib.ListN.{get_elem?}
 use Rattle.atomic_table.specs.Table.{State, Me, Act, Valid, step, keeps, stepped, carried_after, Allows, Splits, Joins}
 use Rattle.atomic_table.proofs.Lists.{at_set}
 use Rattle.claims.specs.declared.view.View.{View}
-use Rattle.claims.specs.Lists.{numbers_below, IsLeastOf}
+use Rattle.claims.specs.Lists.{numbers_below, IsGreaterThanAll, IsLeastOf}
 use Rattle.claims.specs.Rule.{drawing_parts, IsTrueOf, IsKept}
 use Rattle.claims.specs.Steps.{Draws, Lowers, Looks}
 use Rattle.claims.specs.Views.{all_parts, with_drawn, with_none_left, with_lowered, with_bound, rest_of, part_of, joint_view, spent_view}
-use Rattle.claims.proofs.Gathering.{sum_by-changed, within-sum_by, flat_map-more, flat_map-push, flat_map-moved}
+use Rattle.claims.proofs.Gathering.{sum_by-changed, within-sum_by, flat_map-at, flat_map-more, flat_map-push, flat_map-moved}
 use Rattle.claims.proofs.Known.{parts, drawn, lowered, drawing-within, seat-at, seats-set, once-same, lowest-same, seat-changed}
 use Rattle.claims.proofs.Leasts.{numbers_below-next, least-permuted, least-more}
+use Rattle.claims.proofs.Rising.{below_limit}
 
 module _ (limit slots id : ℕ) (seat : Me (Unit {0}) View) where
   -- the next number is below the limit
@@ -66,6 +67,12 @@ module _ (limit slots id : ℕ) (seat : Me (Unit {0}) View) where
       (lowest-same id v s r at w refl)
       record { none_left = λ _. omega arith; bound = known.bound; drew_none = known.drew_none; lowered_none = known.lowered_none }
 
+  -- the next number is greater than all that were drawn
+  greater : (s : State (Unit {0}) View) (r : IsKept limit s) → get_elem? s.views id ≡ some seat.0 → IsGreaterThanAll seat.0.drawn r.next
+  greater s r at =
+      All-weaker (λ n. n < min r.next limit) (λ n. n < r.next) (λ n less. omega (arith, less)) seat.0.drawn
+      (flat_map-at drawn (λ n. n < min r.next limit) s.views id seat.0 at (below_limit (min r.next limit) (flat_map drawn s.views) r.once))
+
   abbrev Drawn : State (Unit {0}) View → ℕ → Type 0
   Drawn s k =
       (w : View) × (a : Act (Unit {0})) × Valid s.homes seat.1 a × IsKept limit (stepped s 0 ((k + 1) % 2 ^ 64) id seat.1 w a)
@@ -77,7 +84,13 @@ module _ (limit slots id : ℕ) (seat : Me (Unit {0}) View) where
       subst (Drawn s) (sym (ap (λ (l : List ℕ). slice_index l 0) r.words)) (go (nat_lt r.next limit) refl)
     where
       go : (b : Bool) → nat_lt r.next limit ≡ b → Drawn s r.next
-      go true e = (with_drawn r.next seat.0, keeps, tt, number-drawn s r at live small (grind (arith, nat_tests)), rw (own, e) refl)
+      go true e = (
+        with_drawn r.next seat.0,
+        keeps,
+        tt,
+        number-drawn s r at live small (grind (arith, nat_tests)),
+        rw (own, e) (greater s r at, refl),
+      )
       go false e = (with_none_left seat.0, keeps, tt, none-left s r at may_draw live small (grind (arith, nat_tests)), rw (own, e) refl)
 
   pub lowers : (number : ℕ) → 0 < seat.0.parts → Allows (IsKept limit) slots id seat 1 (λ n. min n number) (Lowers (step slots 1 number 0 none) seat)

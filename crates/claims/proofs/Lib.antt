@@ -3,3 +3,4 @@ pub mod Gathering
 pub mod Keeps
 pub mod Known
 pub mod Leasts
+pub mod Rising

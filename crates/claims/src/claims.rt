@@ -1,5 +1,6 @@
-ghost use Rattle.std.specs.Prelude.{◌≡◌, ◌<◌, ◌≤◌, ◌^◌, ◌∷◌, IsTrue, IfOk, IfSome, IfNone, IsPermutation};
-ghost use Rattle.claims.specs.Lists.{numbers_below, IsLeastOf};
+ghost use Rattle.std.specs.Prelude.{◌≡◌, ◌<◌, ◌≤◌, ◌^◌, ◌∷◌, IsTrue, IsPermutation};
+ghost use Rattle.std.specs.Prelude.{IfOk, None, IfSome, IfNone};
+ghost use Rattle.claims.specs.Lists.{numbers_below, IsGreaterThanAll, IsLeastOf};
 ghost use Rattle.claims.specs.Seats.{IsSeatOf, first_seat, with_view, joint_seat};
 ghost use Rattle.claims.specs.Views.{all_parts, with_drawn, with_none_left, with_lowered, with_bound, rest_of, part_of};
 
@@ -111,7 +112,9 @@ impl Claims {
         ensures below { IfSome result (λ number. number < self.now.limit) }
         ensures some { IfSome result (λ number.
             seat.new ≡ with_view (with_drawn number) seat.old) }
+        ensures rises { IfSome result (λ number. IsGreaterThanAll seat.old.view.drawn number) }
         ensures none { IfNone result (seat.new ≡ with_view with_none_left seat.old) }
+        ensures stays { IsTrue seat.old.view.none_left → result ≡ None }
     {
         if seat.none_left {
             return None;

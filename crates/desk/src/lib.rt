@@ -2,7 +2,5 @@
 #![tactic(auto)]
 
 pub mod bench;
-pub mod held;
 
 pub use bench::{Bench, Call};
-pub use held::{Held, HeldOf};

@@ -19,7 +19,7 @@ use Rattle.shared_desk.specs.Views.{seats, HasAllSeats, first_view, with_split, 
 use Rattle.shared_desk.specs.Calls.{HaveSameCalls}
 use Rattle.shared_desk.specs.InOrder.{DeskSlot, DeskState, times_held, once_below, KnowsHistory, HasItsCalls, AreNumbered}
 use Rattle.shared_desk.specs.InOrder.{IsInOrder}
-use Rattle.shared_desk.proofs.Histories.{calls_by-append, starts_with_longer}
+use Rattle.shared_desk.proofs.Histories.{calls_by-append, starts_with_longer, starts_with_shorter}
 use Rattle.shared_desk.proofs.Sums.{once_below-one, once_below-le, once_below-in, once_below-out, times_one, times_self, times_none, same_at}
 use Rattle.shared_desk.proofs.Sums.{each_set, each_end, sum_by-set, sum_by-two, sum_by-alone}
 use Rattle.shared_desk.proofs.Parts.{none_some, false_true, numbered_set, numbered_end, line_set, line_end, turn_idle, turn_end, called_set}
@@ -50,7 +50,7 @@ module _ {S E R J : Type 0} (steps : S → ℕ → E → R → S → Type 0) (st
     };
     called = record { own = only (λ j v. HasItsCalls [] v) record { held = λ p e. refl; bare = λ p e. refl }; unmade = λ p far. refl };
     known = only (λ j v. 0 < seats v → KnowsHistory start [] 1 j v)
-        (λ live. record { opened = refl; numbered = refl; own = refl; counted = λ e. refl; seen = ([], refl) });
+        (λ live. record { opened = refl; numbered = refl; own = refl; counted = λ e. refl; seen = ([], refl); front = ([], refl) });
     kept = record {
       home = λ e. (h, refl, record { calls = empty; runs = sym same; journal = journal });
       away = λ j e. absurd (none_some j e);
@@ -99,15 +99,17 @@ module _ {S E R J : Type 0} (steps : S → ℕ → E → R → S → Type 0) (st
               own = times_self (length views) (v.split_off + 1) (place ∙ sym all_made);
               counted = λ e. absurd (omega arith);
               seen = k.seen;
+              front = (r.history, refl);
             })
             (each_set (λ j u. 0 < seats u → KnowsHistory start r.history (r.made + 1) j u) s.views id left
-            (λ l. record { opened = k.opened; numbered = k.numbered; own = k.own; counted = λ e. omega arith; seen = k.seen })
+            (λ l. record { opened = k.opened; numbered = k.numbered; own = k.own; counted = λ e. omega arith; seen = k.seen; front = k.front })
             (λ j u ne e l. let o = r.known j u e l in record {
               opened = o.opened;
               numbered = o.numbered;
               own = o.own;
               counted = λ e. absurd (ne (e ∙ sym id_is));
               seen = o.seen;
+              front = o.front;
             }));
         kept = r.kept;
       }
@@ -180,6 +182,7 @@ module _ {S E R J : Type 0} (steps : S → ℕ → E → R → S → Type 0) (st
               own = let m = n id in let t = two id in let o = r.numbered.once id in let le = once_below-le id r.made in let own = k.own in omega arith;
               counted = k.counted;
               seen = starts_with_longer r.history v.seen w.seen k.seen k'.seen;
+              front = starts_with_shorter r.history v.seen w.seen k.seen k'.seen;
             })
             (λ j u _ e. r.known j u e) j u e);
         kept = r.kept;

@@ -16,9 +16,9 @@ use Rattle.shared_desk.specs.Views.{seats}
 use Rattle.shared_desk.specs.Calls.{HasCalled, HasSeen}
 use Rattle.shared_desk.specs.InOrder.{DeskSlot, ticket_count, IsAfter, IsInOrder}
 use Rattle.shared_desk.specs.Steps.{Hand, Rests, with_ticket, with_turn, with_call, HasEmptySlot, HasFullSlot, HasTurn, HasTaken, HasNewCall}
-use Rattle.shared_desk.specs.Steps.{HasCounted, EndsWithCall, TicketIsDrawn, CallIsCounted, TurnIsEnded, IsTurned, TurnIsSeen}
+use Rattle.shared_desk.specs.Steps.{HasCounted, EndsWithCall, TicketIsDrawn, CallIsCounted, TurnIsEnded, IsTurned, TurnIsSeen, FrontIsSeen}
 use Rattle.shared_desk.proofs.Parts.{some_same, none_some, first_slot}
-use Rattle.shared_desk.proofs.Turning.{draws_on, looks_on, counts_on, ends_on}
+use Rattle.shared_desk.proofs.Turning.{draws_on, front_on, looks_on, counts_on, ends_on}
 use Rattle.shared_desk.proofs.Seating.{IsClosed}
 
 pub no_slot_left : {A : Type 0} (l : List A) → length l ≡ 0 → l ≡ []
@@ -52,6 +52,14 @@ module _ {S E R J : Type 0} (steps : S → ℕ → E → R → S → Type 0) (st
   looks_at m v k is live =
       subst (λ (z : Hand S E R J). Allows (IsInOrder steps start keeps) slots id z 1 (λ x. x) (TurnIsSeen steps keeps (step slots 1 0 0 none) z)) (sym is)
       (looks_on steps start keeps slots id (with_ticket v (Some k)) k live refl refl)
+
+  pub front_at : (m : Hand S E R J) → m.1 ≡ [] → 0 < seats m.0
+      → Allows (IsInOrder steps start keeps) slots id m 1 (λ x. x) (FrontIsSeen (step slots 1 0 0 none) m)
+  front_at m no_slot live =
+      subst (λ (c : List (ℕ × DeskSlot S E R J)).
+      Allows (IsInOrder steps start keeps) slots id (m.0, c) 1 (λ x. x) (FrontIsSeen (step slots 1 0 0 none) (m.0, c)))
+      (sym no_slot)
+      (front_on steps start keeps slots id m.0 live)
 
   pub draws_at : (m : Hand S E R J) → Rests m
       → Allows (IsInOrder steps start keeps) slots id m 0 (λ x. (x + 1) % 2 ^ 64) (TicketIsDrawn (step slots 0 1 0 none) m)

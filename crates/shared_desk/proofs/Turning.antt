@@ -8,15 +8,15 @@ use Rattle.atomic_table.specs.Table.{Act, Valid, step, keeps, takes, gives, step
 use Rattle.atomic_table.proofs.Lists.{set_again, one_turn}
 use Rattle.desk.specs.declared.bench.Call.{Call}
 use Rattle.shared_desk.specs.declared.kept.Kept.{Kept}
-use Rattle.shared_desk.specs.Kept.{calls_of, KeepsCalls}
+use Rattle.shared_desk.specs.Kept.{calls_of}
 use Rattle.desk.specs.Runs.{Runs, calls_by, StartsWith}
 use Rattle.shared_desk.specs.declared.rule.View.{View}
 use Rattle.shared_desk.specs.Views.{seats}
 use Rattle.shared_desk.specs.InOrder.{DeskSlot, DeskState, waiting, times_held, KnowsHistory, HasItsCalls, IsOneTurn}
 use Rattle.shared_desk.specs.InOrder.{IsAfter, IsInOrder}
 use Rattle.shared_desk.specs.Steps.{Hand, with_ticket, with_turn, with_call, HoldsCall, TicketIsDrawn, CallIsCounted, TurnIsEnded, IsTurned}
-use Rattle.shared_desk.specs.Steps.{TurnIsSeen}
-use Rattle.shared_desk.proofs.Histories.{calls_by-append, calls_by-other, starts_with_more, starts_with_all, last_call}
+use Rattle.shared_desk.specs.Steps.{TurnIsSeen, FrontIsSeen}
+use Rattle.shared_desk.proofs.Histories.{calls_by-append, calls_by-other, starts_with_more, starts_with_all, front_of, last_call}
 use Rattle.shared_desk.proofs.Sums.{once_below-le, place_below, same_at, each_set, sum_by-two, sum_by-le-length}
 use Rattle.shared_desk.proofs.Parts.{some_same, none_some, first_slot, false_true, ticket_count-le, numbered_set, line_set, line_drawn, line_served}
 use Rattle.shared_desk.proofs.Parts.{turn_idle, turn_taken, turn_kept, turn_ended, called_set}
@@ -46,7 +46,7 @@ module _ {S E R J : Type 0} (steps : S → ℕ → E → R → S → Type 0) (st
           called = called_set s.views id v w at r.history r.made (let h = r.called.own id v at in record { held = h.held; bare = h.bare }) r.called;
           known = each_set (λ j u. 0 < seats u → KnowsHistory start r.history r.made j u) s.views id w
               (λ live. let k = r.known id v at live in
-              record { opened = k.opened; numbered = k.numbered; own = k.own; counted = k.counted; seen = k.seen })
+              record { opened = k.opened; numbered = k.numbered; own = k.own; counted = k.counted; seen = k.seen; front = k.front })
               (λ j u ne e. r.known j u e);
           kept = r.kept;
         },
@@ -59,6 +59,16 @@ module _ {S E R J : Type 0} (steps : S → ℕ → E → R → S → Type 0) (st
       → IsInOrder steps start keep (stepped s word (slice_index s.words word) id [] v keeps)
   unmoved s r word same at =
       subst (IsInOrder steps start keep) (λ i. record { words = sym same i; homes = s.homes; views = sym (set_again s.views id v at) i }) r
+
+  pub front_on : 0 < seats v → Allows (IsInOrder steps start keep) slots id (v, []) 1 (λ x. x) (FrontIsSeen (step slots 1 0 0 none) (v, []))
+  front_on live s r _ at _ =
+      let k = r.known id v at live in (
+        v,
+        keeps,
+        tt,
+        unmoved s r 1 (ap (λ (ws : List ℕ). slice_set ws 1 (slice_index ws 1)) r.words_are ∙ sym r.words_are) at,
+        (refl, λ short. front_of v.front v.seen k.front.0 k.seen.0 (sym k.front.1 ∙ k.seen.1) short),
+      )
 
   -- who has a ticket that is served, and not the turn: then nobody has the turn
   no_turn_yet : (s : DeskState S E R J) (r : IsInOrder steps start keep s) → get_elem? s.views id ≡ some v → v.ticket ≡ Some r.served → v.turn ≡ false
@@ -102,6 +112,7 @@ module _ {S E R J : Type 0} (steps : S → ℕ → E → R → S → Type 0) (st
                 own = k.own;
                 counted = k.counted;
                 seen = starts_with_all r.history (calls_of h) after.calls;
+                front = k.front;
               })
               (λ j u ne e. r.known j u e);
           kept = record {
@@ -218,6 +229,7 @@ module _ {S E R J : Type 0} (steps : S → ℕ → E → R → S → Type 0) (st
                 own = k.own;
                 counted = k.counted;
                 seen = starts_with_all more (v.seen ++ c ∷ []) seen_all;
+                front = starts_with_more r.history v.front c k.front;
               })
               (λ j u ne e live. let o = r.known j u e live in record {
                 opened = o.opened;
@@ -225,6 +237,7 @@ module _ {S E R J : Type 0} (steps : S → ℕ → E → R → S → Type 0) (st
                 own = o.own;
                 counted = o.counted;
                 seen = starts_with_more r.history u.seen c o.seen;
+                front = starts_with_more r.history u.front c o.front;
               });
           kept = record { home = λ e. absurd (none_some id (sym e ∙ its.who_is)); away = r.kept.away };
         },
@@ -267,7 +280,7 @@ module _ {S E R J : Type 0} (steps : S → ℕ → E → R → S → Type 0) (st
           called = called_set s.views id v w at r.history r.made (let h = r.called.own id v at in record { held = h.held; bare = h.bare }) r.called;
           known = each_set (λ j u. 0 < seats u → KnowsHistory start r.history r.made j u) s.views id w
               (λ live. let k = r.known id v at live in
-              record { opened = k.opened; numbered = k.numbered; own = k.own; counted = k.counted; seen = k.seen })
+              record { opened = k.opened; numbered = k.numbered; own = k.own; counted = k.counted; seen = k.seen; front = k.front })
               (λ j u ne e. r.known j u e);
           kept = record {
             home = λ e. (

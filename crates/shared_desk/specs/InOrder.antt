@@ -45,6 +45,7 @@ module _ {S E R : Type 0} where
     pub own : times_held place v ≡ 1
     pub counted : place ≡ 0 → v.split_off + 1 ≡ made
     pub seen : StartsWith history v.seen
+    pub front : StartsWith history v.front
 
   -- The calls of a seat are those from its numbers.
   pub record HasItsCalls (history : List (Call E R)) (v : View S E R) : Type 0 where

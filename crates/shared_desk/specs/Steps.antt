@@ -1,10 +1,11 @@
 -- What each step tells the seat that takes it, and what a seat has between the steps of a call.
-use Rattle.std.specs.Prelude.{◌≡◌, ℕ, ◌<◌, ◌^◌, ◌%◌, ◌==◌, Some, None, Option, true, false, MatchBool, List, [], ◌∷◌, ◌++◌, unwrap_or}
+use Rattle.std.specs.Prelude.{◌≡◌, ℕ, ◌<◌, ◌≤◌, ◌^◌, ◌%◌, ◌==◌, Some, None, Option, true, false}
+use Rattle.std.specs.Prelude.{MatchBool, List, [], ◌∷◌, ◌++◌, length, unwrap_or}
 use Rattle.atomic_table.specs.Table.{Step, Me}
 use Rattle.desk.specs.declared.bench.Call.{Call}
 use Rattle.shared_desk.specs.declared.kept.Kept.{Kept}
 use Rattle.shared_desk.specs.Kept.{calls_of, KeepsCalls}
-use Rattle.desk.specs.Runs.{Runs}
+use Rattle.desk.specs.Runs.{Runs, StartsWith}
 use Rattle.shared_desk.specs.declared.rule.View.{View}
 use Rattle.shared_desk.specs.Views.{seats}
 use Rattle.shared_desk.specs.Calls.{MayFind}
@@ -51,6 +52,11 @@ module _ {S E R J : Type 0} where
     pub ticket : ℕ
     pub left : n ≡ (with_ticket m.0 (Some ticket), m.1)
     pub shown : found ≡ ticket % 2 ^ 64
+
+  -- Nothing changed, and it was seen that the seat's front is one of what it has seen.
+  abbrev pub FrontIsSeen : Step (DeskSlot S E R J) → Hand S E R J → ℕ → Hand S E R J → Type 0
+  FrontIsSeen st m found n =
+      (n ≡ m) × (length m.0.front ≤ length m.0.seen → StartsWith m.0.seen m.0.front)
 
   -- The call in the slot was counted.
   pub record CallIsCounted (st : Step (DeskSlot S E R J)) (m : Hand S E R J) (found : ℕ) (n : Hand S E R J) : Type 0 where

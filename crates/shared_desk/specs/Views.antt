@@ -8,6 +8,10 @@ module _ {E R : Type 0} where
   abbrev pub longer : List (Call E R) → List (Call E R) → List (Call E R)
   longer a b = if nat_lt (length a) (length b) then b else a
 
+  -- the other of them
+  abbrev pub shorter : List (Call E R) → List (Call E R) → List (Call E R)
+  shorter a b = if nat_lt (length a) (length b) then a else b
+
 module _ {S E R : Type 0} where
   -- how many seats it is by now: itself, and those that it has taken in
   abbrev pub seats : View S E R → ℕ
@@ -26,6 +30,7 @@ module _ {S E R : Type 0} where
     numbers = 0 ∷ [];
     calls = [];
     seen = [];
+    front = [];
     ticket = None;
     turn = false;
   }
@@ -43,13 +48,19 @@ module _ {S E R : Type 0} where
     numbers = (v.split_off + 1) ∷ [];
     calls = [];
     seen = v.seen;
+    front = [];
     ticket = None;
     turn = false;
   }
 
   -- the first of two seats, when it has taken in the second
   abbrev pub with_joined : View S E R → View S E R → View S E R
-  with_joined v w = record v { numbers = v.numbers ++ w.numbers; calls = v.calls ++ w.calls; seen = longer v.seen w.seen }
+  with_joined v w = record v {
+    numbers = v.numbers ++ w.numbers;
+    calls = v.calls ++ w.calls;
+    seen = longer v.seen w.seen;
+    front = shorter v.seen w.seen;
+  }
 
   -- a seat that was taken in
   abbrev pub spent_view : View S E R
@@ -60,6 +71,7 @@ module _ {S E R : Type 0} where
     numbers = [];
     calls = [];
     seen = [];
+    front = [];
     ticket = None;
     turn = false;
   }

@@ -19,6 +19,8 @@ pub struct View<S, E, R> {
     pub calls: LinkedList<Call<E, R>>,
     /// The history, as far as it was seen.
     pub seen: LinkedList<Call<E, R>>,
+    /// What the one that had seen less had seen, when it took in a seat last.
+    pub front: LinkedList<Call<E, R>>,
     /// What it waits with for its turn.
     pub ticket: Option<u64>,
     pub turn: bool,
@@ -65,6 +67,15 @@ impl<B: Bench, J: CallJournal<B::Event, B::Reply>> Play<Option<KeptOf<B, J>>, Vi
     ghost use Rattle.shared_desk.specs.Steps.{TurnIsSeen};
 
     ghost then = { TurnIsSeen B.steps J.keeps };
+}
+
+/// It is seen that what two seats had seen are fronts of one history.
+pub(crate) struct LooksAtFront;
+
+impl<S, E, R, J> Play<Option<Kept<S, E, R, J>>, View<S, E, R>> for LooksAtFront {
+    ghost use Rattle.shared_desk.specs.Steps.{FrontIsSeen};
+
+    ghost then = { FrontIsSeen };
 }
 
 /// A call is counted, and the history has it.

@@ -2,13 +2,16 @@
 ghost use Rattle.std.specs.Prelude.{◌≡◌, ◌<◌, ◌+◌, [], false, length, IfOk, OnErr};
 ghost use Rattle.desk.specs.Runs.{Runs, StartsWith};
 ghost use Rattle.shared_desk.specs.Kept.{calls_of, KeepsCalls, MayTake};
-ghost use Rattle.shared_desk.specs.Views.{seats, HasAllSeats, first_view, with_split, new_view, with_joined};
+ghost use Rattle.shared_desk.specs.Views.{seats, HasAllSeats, first_view, with_split, new_view};
+ghost use Rattle.shared_desk.specs.Views.{longer, shorter, with_joined};
 ghost use Rattle.shared_desk.specs.Calls.{MayCall, HasCalled, HasSeen, HaveSameCalls};
 ghost use Rattle.shared_desk.specs.InOrder.{waiting, IsAfter};
 ghost use Rattle.shared_desk.specs.Steps.{Rests, HasTurn, HasTaken, HasEmptySlot, HasNewCall, HasFullSlot, HasCounted, EndsWithCall, with_ticket};
 
 use crate::kept::{CallJournal, KeptOf, make_call, opened};
-use crate::rule::{CountsCall, DrawsTicket, EndsTurn, LooksForTurn, OneHistory, Sharing, ViewOf};
+use crate::rule::{
+    CountsCall, DrawsTicket, EndsTurn, LooksAtFront, LooksForTurn, OneHistory, Sharing, ViewOf,
+};
 use atomic_table::{Seat, Table};
 use desk::bench::Bench;
 use std::alloc::{AllocError, Global};
@@ -123,6 +126,8 @@ impl<B: Bench, J: CallJournal<B::Event, B::Reply>> Desk<B, J> {
         requires other_own { IsSeatOf self.now other }
         ensures own { IsSeatOf self.now seat.new }
         ensures joined { view seat.new ≡ with_joined (view seat.old) (view other) }
+        ensures front { let ours = (view seat.old).seen in let theirs = (view other).seen in
+            StartsWith (longer ours theirs) (shorter ours theirs) }
     {
         let DeskSeat {
             seat: taken_in,
@@ -133,6 +138,9 @@ impl<B: Bench, J: CallJournal<B::Event, B::Reply>> Desk<B, J> {
         self.table
             .shared
             .join_seat::<Sharing>(&mut seat.seat, taken_in);
+        self.table
+            .shared
+            .load::<LooksAtFront>(&mut seat.seat, SERVED);
     }
 
     /// Waits for the seat's turn, and makes the call in it. No clause says that the turn comes.

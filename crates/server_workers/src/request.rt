@@ -1,4 +1,4 @@
-ghost use Rattle.std.specs.Prelude.{◌≡◌, ◌<◌, ◌≤◌, ℕ, [], ◌∷◌, length, if◌then◌else◌, false};
+ghost use Rattle.std.specs.Prelude.{◌≡◌, ◌<◌, ◌≤◌, ℕ, [], ◌∷◌, length, if◌then◌else◌, false, true};
 ghost use Rattle.std.specs.Prelude.{Option, None, Some, IfOk, IfSome, OnOk};
 ghost use Rattle.rand_chacha.specs.ChaCha.{ChaCha};
 ghost use Rattle.script_tree.specs.declared.limits.TheConstants.{MOST_OPERATIONS};
@@ -8,7 +8,7 @@ ghost use Rattle.history.specs.Rooms.{EndsWith};
 ghost use Rattle.shared_desk.specs.Seats.{IsSeatOf, start_of, view};
 ghost use Rattle.turns.specs.Seated.{IsSeated, WaitsFor};
 ghost use Rattle.server_workers.specs.Courses.{Course};
-ghost use Rattle.server_workers.specs.Goes.{Goes};
+ghost use Rattle.server_workers.specs.Goes.{Goes, HasDeparted, HasFewerTurns};
 ghost use Rattle.server_workers.specs.Jobs.{job_at};
 ghost use Rattle.server_workers.specs.Openings.{IsBlank, IsOpening, open_at};
 
@@ -54,6 +54,8 @@ pub(crate) fn serve_one<R: Wait, C: Clock, G: Gate, J: Journal>(
         let job = job_at service.now.jobs.items number in OnOk result
         (Course reading (job ∷ []) (view seat.old) (view seat.new) dice.old dice.new) }
     ensures empty { OnOk result (open_at (view seat.new) ≡ None) }
+    ensures departed { let program = (start_of desk.now).program in
+        OnOk result (HasDeparted program (view seat.new)) }
 {
     let job = &service.jobs[number as usize];
     let machine = arrive(rt, service.alloc, code, desk, seat, job)?;
@@ -128,6 +130,8 @@ fn serve_open<R: Wait, C: Clock, J: Journal>(
     ensures own { IsSeatOf desk.now seat.new }
     ensures goes { let old = view seat.old in let new = view seat.new in OnOk result
         (Goes (start_of desk.now) (C.reading clock.now) [] old new dice.old dice.new None) }
+    ensures departed { let program = (start_of desk.now).program in
+        OnOk result (HasDeparted program (view seat.new)) }
 {
     let departed = go_to_end(rt, desk, seat, &mut machine, dice, clock);
     drop(machine);
@@ -150,14 +154,15 @@ fn go_to_end<R: Wait, C: Clock, J: Journal>(
     ensures own { IsSeatOf desk.now seat.new }
     ensures goes { let old = view seat.old in let new = view seat.new in OnOk result
         (Goes (start_of desk.now) (C.reading clock.now) [] old new dice.old dice.new None) }
+    ensures departed { let program = (start_of desk.now).program in
+        OnOk result (HasDeparted program (view seat.new)) }
 {
-    for _ in rt.forever() {
+    loop {
         let is_open = go_on(rt, desk, seat, machine, dice, clock)?;
         if !is_open {
             return Ok(());
         }
     }
-    unreachable!()
 }
 
 /// The open request of a machine does the operation that it wants, or departs. Tells whether it is
@@ -178,6 +183,9 @@ fn go_on<R: Wait, C: Clock, J: Journal>(
     ensures goes { let old = view seat.old in let new = view seat.new in IfOk result (λ is_open.
         Goes (start_of desk.now) (C.reading clock.now) [] old new dice.old dice.new
         (if is_open then Some machine.new else None)) }
+    ensures fewer { OnOk result (HasFewerTurns (view seat.old) (view seat.new)) }
+    ensures departed { let program = (start_of desk.now).program in IfOk result (λ is_open.
+        is_open ≡ false → HasDeparted program (view seat.new)) }
 {
     match machine.run()? {
         MachineStep::Wants(op) => act(rt, desk, seat, op, machine, dice, clock),
@@ -204,6 +212,8 @@ fn act<R: Wait, C: Clock, J: Journal>(
     ensures goes { let old = view seat.old in let new = view seat.new in IfOk result (λ is_open.
         Goes (start_of desk.now) (C.reading clock.now) [] old new dice.old dice.new
         (if is_open then Some machine.new else None)) }
+    ensures open { IfOk result (λ is_open. is_open ≡ true) }
+    ensures fewer { OnOk result (HasFewerTurns (view seat.old) (view seat.new)) }
 {
     let offer = offer_for(&op.act, clock, dice);
     let Reply::Acted { answer, .. } = desk.call(rt, seat, Event::Act(op, offer))? else {
@@ -232,6 +242,9 @@ fn depart<R: Wait, J: Journal>(
     ensures goes { let old = view seat.old in let new = view seat.new in
         (reading : Option ℕ) (dice : ChaCha) → OnOk result
         (Goes (start_of desk.now) reading [] old new dice dice None) }
+    ensures fewer { OnOk result (HasFewerTurns (view seat.old) (view seat.new)) }
+    ensures departed { let program = (start_of desk.now).program in
+        OnOk result (HasDeparted program (view seat.new)) }
 {
     desk.call(rt, seat, Event::Depart(response, path))?;
     Ok(false)

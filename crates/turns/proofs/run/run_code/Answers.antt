@@ -6,7 +6,7 @@ use Rattle.history.specs.Recordings.{Recorded, room_of}
 use Rattle.history.specs.Rooms.{Room, empty_room}
 use Rattle.turns.specs.Turned.{jobs_left}
 use Rattle.turns.proofs.Course.{same_run}
-use Rattle.turns.proofs.run.run_turns.Goals as goal
+use Rattle.turns.proofs.run.run_code.Goals as goal
 
 pub new-requires-clause-empty : goal.new-requires-clause-empty
 new-requires-clause-empty g c = λ seat. ap (λ (r : Room). r.open_at seat) c.new-recording.ensures.room

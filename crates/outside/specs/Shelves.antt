@@ -90,30 +90,31 @@ pub record UsesShelf (old new : ShelfTold) (failed absent : Type 0) : Type 0 whe
   pub as_told : new.never_fails ≡ old.never_fails
   pub never_failed : old.never_fails ≡ true → ¬ failed
 
--- ---- which reads were made
+-- ---- which calls were made
 
--- a read of a name: where it began, and how many bytes came, of which a refused one has none
-pub record ReadMade : Type 0 where
-  pub name : List ℕ
-  pub from : ℕ
-  pub count : ℕ
+-- A call of a shelf: a read of a name, which began at this place and to which so many bytes came, none
+-- where it was refused; or a write of bytes under a name, taken or refused.
+pub data ShelfCall : Type 0 where
+  a_read : (name : List ℕ) (from count : ℕ) → ShelfCall
+  a_write : (name bytes : List ℕ) → ShelfCall
 
 -- the read of a name from a place on, with this result
-abbrev pub read_made : List ℕ → ℕ → Result ℕ ShelfFault → ReadMade
-read_made name from (Ok count) = record { name = name; from = from; count = count }
-read_made name from (Err fault) = record { name = name; from = from; count = 0 }
+abbrev pub read_made : List ℕ → ℕ → Result ℕ ShelfFault → ShelfCall
+read_made name from (Ok count) = a_read name from count
+read_made name from (Err fault) = a_read name from 0
 
--- the reads made, and these after them, where they are told
-abbrev pub then_reads : Option (List ReadMade) → List ReadMade → Option (List ReadMade)
-then_reads told more = option_map (λ reads. reads ++ more) told
+-- the calls made, and these after them, where they are told
+abbrev pub then_calls : Option (List ShelfCall) → List ShelfCall → Option (List ShelfCall)
+then_calls told more = option_map (λ calls. calls ++ more) told
 
--- The reads are all of this name. The first begins at this place, and each other where the one
+-- They are reads, all of this name. The first begins at this place, and each other where the one
 -- before it ended.
-abbrev pub GoOn : List ℕ → ℕ → List ReadMade → Type 0
-GoOn name place [] = ⊤
-GoOn name place (read ∷ reads) =
-    (read.name ≡ name) × (read.from ≡ place) × GoOn name (place + read.count) reads
+abbrev pub ReadOn : List ℕ → ℕ → List ShelfCall → Type 0
+ReadOn name place [] = ⊤
+ReadOn name place (a_read other from count ∷ calls) =
+    (other ≡ name) × (from ≡ place) × ReadOn name (place + count) calls
+ReadOn name place (a_write other bytes ∷ calls) = ⊥
 
--- The file of the name was read once, from its front on.
-abbrev pub IsReadOnce : Option (List ReadMade) → Option (List ReadMade) → List ℕ → Type 0
-IsReadOnce old new name = (reads : List ReadMade) × (new ≡ then_reads old reads) × GoOn name 0 reads
+-- The file of the name was read once, from its front on, and nothing else was done.
+abbrev pub IsReadOnce : Option (List ShelfCall) → Option (List ShelfCall) → List ℕ → Type 0
+IsReadOnce old new name = (calls : List ShelfCall) × (new ≡ then_calls old calls) × ReadOn name 0 calls

@@ -94,7 +94,7 @@ impl Shelf for MemShelf {
 
     ghost told = { shelf_told };
 
-    ghost reads = { λ _. None };
+    ghost calls = { λ _. None };
 
     fn read_at(&mut self, name: &str, offset: u64, into: &mut [u8]) -> Result<usize, ShelfFault>
         ensures used { IsReadAt (shelf_told self.old) (shelf_told self.new) name.now offset

@@ -1,5 +1,5 @@
 -- Why inputs are not read.
-use Rattle.std.specs.Prelude.{Result, Ok, Err}
+use Rattle.std.specs.Prelude.{◌≡◌, Result, Ok, Err, ⊤}
 use Rattle.basis.specs.declared.or_memory.OrMemory.{OrMemory}
 use Rattle.basis.specs.declared.or_memory.OrMemory.TheVariants.{Other}
 use Rattle.outside.specs.Shelves.{ShelfTold, UsesShelf}
@@ -11,6 +11,7 @@ use Rattle.command_inputs.specs.declared.fault.InputFault.{InputFault}
 use Rattle.command_inputs.specs.declared.fault.InputFault.TheVariants.{Absent, TooLong, Syntax, Check, State, Requests, Turns, Trace}
 use Rattle.command_inputs.specs.declared.halt.Halt.TheVariants.{Failed, Memory}
 use Rattle.command_inputs.specs.declared.role.Role.{Role}
+use Rattle.command_inputs.specs.declared.role.Role.TheVariants as role
 
 -- a thing or its fault, as what a call answers that may run out of memory
 abbrev pub or_memory : {A E : Type 0} → Result A E → Result A (OrMemory E)
@@ -33,6 +34,23 @@ IsAbsence (State fault) = ⊥
 IsAbsence (Requests fault) = ⊥
 IsAbsence (Turns fault) = ⊥
 IsAbsence (Trace fault) = ⊥
+
+-- the input that has this fault
+abbrev pub role_of : InputFault → Role
+role_of (Absent role) = role
+role_of (TooLong role) = role
+role_of (Syntax fault) = role.Program
+role_of (Check fault) = role.Program
+role_of (State fault) = role.State
+role_of (Requests fault) = role.Requests
+role_of (Turns fault) = role.Turns
+role_of (Trace fault) = role.Trace
+
+-- A fault that was found is one of this input.
+abbrev pub IsFaultOf : {A : Type 0} → Role → Result A InputError → Type 0
+IsFaultOf role (Ok x) = ⊤
+IsFaultOf role (Err (Fault fault)) = role_of fault ≡ role
+IsFaultOf role (Err (Halts halt)) = ⊤
 
 -- A read failed.
 abbrev pub HasFailed : {A : Type 0} → Result A InputError → Type 0

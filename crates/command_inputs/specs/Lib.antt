@@ -8,6 +8,7 @@ pub mod Report
 pub mod Requests
 pub mod Roles
 pub mod Schedule
+pub mod SomeWay
 pub mod State
 pub mod Trace
 pub mod Turns

@@ -1,6 +1,6 @@
 ghost use Rattle.std.specs.Prelude.{◌<◌, ◌^◌, IfOk, length, vec_len};
 ghost use Rattle.outside.specs.Shelves.{IsReadOnce};
-ghost use Rattle.command_inputs.specs.Faults.{UsesToRead};
+ghost use Rattle.command_inputs.specs.Faults.{IsFaultOf, UsesToRead};
 ghost use Rattle.command_inputs.specs.Inputs.{bytes_input, IsReadUnder};
 
 use crate::fault::{InputError, InputFault};
@@ -29,7 +29,8 @@ pub fn read_whole<F: Shelf>(
     ensures read { let input = bytes_input role most in
         IsReadUnder (λ bytes. bytes.items) input (F.told shelf.old) name.now result }
     ensures used { UsesToRead (F.told shelf.old) (F.told shelf.new) result }
-    ensures once { IsReadOnce (F.reads shelf.old) (F.reads shelf.new) name.now }
+    ensures of_input { IsFaultOf role result }
+    ensures once { IsReadOnce (F.calls shelf.old) (F.calls shelf.new) name.now }
 {
     let mut piece = empty_piece(alloc)?;
     read_by(alloc, shelf, role, name, most, &mut piece)
@@ -49,7 +50,8 @@ fn read_by<F: Shelf>(
     ensures read { let input = bytes_input role most in
         IsReadUnder (λ bytes. bytes.items) input (F.told shelf.old) name.now result }
     ensures used { UsesToRead (F.told shelf.old) (F.told shelf.new) result }
-    ensures once { IsReadOnce (F.reads shelf.old) (F.reads shelf.new) name.now }
+    ensures of_input { IsFaultOf role result }
+    ensures once { IsReadOnce (F.calls shelf.old) (F.calls shelf.new) name.now }
 {
     let mut bytes = Vec::new(alloc);
     'pieces: loop {

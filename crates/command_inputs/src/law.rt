@@ -1,4 +1,5 @@
 ghost use Rattle.command_inputs.specs.OneWay.{AreReadOneWay};
+ghost use Rattle.command_inputs.specs.SomeWay.{AreReadSomeWay};
 
 /// No file of an input spells two things, has two faults, or spells a thing and has a fault.
 pub fn one_way()
@@ -11,3 +12,8 @@ pub fn one_way()
     report_format::decoding::reading_is_exact();
     schedule_format::decoding::reading_is_exact();
 }
+
+/// Each file of an input spells a thing or has a fault.
+pub fn some_way()
+    ensures { AreReadSomeWay }
+{}

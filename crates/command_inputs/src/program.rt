@@ -1,6 +1,7 @@
 ghost use Rattle.std.specs.Prelude.{◌<◌, ◌^◌};
 ghost use Rattle.outside.specs.Shelves.{IsReadOnce};
-ghost use Rattle.command_inputs.specs.Faults.{UsesToRead};
+ghost use Rattle.command_inputs.specs.Faults.{IsFaultOf, UsesToRead};
+ghost use Rattle.command_inputs.specs.declared.role.Role.TheVariants as role;
 ghost use Rattle.command_inputs.specs.Inputs.{IsReadUnder};
 ghost use Rattle.command_inputs.specs.Program.{program_input};
 
@@ -23,7 +24,8 @@ pub fn read_program<F: Shelf>(
     ensures read { let input = program_input most in
         IsReadUnder (λ program. program) input (F.told shelf.old) name.now result }
     ensures used { UsesToRead (F.told shelf.old) (F.told shelf.new) result }
-    ensures once { IsReadOnce (F.reads shelf.old) (F.reads shelf.new) name.now }
+    ensures of_input { IsFaultOf role.Program result }
+    ensures once { IsReadOnce (F.calls shelf.old) (F.calls shelf.new) name.now }
 {
     let bytes = read_whole(alloc, shelf, Role::Program, name, most)?;
     let tree = or_fault(parse(alloc, &bytes))?.map_err(InputFault::Syntax)?;

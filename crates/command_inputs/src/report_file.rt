@@ -1,7 +1,8 @@
 ghost use Rattle.std.specs.Prelude.{◌<◌, ◌^◌, IfOk};
 ghost use Rattle.report_format.specs.Limits.{HasValuesWithinLimits};
 ghost use Rattle.outside.specs.Shelves.{IsReadOnce};
-ghost use Rattle.command_inputs.specs.Faults.{UsesToRead};
+ghost use Rattle.command_inputs.specs.Faults.{IsFaultOf, UsesToRead};
+ghost use Rattle.command_inputs.specs.declared.role.Role.TheVariants as role;
 ghost use Rattle.command_inputs.specs.Inputs.{IsReadUnder};
 ghost use Rattle.command_inputs.specs.Report.{report_input};
 
@@ -26,7 +27,8 @@ pub fn read_report<F: Shelf>(
         IsReadUnder (λ report. report) input (F.told shelf.old) name.now result }
     ensures limits { IfOk result (λ read. IfOk read HasValuesWithinLimits) }
     ensures used { UsesToRead (F.told shelf.old) (F.told shelf.new) result }
-    ensures once { IsReadOnce (F.reads shelf.old) (F.reads shelf.new) name.now }
+    ensures of_input { IsFaultOf role.Report result }
+    ensures once { IsReadOnce (F.calls shelf.old) (F.calls shelf.new) name.now }
 {
     values_are_within_limits();
     let bytes = read_whole(alloc, shelf, Role::Report, name, most)?;

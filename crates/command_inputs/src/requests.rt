@@ -1,6 +1,7 @@
 ghost use Rattle.std.specs.Prelude.{◌<◌, ◌^◌};
 ghost use Rattle.outside.specs.Shelves.{IsReadOnce};
-ghost use Rattle.command_inputs.specs.Faults.{UsesToRead};
+ghost use Rattle.command_inputs.specs.Faults.{IsFaultOf, UsesToRead};
+ghost use Rattle.command_inputs.specs.declared.role.Role.TheVariants as role;
 ghost use Rattle.command_inputs.specs.Inputs.{IsReadUnder};
 ghost use Rattle.command_inputs.specs.Requests.{requests_input};
 
@@ -22,7 +23,8 @@ pub fn read_requests<F: Shelf>(
     ensures read { let input = requests_input most in
         IsReadUnder (λ requests. requests) input (F.told shelf.old) name.now result }
     ensures used { UsesToRead (F.told shelf.old) (F.told shelf.new) result }
-    ensures once { IsReadOnce (F.reads shelf.old) (F.reads shelf.new) name.now }
+    ensures of_input { IsFaultOf role.Requests result }
+    ensures once { IsReadOnce (F.calls shelf.old) (F.calls shelf.new) name.now }
 {
     let bytes = read_whole(alloc, shelf, Role::Requests, name, most)?;
     let requests = or_fault(workload::read_requests(alloc, &bytes))?;

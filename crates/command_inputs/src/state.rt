@@ -1,7 +1,8 @@
 ghost use Rattle.std.specs.Prelude.{◌<◌, ◌^◌, IfOk};
 ghost use Rattle.object_set.specs.ObjectSets.{IsSetOf, objects_of};
 ghost use Rattle.outside.specs.Shelves.{IsReadOnce};
-ghost use Rattle.command_inputs.specs.Faults.{UsesToRead};
+ghost use Rattle.command_inputs.specs.Faults.{IsFaultOf, UsesToRead};
+ghost use Rattle.command_inputs.specs.declared.role.Role.TheVariants as role;
 ghost use Rattle.command_inputs.specs.Inputs.{IsReadUnder};
 ghost use Rattle.command_inputs.specs.State.{state_input};
 
@@ -26,7 +27,8 @@ pub fn read_state<F: Shelf>(
         IsReadUnder objects_of input (F.told shelf.old) name.now result }
     ensures set { IfOk result (IsSetOf program.now) }
     ensures used { UsesToRead (F.told shelf.old) (F.told shelf.new) result }
-    ensures once { IsReadOnce (F.reads shelf.old) (F.reads shelf.new) name.now }
+    ensures of_input { IsFaultOf role.State result }
+    ensures once { IsReadOnce (F.calls shelf.old) (F.calls shelf.new) name.now }
 {
     let bytes = read_whole(alloc, shelf, Role::State, name, most)?;
     let objects = or_fault(state_file::read_state(alloc, program, &bytes))?;

@@ -2,7 +2,8 @@ ghost use Rattle.std.specs.Prelude.{◌<◌, ◌^◌, IfOk};
 ghost use Rattle.basis.specs.UnlessMemory.{UnlessMemory};
 ghost use Rattle.period.specs.Traces.{IsBalanced};
 ghost use Rattle.outside.specs.Shelves.{IsReadOnce};
-ghost use Rattle.command_inputs.specs.Faults.{UsesToRead};
+ghost use Rattle.command_inputs.specs.Faults.{IsFaultOf, UsesToRead};
+ghost use Rattle.command_inputs.specs.declared.role.Role.TheVariants as role;
 ghost use Rattle.command_inputs.specs.Inputs.{IsReadUnder};
 ghost use Rattle.command_inputs.specs.Trace.{trace_input, HasTraceFault, SpellsTrace};
 
@@ -39,7 +40,8 @@ pub fn read_trace<F: Shelf>(
         IsReadUnder (λ trace. trace) input (F.told shelf.old) name.now result }
     ensures balanced { IfOk result IsBalanced }
     ensures used { UsesToRead (F.told shelf.old) (F.told shelf.new) result }
-    ensures once { IsReadOnce (F.reads shelf.old) (F.reads shelf.new) name.now }
+    ensures of_input { IsFaultOf role.Trace result }
+    ensures once { IsReadOnce (F.calls shelf.old) (F.calls shelf.new) name.now }
 {
     let bytes = read_whole(alloc, shelf, Role::Trace, name, most)?;
     let trace = or_fault(balanced(alloc, bytes))?;

@@ -8,13 +8,13 @@ use Rattle.command_inputs.proofs.file.read_by.Given as goal
 abbrev pub invariant-pieces : goal.invariant-pieces
 invariant-pieces g l =
     let told = g.F.Shelf.told in
-    let reads = g.F.Shelf.reads in
+    let calls = g.F.Shelf.calls in
     record {
       within : vec_len l.bytes ≤ l.fn.most;
       still : told l.shelf ≡ told l.fn.shelf;
       front : (files : Files) → (told l.fn.shelf).files ≡ Some files
           → (file : List ℕ) → get files l.name ≡ Some file → l.bytes.items ≡ take (vec_len l.bytes) file;
-      once : IsReadTo (reads l.fn.shelf) (reads l.shelf) l.name (vec_len l.bytes);
+      once : IsReadTo (calls l.fn.shelf) (calls l.shelf) l.name (vec_len l.bytes);
     }
 
 abbrev pub decreases-pieces : goal.decreases-pieces

@@ -1,12 +1,11 @@
 -- The files of a run that is over are accepted.
-use Rattle.std.proofs.Common.{◌≡◌, ℕ, zero, suc, ◌<◌, Bool, true, false, ◌||◌, not, cond, List, [], ◌∷◌, length, take, map, filter_map, Some, None, is_none, refl, sym, ap, subst, ◌∙◌, arith, nat_eq}
-use Rattle.std.specs.List.{list_any}
+use Rattle.std.proofs.Common.{◌≡◌, ℕ, ◌<◌, false, not, cond, List, length, take, map, filter_map, Some, None, is_none, refl, sym, ap, subst, ◌∙◌, arith, nat_eq}
 use Rattle.std.proofs.lemmas.Bool.{eq-eqb, ne_eqb}
 use Rattle.script_tree.specs.Programs.{Program}
 use Rattle.script_tree.specs.declared.path.Path.{Path}
 use Rattle.basis.specs.Lists.{nth, or_else, firsts}
-use Rattle.basis.proofs.Options.{some_is, none_is_not}
-use Rattle.basis.proofs.Places.{In}
+use Rattle.basis.proofs.Options.{some_is}
+use Rattle.basis.proofs.Places.{In, true_any}
 use Rattle.audit_meaning.specs.Lists.{befores}
 use Rattle.script_tree.specs.declared.request.Response.{Response}
 use Rattle.period.specs.declared.trace.TraceEvent.{TraceEvent}
@@ -39,15 +38,6 @@ use Rattle.audit_completeness.specs.Completeness.{RecordedIsAccepted}
 use Rattle.audit_completeness.proofs.Asks.{AsksFitting, asks_fitting, SameShape}
 use Rattle.audit_completeness.proofs.ShapeConduct.{same_shape}
 use Rattle.audit_completeness.proofs.Seats.{run_of, short_requests}
-
-any_is_true : {A : Type 0} (p : A → Bool) (xs : List A) (i : ℕ) (x : A) → nth xs i ≡ Some x → p x ≡ true → list_any p xs ≡ true
-any_is_true p [] i x e h = absurd (none_is_not e)
-any_is_true p (y ∷ xs) zero x e h = ap (λ b. b || list_any p xs) (ap p (some_is e) ∙ h)
-any_is_true p (y ∷ xs) (suc i) x e h = right (p y) (list_any p xs) (any_is_true p xs i x e h)
-  where
-    right : (a b : Bool) → b ≡ true → (a || b) ≡ true
-    right true b e = refl
-    right false b e = e
 
 module _ (P : Program) (O : Objects) (E : List Named) (run : IsRun P (hall O) E) (fitting : AsksFitting P)
     (short : HasShortRequests (trace_in E)) (one_shape : SameShape P) where
@@ -130,7 +120,7 @@ module _ (P : Program) (O : Objects) (E : List Named) (run : IsRun P (hall O) E)
           let group : In (report_in E).groups (filter_map (member_in w.path) E) = in_map (λ p. filter_map (member_in p) E) (firsts same_path (filter_map path_in E)) w.path first in
           let r_there = in_filter (member_in w.path) E w.goes.0 (went r w.response w.path) r w.goes.1 (ap (λ b. cond b (Some r) None) (path_itself w.path)) in
           let m = in_flat (λ (g : List ℕ). g) (report_in E).groups (filter_map (member_in w.path) E) r group.0 group.1 r_there in
-          none_answer _ _ (ap not (any_is_true (nat_eq r) (members (report_in E)) m.0 r m.1 (eq-eqb r r refl)))
+          none_answer _ _ (ap not (true_any (nat_eq r) (members (report_in E)) m.0 r m.1 (eq-eqb r r refl)))
 
   none_grouping : grouping_fault (trace_in E) (report_in E) ≡ None
   unfolding grouping_fault

@@ -2,6 +2,7 @@
 use Rattle.std.proofs.Common.{◌≡◌, ℕ, zero, suc, ◌+◌, ◌<◌, ◌≤◌, Bool, true, false, not, cond, List, [], ◌∷◌, ◌++◌, length, take, map, filter_map, Some, None, Option, ◌⊎◌, inl, inr, refl, sym, ap, subst, ◌∙◌, arith, nat_eq, length-append, le_refl}
 use Rattle.std.specs.List.{list_all}
 use Rattle.std.proofs.lemmas.Bool.{cases_eq, cases_lt, cases_order, eq-eqb, eqb-true, and_from, le-ltb}
+use Rattle.script_tree.proofs.Equals.{number_itself, truth_itself}
 use Rattle.script_tree.specs.Programs.{Program}
 use Rattle.script_tree.specs.Datum.{Datum}
 use Rattle.script_meaning.specs.declared.run.Mark.{Mark}
@@ -23,7 +24,7 @@ use Rattle.audit_meaning.specs.Spots.{spot_of, count_of}
 use Rattle.audit_meaning.specs.Members.{answer_at, told, is_entry_of, wants_as, is_good, good_from, performed, Sign, decision, operation, bad, ended, MemberMark, last_sign, sign_of, trail_of, page_number, signs, marks_of, fault_in, same_sign, same_mark, is_bad}
 use Rattle.script_tree.specs.Alike.{same_act}
 use Rattle.audit_meaning.specs.Groups.{marks, marks_by, all_alike, longest, done_by, if_bad, mark_fault, if_fewer, end_by, gives, if_unlike, group_fault}
-use Rattle.script_tree.specs.Paths.{same_page, same_decision, same_path}
+use Rattle.script_tree.specs.Paths.{same_page, same_path}
 use Rattle.audit_completeness.proofs.Asks.{SameShape}
 use Rattle.audit_completeness.proofs.Pages.{page_is}
 use Rattle.history.specs.Names.{Named, came, did, went}
@@ -59,9 +60,21 @@ module _ (P : Program) (O : Objects) (E : List Named) (run : IsRun P (hall O) E)
   told_next : (t : ℕ) (z : Hall) (e : Named) → nth E t ≡ Some e → Told t z → Takes P z e → Told (suc t) (next_hall z e)
   told_next t z (came r q) at_t i takes = record {
     now = now_next P O E t z (came r q) at_t i.now takes;
-    answers = λ x v h. elim (cases_eq r x) [ inl p ↦ let is = fresh x v p h in (λ j. (sym is j).1) ∙ refl ∙ (λ j. told (report_in E) O x (length ((is j).1))) | inr n ↦ i.answers x v (same_visit r x _ z.visits v n h) ];
-    good = λ x v h k l. elim (cases_eq r x) [ inl p ↦ let is = fresh x v p h in let l0 : k < 0 = subst (λ w. k < length w.1) (sym is) l in absurd (omega arith) | inr n ↦ i.good x v (same_visit r x _ z.visits v n h) k l ];
-    comes = λ x v h. elim (cases_eq r x) [ inl p ↦ let is = fresh x v p h in subst (λ w. In E (came x w.0)) is (subst (λ y. In E (came y q)) p (t, at_t)) | inr n ↦ i.comes x v (same_visit r x _ z.visits v n h) ];
+    answers = λ x v h. elim (cases_eq r x) [
+      | inl p ↦ let is = fresh x v p h in
+          (λ j. (sym is j).1) ∙ refl ∙ (λ j. told (report_in E) O x (length ((is j).1)))
+      | inr n ↦ i.answers x v (same_visit r x _ z.visits v n h)
+    ];
+    good = λ x v h k l. elim (cases_eq r x) [
+      | inl p ↦ let is = fresh x v p h in let l0 : k < 0 = subst (λ w. k < length w.1) (sym is) l in
+          absurd (omega arith)
+      | inr n ↦ i.good x v (same_visit r x _ z.visits v n h) k l
+    ];
+    comes = λ x v h. elim (cases_eq r x) [
+      | inl p ↦ let is = fresh x v p h in
+          subst (λ w. In E (came x w.0)) is (subst (λ y. In E (came y q)) p (t, at_t))
+      | inr n ↦ i.comes x v (same_visit r x _ z.visits v n h)
+    ];
   }
     where
       fresh : (x : ℕ) (v : Visit) → r ≡ x → visited r (Some (q, [])) z.visits x ≡ Some v → ◌≡◌ {A = Visit} (q, []) v
@@ -78,8 +91,15 @@ module _ (P : Program) (O : Objects) (E : List Named) (run : IsRun P (hall O) E)
   told_next t z (did r k op c) at_t i takes = record {
     now = now_next P O E t z (did r k op c) at_t i.now takes;
     answers = λ x v h. elim (cases_eq r x) [ inl p ↦ subst (λ y. v.1 ≡ told (report_in E) O y (length v.1)) p (told_here v (more x v p h)) | inr n ↦ i.answers x v (same_visit r x _ z.visits v n h) ];
-    good = λ x v h j l. elim (cases_eq r x) [ inl p ↦ subst (λ y. is_good P O (report_in E) y v.0 j ≡ true) p (good_here v (more x v p h) j l) | inr n ↦ i.good x v (same_visit r x _ z.visits v n h) j l ];
-    comes = λ x v h. elim (cases_eq r x) [ inl p ↦ subst (λ y. In E (came y v.0)) p (subst (λ w. In E (came r w.0)) (more x v p h) (i.comes r u takes.1)) | inr n ↦ i.comes x v (same_visit r x _ z.visits v n h) ];
+    good = λ x v h j l. elim (cases_eq r x) [
+      | inl p ↦ subst (λ y. is_good P O (report_in E) y v.0 j ≡ true) p (good_here v (more x v p h) j l)
+      | inr n ↦ i.good x v (same_visit r x _ z.visits v n h) j l
+    ];
+    comes = λ x v h. elim (cases_eq r x) [
+      | inl p ↦ subst (λ y. In E (came y v.0)) p
+          (subst (λ w. In E (came r w.0)) (more x v p h) (i.comes r u takes.1))
+      | inr n ↦ i.comes x v (same_visit r x _ z.visits v n h)
+    ];
   }
     where
       u : Visit
@@ -89,7 +109,8 @@ module _ (P : Program) (O : Objects) (E : List Named) (run : IsRun P (hall O) E)
       answer = (acted op.act c (z.objects op.object)).1
 
       more : (x : ℕ) (v : Visit) → r ≡ x → visited r (longer (z.visits r) answer) z.visits x ≡ Some v → ◌≡◌ {A = Visit} (u.0, u.1 ++ answer ∷ []) v
-      more x v p h = some_is (sym (subst (λ y. visited r (longer (z.visits r) answer) z.visits y ≡ Some (u.0, u.1 ++ answer ∷ [])) p (visited-here r (longer (z.visits r) answer) z.visits ∙ ap (λ w. longer w answer) takes.1)) ∙ h)
+      more x v p h = some_is (sym (subst (λ y. visited r (longer (z.visits r) answer) z.visits y ≡ Some (u.0, u.1 ++ answer ∷ [])) p
+          (visited-here r (longer (z.visits r) answer) z.visits ∙ ap (λ w. longer w answer) takes.1)) ∙ h)
 
       size : length (u.1 ++ answer ∷ []) ≡ suc (length u.1)
       size = omega (arith, length-append u.1 (answer ∷ []))
@@ -140,23 +161,15 @@ response_in_some r (Answered a y) x h = go (nat_eq r a) refl h
     go true e k = λ i. Answered (sym (eqb-true r a e) i) (some_is k i)
     go false e k = absurd (none_is_not k)
 
-same_number_itself : (n : Option ℕ) → same_page n n ≡ true
-same_number_itself None = refl
-same_number_itself (Some n) = eq-eqb n n refl
-
-same_truth_itself : (b : Bool) → same_decision b b ≡ true
-same_truth_itself true = refl
-same_truth_itself false = refl
-
 same_sign_itself : (s : Sign) → same_sign s s ≡ true
-same_sign_itself (decision b) = same_truth_itself b
+same_sign_itself (decision b) = truth_itself b
 same_sign_itself operation = refl
 same_sign_itself bad = refl
 same_sign_itself (ended a b) = and_from (nat_eq a a) (nat_eq b b) (eq-eqb a a refl) (eq-eqb b b refl)
 
 same_mark_itself : (m : Option MemberMark) → same_mark m m ≡ true
 same_mark_itself None = refl
-same_mark_itself (Some m) = and_from (same_page m.page m.page) (same_sign m.sign m.sign) (same_number_itself m.page) (same_sign_itself m.sign)
+same_mark_itself (Some m) = and_from (same_page m.page m.page) (same_sign m.sign m.sign) (number_itself m.page) (same_sign_itself m.sign)
 
 alike : {A : Type 0} (f : A → Option MemberMark) (xs : List A) → ((i j : ℕ) (x y : A) → nth xs i ≡ Some x → nth xs j ≡ Some y → f x ≡ f y) → all_alike (map f xs) ≡ true
 alike f [] h = refl
@@ -164,7 +177,8 @@ alike {A} f (x ∷ xs) h = all xs (λ j y e. h 0 (suc j) x y refl e)
   where
     all : (ys : List A) → ((j : ℕ) (y : A) → nth ys j ≡ Some y → f x ≡ f y) → list_all (same_mark (f x)) (map f ys) ≡ true
     all [] k = refl
-    all (y ∷ ys) k = and_from (same_mark (f x) (f y)) (list_all (same_mark (f x)) (map f ys)) (subst (λ m. same_mark (f x) m ≡ true) (k 0 y refl) (same_mark_itself (f x))) (all ys (λ j z e. k (suc j) z e))
+    all (y ∷ ys) k = and_from (same_mark (f x) (f y)) (list_all (same_mark (f x)) (map f ys)) (subst (λ m. same_mark (f x) m ≡ true) (k 0 y refl)
+        (same_mark_itself (f x))) (all ys (λ j z e. k (suc j) z e))
 
 not_bad : (page : Option ℕ) (trail : List Mark) (a b i : ℕ) → is_bad (nth (map (λ s. record { page = page; sign = s }) (map sign_of trail ++ ended a b ∷ [])) i) ≡ false
 not_bad page [] a b zero = refl
@@ -288,7 +302,8 @@ module _ (P : Program) (O : Objects) (E : List Named) (run : IsRun P (hall O) E)
       ap (marks_by P O (trace_in E) (report_in E) r) m.asked_is
       ∙ ap (λ n. marks_told (told (report_in E) O r n)) m.all
       ∙ ap (λ s. map (λ z. record { page = page_number P m.request; sign = z }) (map sign_of (trail_of P m.request (told (report_in E) O r (total E r))) ++ last_sign s ∷ [])) m.ends
-      ∙ ap (λ pg. map (λ z. record { page = pg; sign = z }) (map sign_of (trail_of P m.request (told (report_in E) O r (total E r))) ++ ended p.steps (fault_in p.end) ∷ [])) (page_is P m.request (told (report_in E) O r (total E r)) m.response p m.ends)
+      ∙ ap (λ pg. map (λ z. record { page = pg; sign = z }) (map sign_of (trail_of P m.request (told (report_in E) O r (total E r))) ++ ended p.steps
+      (fault_in p.end) ∷ [])) (page_is P m.request (told (report_in E) O r (total E r)) m.response p m.ends)
       ∙ ap (λ t. map (λ z. record { page = p.page; sign = z }) (t ++ ended p.steps (fault_in p.end) ∷ [])) (one_shape m.request q (told (report_in E) O r (total E r)) a m.response x p m.ends e)
     where
       marks_told : List Datum → List MemberMark
@@ -302,11 +317,13 @@ module _ (P : Program) (O : Objects) (E : List Named) (run : IsRun P (hall O) E)
       none_or (first_answer (if_bad P O (trace_in E) (report_in E) i) g) _
       (none_first (if_bad P O (trace_in E) (report_in E) i) g (λ n r at_r.
       let m = member n r at_r in
-      none_answer _ _ (ap (λ ms. is_bad (nth ms i)) (member_marks r p m m.request (told (report_in E) O r (total E r)) m.response m.ends) ∙ not_bad p.page (trail_of P m.request (told (report_in E) O r (total E r))) p.steps (fault_in p.end) i)))
+      none_answer _ _ (ap (λ ms. is_bad (nth ms i)) (member_marks r p m m.request (told (report_in E) O r (total E r)) m.response m.ends)
+      ∙ not_bad p.page (trail_of P m.request (told (report_in E) O r (total E r))) p.steps (fault_in p.end) i)))
       (none_answer _ _ (ap not (alike (λ r. nth (marks P O (trace_in E) (report_in E) r) i) g (λ a b r s at_a at_b.
       let m = member a r at_a in
       let n = member b s at_b in
-      ap (λ ms. nth ms i) (member_marks r p m m.request (told (report_in E) O r (total E r)) m.response m.ends ∙ sym (member_marks s p n m.request (told (report_in E) O r (total E r)) m.response m.ends))))))))
+      ap (λ ms. nth ms i) (member_marks r p m m.request (told (report_in E) O r (total E r)) m.response m.ends
+      ∙ sym (member_marks s p n m.request (told (report_in E) O r (total E r)) m.response m.ends))))))))
       (none_or (first_answer (if_fewer P O (trace_in E) (report_in E)) g) _
       (none_first (if_fewer P O (trace_in E) (report_in E)) g (λ n r at_r.
       let m = member n r at_r in

@@ -104,7 +104,8 @@ module _ (P : Program) (O : Objects) (E : List Named) (run : IsRun P (hall O) E)
       let gc = counted_of E g.x c g.gives in
       let low : g.place < f.place = take_within E f.place g.place g.x g.here in
       ne_eqb c.rid b.1.rid (λ e.
-      let p : g.place ≡ f.place = same_rank P O E run g.place f.place (came c.rid gc.0) (came b.1.rid fc.0) (take_nth E f.place g.place g.x g.here ∙ ap (λ x. Some x) gc.1) (f.here ∙ ap (λ x. Some x) fc.1) e refl in
+      let p : g.place ≡ f.place = same_rank P O E run g.place f.place (came c.rid gc.0) (came b.1.rid fc.0) (take_nth E f.place g.place g.x g.here
+      ∙ ap (λ x. Some x) gc.1) (f.here ∙ ap (λ x. Some x) fc.1) e refl in
       omega arith))))
 
   none_4 : count_of_no_request T R ≡ None
@@ -244,7 +245,8 @@ module _ (P : Program) (O : Objects) (E : List Named) (run : IsRun P (hall O) E)
               subst (λ x. (nat_eq x.rid s.entry.rid && not (nat_lt x.number s.entry.number)) ≡ false) is.6
               (subst (λ y. (nat_eq is.0 y.rid && not (nat_lt is.1 y.number)) ≡ false) f.entry
               (elim (cases_eq is.0 f.r) [
-                | inl p ↦ and_right (nat_eq is.0 f.r) (not (nat_lt is.1 f.k)) (ap not (lt-ltb is.1 f.k (later P O E run g.place f.place (did is.0 is.1 is.2 is.3) (did f.r f.k f.op f.c) at_g f.here p low)))
+                | inl p ↦ and_right (nat_eq is.0 f.r) (not (nat_lt is.1 f.k))
+                    (ap not (lt-ltb is.1 f.k (later P O E run g.place f.place (did is.0 is.1 is.2 is.3) (did f.r f.k f.op f.c) at_g f.here p low)))
                 | inr n ↦ and_left (nat_eq is.0 f.r) (not (nat_lt is.1 f.k)) (ne_eqb is.0 f.r n)
               ]))
 

@@ -1,6 +1,6 @@
 -- A legal history, read by request, is a run.
-use Rattle.std.proofs.Common.{◌≡◌, ℕ, zero, suc, ◌<◌, true, cond, List, [], ◌∷◌, ◌++◌, length, Some, None, Option, ◌⊎◌, inl, inr, refl, sym, ap, subst, ◌∙◌, arith}
-use Rattle.std.proofs.lemmas.Bool.{cases_eq, eq-eqb, ne_eqb}
+use Rattle.std.proofs.Common.{◌≡◌, ℕ, zero, suc, ◌<◌, true, List, [], ◌∷◌, ◌++◌, length, Some, None, Option, ◌⊎◌, inl, inr, refl, sym, ap, subst, ◌∙◌, arith}
+use Rattle.std.proofs.lemmas.Bool.{cases_eq}
 use Rattle.script_tree.specs.Programs.{Program}
 use Rattle.script_tree.specs.Datum.{Datum}
 use Rattle.script_tree.specs.declared.operation.Op.{Op}
@@ -9,7 +9,6 @@ use Rattle.script_tree.specs.declared.operation.Choice.{Choice}
 use Rattle.script_tree.specs.Requests.{Request, IsRequestWithinLimits}
 use Rattle.period.specs.declared.trace.TraceEvent.{TraceEvent}
 use Rattle.period.specs.declared.trace.TraceEvent.TheVariants.{Asked, Answered}
-use Rattle.basis.specs.Lists.{nth}
 use Rattle.basis.proofs.Options.{some_is, none_is_not}
 use Rattle.history.specs.TraceOf.{trace_in}
 use Rattle.script_tree.specs.declared.request.Response.{Response}

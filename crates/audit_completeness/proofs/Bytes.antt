@@ -20,7 +20,7 @@ use Rattle.report_format.specs.Parts.{all_spelled}
 use Rattle.report_format.specs.Reports.{entry_field, report_format, records_of}
 use Rattle.report_format.specs.declared.format.ReportRecord.{ReportRecord}
 use Rattle.report_format.specs.declared.format.ReportRecord.TheVariants as it
-use Rattle.schedule_limit.proofs.Totals.{total, total_append, total_map, total_le, total_same}
+use Rattle.audit_completeness.proofs.Totals.{total, total_append, total_map, total_le, total_same}
 
 -- ---- files of records
 

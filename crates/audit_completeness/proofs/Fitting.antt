@@ -45,9 +45,9 @@ use Rattle.audit_meaning.proofs.Words.{node_at-close, node_at-step, nth_map, ste
 use Rattle.wire.specs.Files.{file_spelling}
 use Rattle.wire.specs.declared.limits.TheConstants.{MOST_SCHEDULE_BYTES}
 use Rattle.schedule_format.specs.Moments.{schedule_format}
-use Rattle.schedule_limit.specs.Fits.{ScheduleFits}
-use Rattle.schedule_limit.proofs.Bytes.{entry_bytes, log_bytes, member_count, moment_bytes, report_least, schedule_is}
-use Rattle.schedule_limit.proofs.Totals.{total, total_append, total_flat, total_map, total_ones, total_within}
+use Rattle.audit_completeness.specs.Fits.{ScheduleFits}
+use Rattle.audit_completeness.proofs.Bytes.{entry_bytes, log_bytes, member_count, moment_bytes, report_least, schedule_is}
+use Rattle.audit_completeness.proofs.Totals.{total, total_append, total_flat, total_map, total_ones, total_within}
 
 -- ---- what an accepted report says
 
@@ -59,7 +59,7 @@ abbrev schedule_in : Verdict → List Moment
 schedule_in (Accepted schedule evaluated steps) = schedule
 schedule_in (Rejected reason) = []
 
-accepted_parts : (a : Option Reason) (c : List Node) (n : Option (List Node)) (l : Option Reason) (report : Report)
+pub accepted_parts : (a : Option Reason) (c : List Node) (n : Option (List Node)) (l : Option Reason) (report : Report)
     (evaluated steps : ℕ) (schedule : List Moment) (v k : ℕ)
     → judged a c n l report evaluated steps ≡ Accepted schedule v k
     → (xs : List Node) × (a ≡ None) × (n ≡ Some xs) × (l ≡ None) × (map (moment report) xs ≡ schedule)
@@ -232,7 +232,8 @@ module _ (P : Program) (O : Objects) (T : List TraceEvent) (R : Report) where
     unfolding second_count
     clash i j c d at_i at_j same lt =
         let test : list_any (λ count. nat_eq count.rid d.rid) (take j R.counts) ≡ false =
-        answer_none _ _ (first_none (λ b. answer_if (list_any (λ count. nat_eq count.rid b.1.rid) b.0) (SecondCount b.1.rid)) (befores R.counts) j (take j R.counts, d) is.second (befores_at R.counts j d at_j)) in
+        answer_none _ _ (first_none (λ b. answer_if (list_any (λ count. nat_eq count.rid b.1.rid) b.0) (SecondCount b.1.rid)) (befores R.counts) j
+        (take j R.counts, d) is.second (befores_at R.counts j d at_j)) in
         true≢false (sym (eq-eqb c.rid d.rid same) ∙ any_false (λ count. nat_eq count.rid d.rid) (take j R.counts) i c test (nth_take R.counts j i c lt at_i))
 
     rids : List ℕ
@@ -253,7 +254,9 @@ module _ (P : Program) (O : Objects) (T : List TraceEvent) (R : Report) where
     unfolding rids count_of_no_request
     rid_asked r m =
         let c = nth_map (λ (c : Count). c.rid) R.counts m.0 r m.1 in
-        let known = is_there (request_of T c.0.rid) (answer_none _ _ (first_none (λ count. answer_if (is_none (request_of T count.rid)) (CountOfNoRequest count.rid)) R.counts m.0 c.0 is.unknown c.1)) in
+        let known = is_there (request_of T c.0.rid)
+        (answer_none _ _ (first_none (λ count. answer_if (is_none (request_of T count.rid)) (CountOfNoRequest count.rid)) R.counts m.0 c.0
+        is.unknown c.1)) in
         let there = request_there T c.0.rid known.0 known.1 in
         subst (In (ids T)) c.2 (id_there T c.0.rid there.0 known.0 there.1)
 
@@ -324,7 +327,8 @@ module _ (P : Program) (O : Objects) (T : List TraceEvent) (R : Report) where
         let number = in_numbers 1 (count_of R r) (suc k) (omega arith) (omega (arith, within)) in
         let none : first_answer (λ n. answer_if (is_none (spot_of R r n)) (OperationWithoutEntry r n)) (numbers 1 (count_of R r)) ≡ None =
         first_none (if_without_entry R) T i (Asked r q) is.missing at_i in
-        let some = is_there (spot_of R r (suc k)) (answer_none _ _ (first_none (λ n. answer_if (is_none (spot_of R r n)) (OperationWithoutEntry r n)) (numbers 1 (count_of R r)) number.0 (suc k) none number.1)) in
+        let some = is_there (spot_of R r (suc k)) (answer_none _ _ (first_none (λ n. answer_if (is_none (spot_of R r n)) (OperationWithoutEntry r n))
+        (numbers 1 (count_of R r)) number.0 (suc k) none number.1)) in
         let s : Spot = some.0 in
         let here = found P O T R is.checks r (suc k) s some.1 in
         let there = in_right (flat_map ends_of R.counts) (map act_of (spots R.logs)) (act_of s) (in_map act_of (spots R.logs) s here.0) in

@@ -15,8 +15,7 @@ use Rattle.log_checker.proofs.EntryFacts.{next_take}
 use Rattle.log_checker.proofs.Firsts.{NoneBelow, found, none_more, none_all}
 use Rattle.log_checker.proofs.GroupFacts.{members_more, members_all}
 use Rattle.log_checker.proofs.Tables.{all_taken}
-use Rattle.group_lockstep.specs.Costs.{cost_of, IsSpentBy, IsSpentInAll, IsSpentTogether}
-use Rattle.group_lockstep.specs.declared.spent.Spent.{Spent}
+use Rattle.group_lockstep.specs.Costs.{cost_of, IsSpentBy, IsSpentInAll}
 use Rattle.group_runner.specs.Told.{Told, fault_of, steps_of, unsound_in}
 use Rattle.group_runner.proofs.Grouped.{steps_both}
 
@@ -46,9 +45,9 @@ module _ (program : Program) (t : Told) where
   cost_both (x ∷ xs) ys = let h = cost_both xs ys in omega (arith, h)
 
   -- what the first n groups spend
-  pub record IsSpentTo (n : ℕ) (spent : Spent) : Type 0 where
-    pub evaluated' : spent.evaluated ≡ cost_to n
-    pub plain' : spent.plain ≡ steps_of program t (members_to n)
+  pub record IsSpentTo (n begun count steps : ℕ) : Type 0 where
+    pub evaluated : count ≡ begun + cost_to n
+    pub plain : steps ≡ steps_of program t (members_to n)
 
   module _ (i : ℕ) (group rids : List ℕ) (number : ℕ) (at : nth groups_told i ≡ Some group) (numbered : number ≡ i) (same : rids ≡ group) where
     fault_here : fault_after (take i groups_told, group) ≡ fault_of program t number rids
@@ -70,26 +69,27 @@ module _ (program : Program) (t : Told) where
         total ∙ ap (λ n. n + spent) is ∙ ap (λ n. steps_of program t (members_to i) + n) (more ∙ ap (steps_of program t) same)
         ∙ sym (steps_both program t (members_to i) group) ∙ ap (steps_of program t) (members_more groups_told i group (members_to i) at refl)
 
-    cost_next : (cost spent sum : ℕ) → cost ≡ cost_to i → spent ≡ cost_of program t rids → sum ≡ cost + spent → sum ≡ cost_to (i + 1)
-    cost_next cost spent sum is more total =
-        let here : spent ≡ cost_of program t group = more ∙ ap (cost_of program t) same in
+    cost_next : (begun before count : ℕ) → before ≡ begun + cost_to i → count ≡ before + cost_of program t rids → count ≡ begun + cost_to (i + 1)
+    cost_next begun before count is more =
+        let here = ap (cost_of program t) same in
         let both = cost_both (take i groups_told) (group ∷ []) in
         let next = ap (cost_of_all program (objects_of t.start) t.trace t.report) (next_take groups_told i group at) in
-        omega (arith, is, here, total, both, next)
+        omega (arith, is, here, more, both, next)
 
-    pub spent_next : (before spent sum : Spent) → IsSpentTo i before → IsSpentBy program t rids spent → IsSpentTogether before spent sum → IsSpentTo (i + 1) sum
-    spent_next before spent sum is more total = record {
-      evaluated' = cost_next before.evaluated spent.evaluated sum.evaluated is.evaluated' more.evaluated' total.evaluated';
-      plain' = steps_next before.plain spent.plain sum.plain is.plain' more.plain' total.plain';
+    pub spent_next : (begun before count steps more sum : ℕ) → IsSpentTo i begun before steps → IsSpentBy program t rids before count more
+        → sum ≡ steps + more → IsSpentTo (i + 1) begun count sum
+    spent_next begun before count steps more sum is here total = record {
+      evaluated = cost_next begun before count is.evaluated here.evaluated;
+      plain = steps_next steps more sum is.plain here.plain total;
     }
 
   pub all_sound : (n : ℕ) → n ≡ length groups_told → AreSound n → unsound_in program t ≡ None
   unfolding unsound_group
   all_sound n is sound = none_all fault_after (befores groups_told) (subst AreSound (is ∙ sym (befores_count groups_told)) sound)
 
-  pub spent_all : (n : ℕ) (spent : Spent) → n ≡ length groups_told → IsSpentTo n spent → IsSpentInAll program t spent
+  pub spent_all : (n begun count steps : ℕ) → n ≡ length groups_told → IsSpentTo n begun count steps → IsSpentInAll program t begun count steps
   unfolding plain_steps evaluated_nodes
-  spent_all n spent is all = record {
-    evaluated' = all.evaluated' ∙ ap (cost_of_all program (objects_of t.start) t.trace t.report) (all_taken groups_told n is);
-    plain' = all.plain' ∙ ap (steps_of program t) (members_all t.report n (members_to n) is refl);
+  spent_all n begun count steps is all = record {
+    evaluated = all.evaluated ∙ ap (λ gs. begun + cost_of_all program (objects_of t.start) t.trace t.report gs) (all_taken groups_told n is);
+    plain = all.plain ∙ ap (steps_of program t) (members_all t.report n (members_to n) is refl);
   }

@@ -4,7 +4,5 @@
 
 mod groups;
 mod lockstep;
-mod spent;
 
 pub use groups::run_groups;
-pub use spent::Spent;

@@ -12,11 +12,13 @@ use crate::member::Member;
 use crate::runner::Runner;
 use audit_meaning::reason::Reason;
 use basis::OrMemory;
+use multi_nodes::Evaluations;
 use script_code::translate::Code;
 use std::alloc::{AllocError, Global};
+use std::sync::ledger::Ledger;
 
 /// The steps of several members. More than 64 bits hold are answered as want of memory.
-fn together(steps: u64, more: u64) -> Result<u64, AllocError>
+pub fn together(steps: u64, more: u64) -> Result<u64, AllocError>
     ensures { IfOk result (λ sum. sum ≡ steps + more) }
 {
     steps.checked_add(more).ok_or(AllocError)
@@ -66,18 +68,20 @@ fn run_beside(
 }
 
 /// Runs the members of a group of this number, one after the other: the first that is wrong with the
-/// group, else the steps that its members spend.
-pub fn run_one_by_one(
+/// group, else the steps that its members spend. At each step a node is evaluated.
+pub fn run_one_by_one<L: Ledger>(
     alloc: Global,
     code: &Code,
     evidence: &Evidence<'_>,
     number: u32,
     rids: &[u32],
+    evaluations: &mut Evaluations<L>,
 ) -> Result<u64, OrMemory<Reason>>
     requires { IsSome rids.now }
-    ensures { (program : AnyProgram) → IsCodeOf program code.now
+    ensures told { (program : AnyProgram) → IsCodeOf program code.now
         → IsFaultOr (fault_of program evidence.now number rids.now)
         (λ steps. steps ≡ steps_of program evidence.now rids.now) result }
+    ensures counts { IfOk result (λ steps. evaluations.new ≡ evaluations.old + steps) }
 {
     let Some((first_rid, others)) = rids.split_first() else {
         unreachable!()
@@ -90,6 +94,9 @@ pub fn run_one_by_one(
     let run = run_members(runner, *first_rid, others)?;
     match run.findings.reason(number)? {
         Some(reason) => Err(OrMemory::Other(reason)),
-        None => Ok(run.steps),
+        None => {
+            evaluations.add(run.steps)?;
+            Ok(run.steps)
+        }
     }
 }

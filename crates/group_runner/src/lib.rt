@@ -11,5 +11,5 @@ mod run;
 mod runner;
 
 pub use evidence::Evidence;
-pub use groups::run_one_by_one;
+pub use groups::{run_one_by_one, together};
 pub use runner::is_same_response;

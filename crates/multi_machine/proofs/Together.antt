@@ -31,7 +31,7 @@ use Rattle.multi_run.specs.Answering.{AllAnswered}
 use Rattle.multi_machine.specs.Lockstep.{Reaches, begun, unseen, InLockstep, ComesTo, Rises, LeavesProgress, HavePage}
 use Rattle.multi_machine.specs.Responses.{response_at, normal_end, fault_end, no_page_end}
 use Rattle.multi_run.specs.Runs.{Runs, exec_at, going_at}
-use Rattle.multi_machine.specs.Together.{page_at, HaveEntry, IsFresh, StandsAfter, AllWant, AllEnd}
+use Rattle.multi_machine.specs.Together.{page_at, HaveEntry, IsFresh, RoseBy, StandsAfter, AllWant, AllEnd}
 use Rattle.multi_machine.specs.declared.ending.Ended.{Ended}
 use Rattle.multi_machine.specs.declared.machine.Waiting.{Waiting}
 use Rattle.multi_run.specs.declared.run.Run as group
@@ -166,45 +166,59 @@ leaves_refused = record { costs = λ i p. refl; trail = λ i p number. refl }
 
 -- ---- a group that runs on
 
--- what was spent before is what the count said
-rises_to : (before after' now : ℕ) → Rises before after' before now → now ≡ after'
-rises_to before after' now rises = omega (arith, rises)
+-- the count rose by what was spent
+risen : (begun spent before after' now : ℕ) → before ≡ begun + spent → Rises before after' spent now → after' ≡ begun + now
+risen begun spent before after' now rose rises = omega (arith, rose, rises)
 
 module _ (program : Program) (qs : List Request) (code : Code) (told : ℕ → List Datum) (old new : group.Run)
-    (before after' : ℕ) (s : StandsAfter program qs code told old before) where
+    (begun before after' : ℕ) (rose : RoseBy begun before (StandsAfter program qs code told old)) where
+  abbrev spent : ℕ
+  spent = rose.0
+
+  abbrev s : StandsAfter program qs code told old spent
+  s = rose.2
+
   pub over_ends : Runs before after' qs code old (Ok went.Over) new
-      → AllEnd program qs told after' (normal_end new)
+      → RoseBy begun after' (λ k. AllEnd program qs told k (normal_end new))
   over_ends runs =
       let e = normal_end new in
-      let r = stays.over qs code s.entry.place told old new before before after' s.lockstep runs in
-      subst (λ k. AllEnd program qs told k e) (rises_to before after' r.0 r.1)
-      (all_end program qs code s.entry told s.means s.some s.page (λ i p. goes (on []) p) new r.0 e leaves_over r.2 refl (λ i number cs ops. refl))
+      let r = stays.over qs code s.entry.place told old new spent before after' s.lockstep runs in (
+        r.0,
+        risen begun spent before after' r.0 rose.1 r.1,
+        all_end program qs code s.entry told s.means s.some s.page (λ i p. goes (on []) p) new r.0 e leaves_over r.2 refl (λ i number cs ops. refl),
+      )
 
-  pub fault_ends : (f : ScriptFault) → Runs before after' qs code old (Err (Fault f)) new → AllEnd program qs told after' (fault_end new (end.Fault f) f)
+  pub fault_ends : (f : ScriptFault) → Runs before after' qs code old (Err (Fault f)) new
+      → RoseBy begun after' (λ k. AllEnd program qs told k (fault_end new (end.Fault f) f))
   fault_ends f runs =
       let e = fault_end new (end.Fault f) f in
-      let r = stays.faults qs code s.entry.place told old new before before after' f s.lockstep runs in
-      subst (λ k. AllEnd program qs told k e) (rises_to before after' r.0 r.1)
-      (all_end program qs code s.entry told s.means s.some s.page (λ i p. stops (fault f) p) new r.0 e (leaves_fault f) r.2 refl (λ i number cs ops. refl))
+      let r = stays.faults qs code s.entry.place told old new spent before after' f s.lockstep runs in (
+        r.0,
+        risen begun spent before after' r.0 rose.1 r.1,
+        all_end program qs code s.entry told s.means s.some s.page (λ i p. stops (fault f) p) new r.0 e (leaves_fault f) r.2 refl (λ i number cs ops. refl),
+      )
 
   pub all_want : (w : Waiting) → w.code.now ≡ code → w.group ≡ qs → w.run ≡ new
-      → Runs before after' qs code old (Ok (went.Wants w.ops)) new → AllWant program qs told after' w
+      → Runs before after' qs code old (Ok (went.Wants w.ops)) new → RoseBy begun after' (λ k. AllWant program qs told k w)
   all_want w is_code is_group is_run runs =
-      let r = stays.wants' qs code s.entry.place told old new before before after' w.ops s.lockstep runs in
-      record {
-        requests = is_group;
-        wants' = λ i lt. ap (λ c. c.ending) (tells.conducts program qs code s.entry told
-            (λ j p. stops (wants (get_or w.ops j nothing)) p) new r.0 s.means s.page r.2 i lt);
-        was = old;
-        earlier = before;
-        before = before;
-        after' = after';
-        stood = subst (λ k. StandsAfter program qs k told old before) (sym is_code) s;
-        runs =
-            subst (λ k. Runs before after' qs k old (Ok (went.Wants w.ops)) w.run) (sym is_code)
-            (subst (λ n. Runs before after' qs code old (Ok (went.Wants w.ops)) n) (sym is_run) runs);
-        rises = omega arith;
-      }
+      let r = stays.wants' qs code s.entry.place told old new spent before after' w.ops s.lockstep runs in (
+        r.0,
+        risen begun spent before after' r.0 rose.1 r.1,
+        record {
+          requests = is_group;
+          wants' = λ i lt. ap (λ c. c.ending) (tells.conducts program qs code s.entry told
+              (λ j p. stops (wants (get_or w.ops j nothing)) p) new r.0 s.means s.page r.2 i lt);
+          was = old;
+          earlier = spent;
+          before = before;
+          after' = after';
+          stood = subst (λ k. StandsAfter program qs k told old spent) (sym is_code) s;
+          runs =
+              subst (λ k. Runs before after' qs k old (Ok (went.Wants w.ops)) w.run) (sym is_code)
+              (subst (λ n. Runs before after' qs code old (Ok (went.Wants w.ops)) n) (sym is_run) runs);
+          rises = r.1;
+        },
+      )
 
 -- ---- a group that gets its answers
 

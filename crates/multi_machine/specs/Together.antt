@@ -1,5 +1,5 @@
 -- How the members of a group went on together: what each wants, or how each ends.
-use Rattle.std.specs.Prelude.{◌≡◌, ◌≢◌, ◌<◌, ◌⊎◌, ◌++◌, ℕ, List, [], length, map, get_or, Option, option_map, Ok}
+use Rattle.std.specs.Prelude.{◌≡◌, ◌≢◌, ◌<◌, ◌+◌, ◌⊎◌, ◌++◌, ℕ, List, [], length, map, get_or, Option, option_map, Ok}
 use Rattle.script_tree.specs.Datum.{Datum}
 use Rattle.script_tree.specs.Declarations.{page_in}
 use Rattle.script_tree.specs.Programs.{Program}
@@ -121,8 +121,12 @@ AreApart program qs told i j = (page_at program qs i ≢ page_at program qs j)
 abbrev pub MembersPart : Program → List Request → (told : ℕ → List Datum) → Type 0
 MembersPart program qs told = TwoOf (length qs) (AreApart program qs told)
 
--- After these answers, and when so many nodes were evaluated, the members are so far.
-abbrev pub IsStep : Program → List Request → (told : ℕ → List Datum) → (spent : ℕ) → GroupStep → Type 0
-IsStep program qs told spent (Wants w) = AllWant program qs told spent w
-IsStep program qs told spent (Ends e) = AllEnd program qs told spent e
-IsStep program qs told spent Differ = MembersPart program qs told
+-- The count rose from this one on, by a number of which this holds.
+abbrev pub RoseBy : (begun count : ℕ) → (holds : ℕ → Type 0) → Type 0
+RoseBy begun count holds = (spent : ℕ) × (count ≡ begun + spent) × holds spent
+
+-- After these answers the members are so far, and by what they spent the count of nodes rose since they began.
+abbrev pub IsStep : Program → List Request → (told : ℕ → List Datum) → (begun count : ℕ) → GroupStep → Type 0
+IsStep program qs told begun count (Wants w) = RoseBy begun count (λ spent. AllWant program qs told spent w)
+IsStep program qs told begun count (Ends e) = RoseBy begun count (λ spent. AllEnd program qs told spent e)
+IsStep program qs told begun count Differ = MembersPart program qs told

@@ -8,6 +8,7 @@ ghost use Rattle.multi_machine.specs.Together.{
   HaveEntry,
   IsFresh,
   IsStep,
+  RoseBy,
   SomeLackEntry,
   StandsAfter,
 };
@@ -61,10 +62,10 @@ impl<'c> Waiting<'c> {
         answers: Multi,
         evaluations: &mut Evaluations<L>,
     ) -> Result<GroupStep<'c>, AllocError>
-        ensures { (program : Program) (qs : List Asked) (told told' : ℕ → List Datum)
-            → IsStep program qs told evaluations.old (Wants self.entry)
+        ensures { (program : Program) (qs : List Asked) (told told' : ℕ → List Datum) (begun : ℕ)
+            → IsStep program qs told begun evaluations.old (Wants self.entry)
             → ((i : ℕ) → i < length qs → told' i ≡ told i ++ member_value answers i ∷ [])
-            → IfOk result (IsStep program qs told' evaluations.new) }
+            → IfOk result (IsStep program qs told' begun evaluations.new) }
     {
         let Waiting {
             code,
@@ -104,8 +105,8 @@ pub fn start<'c, L: Ledger>(
     group: Group,
     evaluations: &mut Evaluations<L>,
 ) -> Result<GroupStep<'c>, AllocError>
-    ensures { (program : Program) → IsCodeOf program code.now → evaluations.old ≡ 0
-        → IfOk result (IsStep program group (λ i. []) evaluations.new) }
+    ensures { (program : Program) → IsCodeOf program code.now
+        → IfOk result (IsStep program group (λ i. []) evaluations.old evaluations.new) }
 {
     let requests = group.requests();
     let members = requests.len();
@@ -173,9 +174,9 @@ fn go_on<'c, L: Ledger>(
     mut run: Run,
     evaluations: &mut Evaluations<L>,
 ) -> Result<GroupStep<'c>, AllocError>
-    ensures { (program : Program) (told : ℕ → List Datum)
-        → StandsAfter program group code.now told run evaluations.old
-        → IfOk result (IsStep program group told evaluations.new) }
+    ensures { (program : Program) (told : ℕ → List Datum) (begun : ℕ)
+        → RoseBy begun evaluations.old (StandsAfter program group code.now told run)
+        → IfOk result (IsStep program group told begun evaluations.new) }
 {
     match run.run(code, &group, evaluations) {
         Ok(Went::Wants(ops)) => Ok(GroupStep::Wants(Waiting {

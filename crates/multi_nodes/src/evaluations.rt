@@ -1,4 +1,4 @@
-ghost use Rattle.std.specs.Prelude.{◌≡◌, ◌+◌, ◌<◌};
+ghost use Rattle.std.specs.Prelude.{◌≡◌, ◌+◌, ◌<◌, OnOk};
 ghost use Rattle.basis.specs.UnlessMemory.{Answers, UnlessMemory};
 ghost use Rattle.script_nodes.specs.Evaluated.{evaluated};
 
@@ -9,7 +9,7 @@ use script_nodes::steps::Steps;
 use script_tree::request::Request;
 use script_tree::value::Value;
 use script_values::{Called, Faulted};
-use std::alloc::Global;
+use std::alloc::{AllocError, Global};
 use std::marker::Model;
 use std::sync::ledger::{Blank, Ledger};
 
@@ -17,17 +17,19 @@ use std::sync::ledger::{Blank, Ledger};
 #[derive(Drop)]
 pub struct Evaluations<L: Ledger> {
     steps: Steps<L>,
+    /// Those of members that were run one by one, which no ledger counts.
+    one_by_one: u64,
     count: u64,
 }
 
 impl<L: Ledger> Model for Evaluations<L> {
-    ghost use Rattle.std.specs.Prelude.{ℕ, ◌≡◌};
+    ghost use Rattle.std.specs.Prelude.{ℕ, ◌≡◌, ◌+◌};
 
     ghost Value = { ℕ };
 
-    ghost view = { λ e. e.steps };
+    ghost view = { λ e. e.steps + e.one_by_one };
 
-    ghost invariant = { λ e. e.count ≡ e.steps };
+    ghost invariant = { λ e. e.count ≡ e.steps + e.one_by_one };
 }
 
 impl<L: Ledger> Evaluations<L> {
@@ -40,6 +42,7 @@ impl<L: Ledger> Evaluations<L> {
     {
         Evaluations {
             steps: Steps::new(blank),
+            one_by_one: 0,
             count: 0,
         }
     }
@@ -48,6 +51,19 @@ impl<L: Ledger> Evaluations<L> {
         ensures { result ≡ self.now }
     {
         self.count
+    }
+
+    /// Counts the nodes of members that were run one by one. Where 64 bits don't hold the sum, that
+    /// is answered as want of memory.
+    pub fn add(&mut self, nodes: u64) -> Result<(), AllocError>
+        ensures { OnOk result (self.new ≡ self.old + nodes) }
+    {
+        let Some(count) = self.count.checked_add(nodes) else {
+            return Err(AllocError);
+        };
+        self.one_by_one += nodes;
+        self.count = count;
+        Ok(())
     }
 
     /// What a node comes to. Where 64 bits don't hold one more, that is answered as want of memory.

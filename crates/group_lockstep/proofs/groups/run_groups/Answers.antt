@@ -12,7 +12,7 @@ returns-in_err-more g c = λ program of.
     let group = c.group-item.result in
     let at = sym (ap (λ xs. nth xs i) c.groups-group-items.ensures) ∙ some_at c.groups-group-items.result.now i group c.loop-number-test.true c.group-item.is in
     carried _ _ _ c.in_err-more.field-0.0 c.from_residual-in_err-more.result c.from_residual-in_err-more.ensures.1 (c.in_err-more.ensures program of)
-    (λ reason is. unsound_at program t i group c.rids.result.now c.in_ok-narrow.field-0 at c.in_ok-narrow.ensures c.rids.ensures.rids reason (c.loop-number.invariant.sound program of) is)
+    (λ reason is. unsound_at program t i group c.rids-rids.result.now c.in_ok-narrow.field-0 at c.in_ok-narrow.ensures c.rids-rids.ensures.rids reason (c.loop-number.invariant.sound program of) is)
 
 pub loop-number-preserved : goal.loop-number-preserved
 loop-number-preserved g c =
@@ -22,10 +22,11 @@ loop-number-preserved g c =
     let at = sym (ap (λ xs. nth xs i) c.groups-group-items.ensures) ∙ some_at c.groups-group-items.result.now i group c.loop-number-test.true c.group-item.is in
     record {
       sound = λ program of.
-          sound_more program t i group c.rids.result.now c.in_ok-narrow.field-0 at c.in_ok-narrow.ensures c.rids.ensures.rids (c.loop-number.invariant.sound program of) (c.in_ok-more.ensures program of).0;
+          sound_more program t i group c.rids-rids.result.now c.in_ok-narrow.field-0 at c.in_ok-narrow.ensures c.rids-rids.ensures.rids (c.loop-number.invariant.sound program of) (c.in_ok-more.ensures program of).0;
       spends = λ program of.
-          spent_next program t i group c.rids.result.now c.in_ok-narrow.field-0 at c.in_ok-narrow.ensures c.rids.ensures.rids c.loop-number.spent c.in_ok-more.more c.in_ok-spent.spent
-          (c.loop-number.invariant.spends program of) (c.in_ok-more.ensures program of).1 c.in_ok-spent.ensures;
+          spent_next program t i group c.rids-rids.result.now c.in_ok-narrow.field-0 at c.in_ok-narrow.ensures c.rids-rids.ensures.rids
+          c.args.evaluations.now c.loop-number.evaluations c.run_group.new.evaluations c.loop-number.steps c.in_ok-more.more c.in_ok-steps.steps
+          (c.loop-number.invariant.spends program of) (c.in_ok-more.ensures program of).1 c.in_ok-steps.ensures;
     }
 
 pub returns : goal.returns
@@ -34,5 +35,5 @@ returns g c = λ program of.
     let n = c.loop-number.number in
     let all : n ≡ length (groups_told program t) = omega (arith, c.loop-number-test.false, c.loop-number.auto.number-end, ap length c.groups-group-items.ensures) in (
       all_sound program t n all (c.loop-number.invariant.sound program of),
-      spent_all program t n c.loop-number.spent all (c.loop-number.invariant.spends program of),
+      spent_all program t n c.args.evaluations.now c.loop-number.evaluations c.loop-number.steps all (c.loop-number.invariant.spends program of),
     )

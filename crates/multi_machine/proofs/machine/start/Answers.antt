@@ -1,24 +1,24 @@
-use Rattle.std.proofs.Common.{rules, ◌≡◌, [], true, false, sym, ap, subst, ◌∙◌}
+use Rattle.std.proofs.Common.{rules, ◌≡◌, ◌+◌, [], true, false, sym, ap, subst, ◌∙◌, arith}
 use Rattle.std.proofs.lemmas.List.{get_or_default}
 use Rattle.script_code.specs.Translated.{at_path, entry_of}
 use Rattle.multi_nodes.specs.Members.{nobody, request_at}
-use Rattle.multi_machine.specs.Together.{StandsAfter, AllEnd, HaveEntry, SomeLackEntry}
-use Rattle.multi_machine.specs.Responses.{no_page_end}
+use Rattle.multi_machine.specs.Together.{HaveEntry, SomeLackEntry}
 use Rattle.multi_machine.proofs.Apart.{pages_part}
 use Rattle.multi_machine.proofs.Together.{end_without_page, have_page, stands_first}
 use Rattle.multi_machine.proofs.machine.start.Goals as goal
 
 pub returns-in-None : goal.returns-in-None
-returns-in-None g c program means zero =
+returns-in-None g c program means =
     let qs = c.args.group in
     let code = c.args.code.now in
     let yes : c.have_page.result ≡ true = search rules in
     let have = subst (λ r. HaveEntry r code c.page-page.result) c.requests-requests.ensures.requests (c.have_page.ensures.all yes) in
     let none = subst (HaveEntry qs code) c.in-None.is have in
-    subst (λ k. AllEnd program qs (λ i. []) k no_page_end) (sym zero) (end_without_page program qs code means none)
+    let same : c.args.evaluations.now ≡ c.args.evaluations.now + 0 = omega arith in
+    (0, same, end_without_page program qs code means none)
 
 pub returns : goal.returns
-returns g c program means zero =
+returns g c program means =
     let qs = c.args.group in
     let code = c.args.code.now in
     let entry = c.in-Some.entry in
@@ -26,10 +26,11 @@ returns g c program means zero =
     let have = subst (λ r. HaveEntry r code c.page-page.result) c.requests-requests.ensures.requests (c.have_page.ensures.all yes) in
     let found = have_page qs code entry (subst (HaveEntry qs code) c.in-Some.is have) in
     let stands = stands_first program qs code (entry_of entry) c.in_ok-run-in-Some.run' means c.requests-requests.ensures.some found c.in_ok-run-in-Some.ensures in
-    c.go_on.ensures program (λ i. []) (subst (λ k. StandsAfter program qs code (λ i. []) c.in_ok-run-in-Some.run' k) (sym zero) stands)
+    let same : c.args.evaluations.now ≡ c.args.evaluations.now + 0 = omega arith in
+    c.go_on.ensures program (λ i. []) c.args.evaluations.now (0, same, stands)
 
 pub returns-then-not-have_page : goal.returns-then-not-have_page
-returns-then-not-have_page g c program means zero =
+returns-then-not-have_page g c program means =
     let qs = c.args.group in
     let code = c.args.code.now in
     let no : c.have_page.result ≡ false = search rules in

@@ -11,7 +11,10 @@ use Rattle.basis.specs.Options.{◌>>=◌}
 use Rattle.clap.specs.Faults.{fault_of}
 use Rattle.clap.specs.Simple.{matches_of}
 use Rattle.clap.specs.Walk.{first_of, is_empty}
-use Rattle.command_words.specs.RecordWords.{RecordWords, if_sound, is_sound, number_of, number_or, record_app, record_words, taken_words, words_in}
+use Rattle.command_words.specs.RecordWords.{RecordWords, if_sound, is_sound, number_of, number_or, record_app, taken_words, words_in}
+use Rattle.command_words.specs.AuditWords.{AuditWords, taken_words as audit_taken}
+use Rattle.command_words.specs.Commands.{a_check, a_replay, a_recording, an_audit, usage, command, if_read}
+use Rattle.command_words.specs.Words.{ReplayNames, in_four, in_one, names_in}
 use Rattle.command_words.specs.WordsApp.{taken}
 
 -- ---- numbers
@@ -84,19 +87,40 @@ in_values value w e =
     } in
     sound found w seed.1
 
-in_words : (words : List (List ℕ)) (w : RecordWords) → record_words words ≡ Some w → is_sound w.trace w.report w.workers ≡ true
+in_taken : (words : List (List ℕ)) (w : RecordWords) → taken_words words ≡ Some w → is_sound w.trace w.report w.workers ≡ true
 unfolding taken
-in_words [] w e = cc
-in_words (command ∷ words) w e =
-    let here = if_true (bytes_eq command (codes "record")) (taken_words words) w e in
-    let taken = if_true (is_empty (fault_of record_app words)) (words_in (λ id. first_of id (matches_of record_app words))) w here.1 in
+in_taken words w e =
+    let taken = if_true (is_empty (fault_of record_app words)) (words_in (λ id. first_of id (matches_of record_app words))) w e in
     in_values (λ id. first_of id (matches_of record_app words)) w taken.1
+
+is_recording : (v : Option RecordWords) (w : RecordWords) → if_read a_recording v ≡ a_recording w → v ≡ Some w
+is_recording (Some v) w e = let same : v ≡ w = cc in ap (λ u. Some u) same
+is_recording None w e = cc
+
+in_command : (a b c d : Bool) (name : Option (List ℕ)) (names : Option ReplayNames) (v : Option RecordWords) (x : Option AuditWords) (w : RecordWords)
+    → cond a (if_read a_check name) (cond b (if_read a_replay names) (cond c (if_read a_recording v) (cond d (if_read an_audit x) usage)))
+    ≡ a_recording w → v ≡ Some w
+in_command true b c d (Some name) names v x w e = absurd cc
+in_command true b c d None names v x w e = absurd cc
+in_command false true c d name (Some names) v x w e = absurd cc
+in_command false true c d name None v x w e = absurd cc
+in_command false false true d name names v x w e = is_recording v w e
+in_command false false false true name names v (Some x) w e = absurd cc
+in_command false false false true name names v None w e = absurd cc
+in_command false false false false name names v x w e = absurd cc
+
+in_words : (words : List (List ℕ)) (w : RecordWords) → command words ≡ a_recording w → is_sound w.trace w.report w.workers ≡ true
+in_words [] w e = absurd cc
+in_words (name ∷ words) w e =
+    in_taken words w
+    (in_command (bytes_eq name (codes "check")) (bytes_eq name (codes "replay")) (bytes_eq name (codes "record")) (bytes_eq name (codes "audit"))
+    (in_one (names_in words)) (in_four (names_in words)) (taken_words words) (audit_taken words) w e)
 
 first_true : (a b : Bool) → (not a && b) ≡ true → a ≡ true → ⊥
 first_true true b e is = cc
 first_true false b e is = cc
 
 -- the trace and the report have different names
-pub other_names : (words : List (List ℕ)) (w : RecordWords) → record_words words ≡ Some w → w.trace ≢ w.report
+pub other_names : (words : List (List ℕ)) (w : RecordWords) → command words ≡ a_recording w → w.trace ≢ w.report
 other_names words w e same =
     first_true (bytes_eq w.trace w.report) _ (in_words words w e) ((bytes_eq-Decides w.trace w.report).1 same)

@@ -1,6 +1,5 @@
 -- What the words of a command line ask `audit` to do: five names and one option, read as the command-line library reads a simple command.
 use Rattle.std.specs.Prelude.{ℕ, true, if◌then◌else◌, List, [], ◌∷◌, fold, codes, Option, Some, None}
-use Rattle.std.specs.Str.{bytes_eq}
 use Rattle.basis.specs.Options.{◌>>=◌}
 use Rattle.clap.specs.Simple.{App, new_app, on_top, with_rule}
 use Rattle.clap.specs.Walk.{Rule}
@@ -56,8 +55,3 @@ words_in value = words_of value (number_or 1 (value (codes "workers")))
 -- what the words behind `audit` say, where the simple command takes them
 abbrev pub taken_words : List (List ℕ) → Option AuditWords
 taken_words words = taken audit_app words_in words
-
--- `audit`, and words that the simple command takes
-abbrev pub audit_words : List (List ℕ) → Option AuditWords
-audit_words [] = None
-audit_words (command ∷ words) = if bytes_eq command (codes "audit") then taken_words words else None

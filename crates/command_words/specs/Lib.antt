@@ -1,4 +1,5 @@
 pub mod AuditWords
+pub mod Commands
 pub mod NamesView
 pub mod RecordWords
 pub mod Words

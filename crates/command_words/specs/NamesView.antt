@@ -1,11 +1,14 @@
 -- The names that are lent, by their bytes.
 use Rattle.std.specs.Prelude.{option_map}
 use Rattle.command_words.specs.AuditWords as meant_audit
+use Rattle.command_words.specs.Commands as meant_command
 use Rattle.command_words.specs.RecordWords as meant_record
 use Rattle.command_words.specs.Words as meant
 use Rattle.command_words.specs.declared.audit_words.AuditWords.{AuditWords}
+use Rattle.command_words.specs.declared.command.Command.{Command}
+use Rattle.command_words.specs.declared.command.Command.TheVariants.{Audit, Check, Record, Replay, Usage}
 use Rattle.command_words.specs.declared.record_words.RecordWords.{RecordWords}
-use Rattle.command_words.specs.declared.words.ReplayNames.{ReplayNames}
+use Rattle.command_words.specs.declared.replay_names.ReplayNames.{ReplayNames}
 
 -- the names of replay's inputs, by their bytes
 abbrev pub names_of : ReplayNames → meant.ReplayNames
@@ -34,3 +37,11 @@ audit_words_of w = record {
   schedule = w.schedule.now;
   workers = w.workers;
 }
+
+-- the command, with the bytes of its words
+abbrev pub command_of : Command → meant_command.Command
+command_of (Check name) = meant_command.a_check name.now
+command_of (Replay names) = meant_command.a_replay (names_of names)
+command_of (Record words) = meant_command.a_recording (record_words_of words)
+command_of (Audit words) = meant_command.an_audit (audit_words_of words)
+command_of Usage = meant_command.usage

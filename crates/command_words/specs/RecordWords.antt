@@ -95,8 +95,3 @@ words_in value =
 -- what the words behind `record` say, where the simple command takes them
 abbrev pub taken_words : List (List ℕ) → Option RecordWords
 taken_words words = taken record_app words_in words
-
--- `record`, and words that the simple command takes
-abbrev pub record_words : List (List ℕ) → Option RecordWords
-record_words [] = None
-record_words (command ∷ words) = if bytes_eq command (codes "record") then taken_words words else None

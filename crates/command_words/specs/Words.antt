@@ -1,4 +1,4 @@
--- What the words of a command line ask for.
+-- The names among the words behind `check` and `replay`.
 use Rattle.std.specs.Prelude.{ℕ, Bool, false, ◌==◌, if◌then◌else◌, List, [], ◌∷◌, Option, Some, None, option_map, codes}
 use Rattle.std.specs.Str.{bytes_eq}
 
@@ -32,11 +32,6 @@ abbrev pub in_four : Option (List (List ℕ)) → Option ReplayNames
 in_four (Some names) = four_names names
 in_four None = None
 
--- `replay` and four names
-abbrev pub replay_names : List (List ℕ) → Option ReplayNames
-replay_names [] = None
-replay_names (command ∷ words) = if bytes_eq command (codes "replay") then in_four (names_in words) else None
-
 -- the name, where it is one alone
 abbrev pub one_name : List (List ℕ) → Option (List ℕ)
 one_name (name ∷ []) = Some name
@@ -46,8 +41,3 @@ one_name names = None
 abbrev pub in_one : Option (List (List ℕ)) → Option (List ℕ)
 in_one (Some names) = one_name names
 in_one None = None
-
--- `check` and a name
-abbrev pub check_name : List (List ℕ) → Option (List ℕ)
-check_name [] = None
-check_name (command ∷ words) = if bytes_eq command (codes "check") then in_one (names_in words) else None

@@ -1,15 +1,12 @@
 ghost use Rattle.std.specs.Prelude.{◌≡◌, ◌++◌, ◌∷◌, [], drop, map, option_map, IfOk, OnOk, OnErr, string_bytes};
 ghost use Rattle.std.specs.Vec.Iter.{into_iter_items};
-ghost use Rattle.clap.specs.Matches.{found_of};
-ghost use Rattle.clap.specs.Simple.{app_of};
-ghost use Rattle.command_words.specs.Words.{in_four, in_one, is_option, names_in};
-ghost use Rattle.command_words.specs.WordsApp.{found_names, replay_app};
-ghost use Rattle.command_words.specs.NamesView.{audit_words_of, names_of, record_words_of};
+ghost use Rattle.command_words.specs.Commands.{command, named_command};
+ghost use Rattle.command_words.specs.Words.{in_one, is_option, names_in};
+ghost use Rattle.command_words.specs.NamesView.{command_of};
 
-use crate::arguments::{Argument, refused, simple_command};
-use crate::audit_words::{self, AuditWords};
-use crate::record_words::{RecordWords, taken_words};
-use clap::{ArgMatches, Command};
+use crate::command::Command;
+use crate::replay_names::four_names;
+use crate::{audit_words, record_words};
 use std::alloc::{AllocError, Global};
 use std::env::Args;
 use std::marker::Model;
@@ -29,20 +26,7 @@ impl Model for Words {
     ghost view = { λ words. map string_bytes words.items.items };
 }
 
-/// The names of replay's inputs.
-#[derive(Clone, Copy)]
-pub struct ReplayNames<'a> {
-    pub program: &'a str,
-    pub state: &'a str,
-    pub trace: &'a str,
-    pub schedule: &'a str,
-}
-
 impl Words {
-    ghost use Rattle.command_words.specs.AuditWords.{audit_words};
-    ghost use Rattle.command_words.specs.RecordWords.{record_words};
-    ghost use Rattle.command_words.specs.Words.{check_name, replay_names};
-
     /// No words yet.
     pub fn new(alloc: Global) -> Words
         ensures { result ≡ [] }
@@ -73,47 +57,54 @@ impl Words {
         Ok(())
     }
 
-    /// The name, where the words are `check` and one.
-    pub fn check_name(&self) -> Option<&str>
-        ensures { option_map (λ name. name.now) result ≡ check_name self.now }
+    /// The command that the words ask for.
+    pub fn command(&self, alloc: Global) -> Result<Command<'_>, AllocError>
+        ensures { IfOk result (λ found. command_of found ≡ command self.now) }
     {
         match self.items.as_slice() {
-            [command, rest @ ..] if command.as_str() == "check" => one_name(rest),
-            _ => None,
+            [] => Ok(Command::Usage),
+            [name, words @ ..] => named_command(alloc, name.as_str(), words),
         }
     }
+}
 
-    /// The names, where the words are `replay` and four of them.
-    pub fn replay_names(&self, alloc: Global) -> Result<Option<ReplayNames<'_>>, AllocError>
-        ensures { IfOk result (λ names. option_map names_of names ≡ replay_names self.now) }
-    {
-        match self.items.as_slice() {
-            [command, rest @ ..] if command.as_str() == "replay" => four_names(alloc, rest),
-            _ => Ok(None),
-        }
+/// The command of this name, by the words behind it.
+fn named_command<'a>(
+    alloc: Global,
+    name: &str,
+    words: &'a [String],
+) -> Result<Command<'a>, AllocError>
+    ensures { let command = named_command name.now (map string_bytes words.now) in
+        IfOk result (λ found. command_of found ≡ command) }
+{
+    if name == "check" {
+        return Ok(match one_name(words) {
+            Some(name) => Command::Check(name),
+            None => Command::Usage,
+        });
     }
-
-    /// What the words ask `record` to do, where they are its words.
-    pub fn record_words(&self, alloc: Global) -> Result<Option<RecordWords<'_>>, AllocError>
-        ensures { IfOk result (λ words. option_map record_words_of words ≡ record_words self.now) }
-    {
-        match self.items.as_slice() {
-            [command, rest @ ..] if command.as_str() == "record" => taken_words(alloc, rest),
-            _ => Ok(None),
-        }
+    if name == "replay" {
+        return match four_names(alloc, words) {
+            Ok(Some(names)) => Ok(Command::Replay(names)),
+            Ok(None) => Ok(Command::Usage),
+            Err(error) => Err(error),
+        };
     }
-
-    /// What the words ask `audit` to do, where they are its words.
-    pub fn audit_words(&self, alloc: Global) -> Result<Option<AuditWords<'_>>, AllocError>
-        ensures { IfOk result (λ words. option_map audit_words_of words ≡ audit_words self.now) }
-    {
-        match self.items.as_slice() {
-            [command, rest @ ..] if command.as_str() == "audit" => {
-                audit_words::taken_words(alloc, rest)
-            }
-            _ => Ok(None),
-        }
+    if name == "record" {
+        return match record_words::taken_words(alloc, words) {
+            Ok(Some(words)) => Ok(Command::Record(words)),
+            Ok(None) => Ok(Command::Usage),
+            Err(error) => Err(error),
+        };
     }
+    if name == "audit" {
+        return match audit_words::taken_words(alloc, words) {
+            Ok(Some(words)) => Ok(Command::Audit(words)),
+            Ok(None) => Ok(Command::Usage),
+            Err(error) => Err(error),
+        };
+    }
+    Ok(Command::Usage)
 }
 
 /// Whether a word stands for an option: a dash, and more behind it.
@@ -162,42 +153,4 @@ fn name_of_two<'a>(first: &'a str, second: &'a str) -> Option<&'a str>
         return Some(first);
     }
     None
-}
-
-/// The names, where these words are four of them.
-fn four_names(alloc: Global, words: &[String]) -> Result<Option<ReplayNames<'_>>, AllocError>
-    ensures { let names = in_four (names_in (map string_bytes words.now)) in
-        IfOk result (λ found. option_map names_of found ≡ names) }
-{
-    match replay_command(alloc)?.try_get_matches_from(words) {
-        Ok(matches) => Ok(found_names(&matches)),
-        Err(error) => refused(error),
-    }
-}
-
-fn found_names<'a>(matches: &ArgMatches<'a>) -> Option<ReplayNames<'a>>
-    ensures { option_map names_of result ≡ found_names (found_of matches.now) }
-{
-    Some(ReplayNames {
-        program: matches.get_str("program")?,
-        state: matches.get_str("state")?,
-        trace: matches.get_str("trace")?,
-        schedule: matches.get_str("schedule")?,
-    })
-}
-
-/// The words behind `replay`.
-fn replay_command<'a>(alloc: Global) -> Result<Command<'a>, AllocError>
-    ensures { IfOk result (λ command. app_of command ≡ replay_app) }
-{
-    simple_command(
-        alloc,
-        "replay",
-        &[
-            Argument::Required("program"),
-            Argument::Required("state"),
-            Argument::Required("trace"),
-            Argument::Required("schedule"),
-        ],
-    )
 }

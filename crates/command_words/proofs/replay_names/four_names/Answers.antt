@@ -2,7 +2,7 @@ use Rattle.std.proofs.Common.{◌∙◌, ap, option_map}
 use Rattle.std.proofs.lemmas.Result.{IfOk-weaker}
 use Rattle.command_words.specs.NamesView.{names_of}
 use Rattle.command_words.proofs.WordsRead.{takes_names, refuses_others, is_simple_app}
-use Rattle.command_words.proofs.words.four_names.Goals as goal
+use Rattle.command_words.proofs.replay_names.four_names.Goals as goal
 
 pub returns-in-Ok : goal.returns-in-Ok
 returns-in-Ok c =

@@ -3,7 +3,6 @@ use Rattle.std.proofs.Common.{◌≡◌, ◌∙◌, ℕ, ◌+◌, ◌≤◌, con
 use Rattle.std.proofs.lemmas.List.Sums.{sum_by-append}
 use Rattle.std.specs.FinMap.{get, insert}
 use Rattle.outside.specs.Files.{Files}
-use Rattle.outside.specs.Shelves.{ShelfTold}
 use Rattle.outside.specs.Sinks.{SinkTold}
 use Rattle.script_meaning.specs.Explains.{Explains}
 use Rattle.script_tree.specs.Objects.{Objects}
@@ -19,7 +18,7 @@ use Rattle.trace_format.specs.Events.{is_request, request_count, trace_format}
 use Rattle.period.specs.declared.report.Report.{Report}
 use Rattle.report_format.specs.Reports.{report_format, records_of}
 use Rattle.schedule_format.specs.Moments.{schedule_format}
-use Rattle.schedule_limit.specs.Fits.{ScheduleFits}
+use Rattle.audit_completeness.specs.Fits.{ScheduleFits}
 use Rattle.audit_meaning.specs.Soundness.{AcceptedExplains}
 use Rattle.audit_meaning.specs.Verdicts.{verdict}
 use Rattle.audit_meaning.specs.declared.reason.Reason.{Reason}
@@ -31,16 +30,18 @@ use Rattle.command_inputs.specs.Report.{report_input}
 use Rattle.command_inputs.specs.Schedule.{schedule_input}
 use Rattle.command_inputs.specs.Trace.{trace_input}
 use Rattle.command_words.specs.AuditWords.{AuditWords}
+use Rattle.command_words.specs.Commands.{an_audit}
 use Rattle.verdict_lines.specs.Rejections.{rejection_line}
-use Rattle.commands.specs.Audits.{IsJudged, IsVerdict, IsAudited, AuditWithProgram, AuditWithTrace, AuditWithState}
+use Rattle.commands.specs.Audits.{accepted, group_count, IsJudged, IsVerdict, IsAudited, AuditWithProgram, AuditWithTrace, AuditWithState}
 use Rattle.commands.specs.Explained.{AskAudit, AreAudited, HasReason, HasSchedule}
-use Rattle.commands.specs.Lines.{line_of}
+use Rattle.commands.specs.Lines.{acceptance_line, line_of}
 use Rattle.commands.specs.Outcome.{IsOutcome}
-use Rattle.commands.specs.Outputs.{Outcome, Put, says, with_puts}
+use Rattle.commands.specs.Outputs.{Outcome, says, with_puts}
 use Rattle.commands.specs.Printing.{HasWhole}
+use Rattle.commands.specs.Seen.{ShelfSeen}
 use Rattle.commands.specs.declared.answer.Answer.TheVariants as answer
-use Rattle.commands.proofs.Outcomes.{of_audit}
-use Rattle.commands.proofs.Puts.{holds_put, stays_put}
+use Rattle.commands.proofs.Outcomes.{of_command}
+use Rattle.commands.proofs.Puts.{holds_put}
 use Rattle.commands.proofs.Verdicts.{status, goes_on, is_balanced}
 
 -- all that an outcome says
@@ -72,17 +73,17 @@ judged_of files a outcome sound h =
 -- ---- status 0
 
 -- the verdict of an outcome whose status is 0
-record Accepts (a : AuditWords) (v : Verdict) (outcome : Outcome) : Type 0 where
+record Accepts (a : AuditWords) (trace : List TraceEvent) (report : ReadReport) (v : Verdict) (outcome : Outcome) : Type 0 where
   pub schedule : List Moment
   pub evaluated : ℕ
   pub steps : ℕ
   pub verdict_is : v ≡ Accepted schedule evaluated steps
   pub bytes : List ℕ
   pub spells : Spells schedule_format bytes schedule
-  pub puts_are : outcome.puts ≡ (a.schedule, bytes) ∷ []
+  pub is : outcome ≡ accepted a (answer.Accepted (request_count trace) (group_count report) evaluated steps) bytes
 
 accepts : (a : AuditWords) (trace : List TraceEvent) (report : ReadReport) (v : Verdict) (outcome : Outcome) → IsJudged a trace report v outcome
-    → status outcome ≡ 0 → Accepts a v outcome
+    → status outcome ≡ 0 → Accepts a trace report v outcome
 accepts a trace report (Accepted schedule evaluated steps) outcome h zero = record {
   schedule = schedule;
   evaluated = evaluated;
@@ -90,7 +91,7 @@ accepts a trace report (Accepted schedule evaluated steps) outcome h zero = reco
   verdict_is = refl;
   bytes = h.0;
   spells = h.1;
-  puts_are = ap (λ (o : Outcome). o.puts) h.2;
+  is = h.2;
 }
 accepts a trace report (Rejected reason) outcome h zero = absurd (let e = ap status (sym h) ∙ zero in cc)
 
@@ -139,13 +140,17 @@ readable file bytes schedule there spells within =
     subst (λ f. IsInput (schedule_input MOST_SCHEDULE_BYTES) f (Ok (Ok schedule))) (sym there)
     (subst (λ bs. length bs ≤ MOST_SCHEDULE_BYTES) (sym spells.spelled) within, spells)
 
-pub has_schedule : AcceptedExplains → ScheduleFits → (words : List (List ℕ)) (reading : Option ℕ) (files : Files) (outcome : Outcome) (read new : ShelfTold)
-    → AskAudit words → status outcome ≡ 0 → IsOutcome words reading files outcome
-    → read.files ≡ Some files → new ≡ with_puts outcome.puts read
-    → (left : Files) × (new.files ≡ Some left) × HasSchedule words files left
-has_schedule sound fits words reading files outcome read new asked zero h told put =
+-- the line of an accepted report
+abbrev accepted_line : List TraceEvent → (evaluated steps : ℕ) → ReadReport → List ℕ
+accepted_line trace evaluated steps report = acceptance_line (request_count trace) (group_count report) evaluated steps
+
+pub has_schedule : AcceptedExplains → ScheduleFits → (words : List (List ℕ)) (reading : Option ℕ) (files : Files) (outcome : Outcome) (read new : ShelfSeen)
+    (out out' : SinkTold) → AskAudit words → status outcome ≡ 0 → IsOutcome words reading files outcome
+    → read.told.files ≡ Some files → new ≡ with_puts outcome.puts read → HasWhole out out' (line_of outcome.answer)
+    → (left : Files) × (new.told.files ≡ Some left) × HasSchedule words files left out out'
+has_schedule sound fits words reading files outcome read new out out' asked zero h told put printed =
     let a = asked.0 in
-    let j = judged_of files a outcome (λ e. let f = sym e ∙ zero in cc) (of_audit words reading files outcome a asked.1 asked.2 asked.3 asked.4 h) in
+    let j = judged_of files a outcome (λ e. let f = sym e ∙ zero in cc) (of_command words reading files outcome (an_audit a) asked.1 h) in
     let v = accepts a j.trace j.report (audited j.program j.start j.trace j.report) outcome j.judged zero in
     let e = explains sound j.program j.start j.trace j.report v.schedule v.evaluated v.steps j.balanced v.verdict_is in
     let spelled : AreAudited files a j.program j.start j.trace (Ok e.0) = subst (λ r. AreAudited files a j.program j.start j.trace r) e.1 j.spelled in
@@ -153,24 +158,29 @@ has_schedule sound fits words reading files outcome read new asked zero h told p
     (few_requests MOST_FILE_BYTES (get files a.trace) j.trace spelled.trace_file)
     (short_report MOST_FILE_BYTES (get files a.report) e.0 spelled.report_file) e.3 in
     let left : Files = insert files a.schedule v.bytes in
-    let is : new.files ≡ Some left
-    = ap (λ (t : ShelfTold). t.files) put
-    ∙ ap (λ (puts : List Put). (with_puts puts read).files) v.puts_are
-    ∙ ap (λ fs. option_map (λ f. insert f a.schedule v.bytes) fs) told in (
+    let is : new.told.files ≡ Some left
+    = ap (λ (s : ShelfSeen). s.told.files) put
+    ∙ ap (λ (o : Outcome). (with_puts o.puts read).told.files) v.is
+    ∙ ap (λ fs. option_map (λ f. insert f a.schedule v.bytes) fs) told in
+    let line : line_of outcome.answer ≡ accepted_line j.trace v.evaluated v.steps (Ok e.0)
+    = ap (λ (o : Outcome). line_of o.answer) v.is ∙ ap (accepted_line j.trace v.evaluated v.steps) e.1 in (
       left,
       is,
       record {
         asked = a;
-        asks = asked.4;
+        asks = asked.1;
         program = j.program;
         start = j.start;
         trace = j.trace;
         report = e.0;
         spelled = spelled;
         schedule = v.schedule;
+        evaluated = v.evaluated;
+        plain = v.steps;
+        accepts = e.3;
         explains = e.2;
         file = readable (get left a.schedule) v.bytes v.schedule (holds_put files a.schedule v.bytes) v.spells within;
-        others = λ name apart. stays_put read files a.schedule v.bytes name apart;
+        printed = subst (HasWhole out out') line printed;
       },
     )
 
@@ -181,20 +191,20 @@ rejects : (a : AuditWords) (trace : List TraceEvent) (report : ReadReport) (v : 
 rejects a trace report (Accepted schedule evaluated steps) outcome h one = absurd (let e = ap status (sym h.2) ∙ one in cc)
 rejects a trace report (Rejected reason) outcome h one = (reason, refl, h)
 
-pub has_reason : (words : List (List ℕ)) (reading : Option ℕ) (files : Files) (outcome : Outcome) (read new : ShelfTold) (out out' : SinkTold)
+pub has_reason : (words : List (List ℕ)) (reading : Option ℕ) (files : Files) (outcome : Outcome) (read new : ShelfSeen) (out out' : SinkTold)
     → AskAudit words → status outcome ≡ 1 → IsOutcome words reading files outcome
-    → read.files ≡ Some files → new ≡ with_puts outcome.puts read → HasWhole out out' (line_of outcome.answer)
-    → (new.files ≡ Some files) × ((reason : Reason) × HasReason words files reason × HasWhole out out' (rejection_line reason))
+    → read.told.files ≡ Some files → new ≡ with_puts outcome.puts read → HasWhole out out' (line_of outcome.answer)
+    → (new.told.files ≡ Some files) × ((reason : Reason) × HasReason words files reason × HasWhole out out' (rejection_line reason))
 has_reason words reading files outcome read new out out' asked one h told put printed =
     let a = asked.0 in
-    let j = judged_of files a outcome (λ e. let f = sym e ∙ one in cc) (of_audit words reading files outcome a asked.1 asked.2 asked.3 asked.4 h) in
+    let j = judged_of files a outcome (λ e. let f = sym e ∙ one in cc) (of_command words reading files outcome (an_audit a) asked.1 h) in
     let v = rejects a j.trace j.report (audited j.program j.start j.trace j.report) outcome j.judged one in
-    let stays : new.files ≡ Some files
-    = ap (λ (t : ShelfTold). t.files) put ∙ ap (λ (o : Outcome). (with_puts o.puts read).files) v.2 ∙ told in (
+    let stays : new.told.files ≡ Some files
+    = ap (λ (s : ShelfSeen). s.told.files) put ∙ ap (λ (o : Outcome). (with_puts o.puts read).told.files) v.2 ∙ told in (
       stays,
       (
         v.0,
-        record { asked = a; asks = asked.4; program = j.program; start = j.start; trace = j.trace; report = j.report; spelled = j.spelled; rejects = v.1 },
+        record { asked = a; asks = asked.1; program = j.program; start = j.start; trace = j.trace; report = j.report; spelled = j.spelled; rejects = v.1 },
         subst (λ (o : Outcome). HasWhole out out' (line_of o.answer)) v.2 printed,
       ),
     )

@@ -7,5 +7,7 @@ pub mod Puts
 pub mod RecordSteps
 pub mod Recordings
 pub mod Runs
+pub mod SomeSchedule
+pub mod Stays
 pub mod Steps
 pub mod Verdicts

@@ -1,5 +1,5 @@
 -- What the statuses mean.
-use Rattle.std.specs.Prelude.{◌≡◌, ◌≢◌, ℕ, List, Option, Some, None, Result, Ok}
+use Rattle.std.specs.Prelude.{◌≡◌, ℕ, List, length, Option, Some, Result, Ok}
 use Rattle.std.specs.FinMap.{get}
 use Rattle.outside.specs.Files.{Files}
 use Rattle.outside.specs.Sinks.{SinkTold}
@@ -8,11 +8,12 @@ use Rattle.script_tree.specs.Objects.{Objects}
 use Rattle.script_tree.specs.Programs.{Program}
 use Rattle.period.specs.declared.schedule.Moment.{Moment}
 use Rattle.period.specs.declared.trace.TraceEvent.{TraceEvent}
+use Rattle.trace_format.specs.Events.{request_count}
 use Rattle.wire.specs.declared.limits.TheConstants.{MOST_FILE_BYTES, MOST_SCHEDULE_BYTES}
 use Rattle.replayer.specs.Laws.{ExplainsIfRead}
 use Rattle.period.specs.declared.report.Report.{Report}
 use Rattle.audit_meaning.specs.declared.reason.Reason.{Reason}
-use Rattle.audit_meaning.specs.declared.verdict.Verdict.TheVariants.{Rejected}
+use Rattle.audit_meaning.specs.declared.verdict.Verdict.TheVariants.{Accepted, Rejected}
 use Rattle.auditor.specs.Audited.{ReadReport, audited}
 use Rattle.command_inputs.specs.Inputs.{IsInput}
 use Rattle.command_inputs.specs.Program.{program_input}
@@ -20,31 +21,30 @@ use Rattle.command_inputs.specs.Report.{report_input}
 use Rattle.command_inputs.specs.Schedule.{schedule_input}
 use Rattle.command_inputs.specs.State.{state_input}
 use Rattle.command_inputs.specs.Trace.{trace_input}
-use Rattle.command_words.specs.AuditWords.{AuditWords, audit_words}
-use Rattle.command_words.specs.RecordWords.{record_words}
-use Rattle.command_words.specs.Words.{ReplayNames, check_name, replay_names}
+use Rattle.command_words.specs.AuditWords.{AuditWords}
+use Rattle.command_words.specs.Commands.{a_check, a_replay, an_audit, command}
+use Rattle.command_words.specs.Words.{ReplayNames}
+use Rattle.commands.specs.Lines.{acceptance_line}
 use Rattle.commands.specs.Printing.{HasWhole}
 use Rattle.verdict_lines.specs.Rejections.{rejection_line}
 
--- The words ask for a replay, for a check, or for an audit.
-abbrev pub AskReplay : List (List ℕ) → Type 0
-AskReplay words = (names : ReplayNames) × (replay_names words ≡ Some names)
-
 -- The words ask for a check.
 abbrev pub AskCheck : List (List ℕ) → Type 0
-AskCheck words = (name : List ℕ) × (replay_names words ≡ None) × (check_name words ≡ Some name)
+AskCheck words = (name : List ℕ) × (command words ≡ a_check name)
+
+-- The words ask for a replay.
+abbrev pub AskReplay : List (List ℕ) → Type 0
+AskReplay words = (names : ReplayNames) × (command words ≡ a_replay names)
 
 -- The words ask for an audit.
 abbrev pub AskAudit : List (List ℕ) → Type 0
-AskAudit words =
-    (w : AuditWords) × (replay_names words ≡ None) × (check_name words ≡ None)
-    × (record_words words ≡ None) × (audit_words words ≡ Some w)
+AskAudit words = (w : AuditWords) × (command words ≡ an_audit w)
 
 -- The file that is to be checked spells a program.
 pub record IsProgramFile (words : List (List ℕ)) (files : Files) : Type 0 where
   pub name : List ℕ
   pub program : Program
-  pub asked : check_name words ≡ Some name
+  pub asked : command words ≡ a_check name
   pub spelled : IsInput (program_input MOST_FILE_BYTES) (get files name) (Ok program)
 
 -- The words name the files of a replay. These spell this program, what the objects hold at first,
@@ -52,7 +52,7 @@ pub record IsProgramFile (words : List (List ℕ)) (files : Files) : Type 0 wher
 pub record AreSpelled (words : List (List ℕ)) (files : Files) (program : Program) (start : Objects)
     (trace : List TraceEvent) (schedule : Result (List Moment) ℕ) : Type 0 where
   pub names : ReplayNames
-  pub asked : replay_names words ≡ Some names
+  pub asked : command words ≡ a_replay names
   pub program_file : IsInput (program_input MOST_FILE_BYTES) (get files names.program) (Ok program)
   pub state_file : IsInput (state_input program MOST_FILE_BYTES) (get files names.state) (Ok start)
   pub trace_file : IsInput (trace_input MOST_FILE_BYTES) (get files names.trace) (Ok trace)
@@ -85,32 +85,37 @@ pub record AreAudited (files : Files) (w : AuditWords) (program : Program) (star
   pub trace_file : IsInput (trace_input MOST_FILE_BYTES) (get files w.trace) (Ok trace)
   pub report_file : IsInput (report_input MOST_FILE_BYTES) (get files w.report) (Ok report)
 
--- Afterwards a schedule that explains the trace, and that a replay can read, stands under its name,
--- and under every other name what stood there.
-pub record HasSchedule (words : List (List ℕ)) (before after : Files) : Type 0 where
-  pub asked : AuditWords
-  pub asks : audit_words words ≡ Some asked
-  pub program : Program
-  pub start : Objects
-  pub trace : List TraceEvent
-  pub report : Report
-  pub spelled : AreAudited before asked program start trace (Ok report)
-  pub schedule : List Moment
-  pub explains : Explains program start trace schedule
-  pub file :
-      IsInput (schedule_input MOST_SCHEDULE_BYTES) (get after asked.schedule) (Ok (Ok schedule))
-  pub others : (name : List ℕ) → name ≢ asked.schedule → get after name ≡ get before name
+-- The report is accepted. Afterwards the schedule of the verdict, which explains the trace and which a
+-- replay can read, stands under its name, and the verdict is printed.
+pub record HasSchedule (words : List (List ℕ)) (before after : Files) (out out' : SinkTold) : Type 0
+  where
+    pub asked : AuditWords
+    pub asks : command words ≡ an_audit asked
+    pub program : Program
+    pub start : Objects
+    pub trace : List TraceEvent
+    pub report : Report
+    pub spelled : AreAudited before asked program start trace (Ok report)
+    pub schedule : List Moment
+    pub evaluated : ℕ
+    pub plain : ℕ
+    pub accepts : audited program start trace (Ok report) ≡ Accepted schedule evaluated plain
+    pub explains : Explains program start trace schedule
+    pub file :
+        IsInput (schedule_input MOST_SCHEDULE_BYTES) (get after asked.schedule) (Ok (Ok schedule))
+    pub printed : let groups = length report.groups in
+        HasWhole out out' (acceptance_line (request_count trace) groups evaluated plain)
 
 -- Where the shelf tells its files, before and after.
-abbrev pub IsAcceptedBy : List (List ℕ) → Option Files → Option Files → Type 0
-IsAcceptedBy words before after =
+abbrev pub IsAcceptedBy : List (List ℕ) → Option Files → Option Files → SinkTold → SinkTold → Type 0
+IsAcceptedBy words before after out out' =
     (files : Files) → before ≡ Some files
-    → (left : Files) × (after ≡ Some left) × HasSchedule words files left
+    → (left : Files) × (after ≡ Some left) × HasSchedule words files left out out'
 
 -- The verdict on the report is a rejection, for this reason.
 pub record HasReason (words : List (List ℕ)) (files : Files) (reason : Reason) : Type 0 where
   pub asked : AuditWords
-  pub asks : audit_words words ≡ Some asked
+  pub asks : command words ≡ an_audit asked
   pub program : Program
   pub start : Objects
   pub trace : List TraceEvent

@@ -1,4 +1,4 @@
-ghost use Rattle.std.specs.Prelude.{◌≡◌, IfOk};
+ghost use Rattle.std.specs.Prelude.{◌≡◌, ◌<◌, ◌∷◌, [], IfOk, Ok};
 ghost use Rattle.std.specs.Option.{ForSome};
 ghost use Rattle.period.specs.Traces.{IsBalanced};
 ghost use Rattle.report_format.specs.Limits.{HasValuesWithinLimits};
@@ -8,15 +8,19 @@ ghost use Rattle.audit_meaning.specs.declared.verdict.Verdict.TheVariants.{Accep
 ghost use Rattle.auditor.specs.Audited.{audited};
 ghost use Rattle.command_inputs.specs.Faults.{UsesToRead};
 ghost use Rattle.command_words.specs.NamesView.{audit_words_of};
-ghost use Rattle.commands.specs.Asked.{MayAnswer, an_audit};
-ghost use Rattle.commands.specs.Audits.{group_count, AuditWithProgram, AuditWithState, AuditWithTrace, IsJudged, IsVerdict};
-ghost use Rattle.commands.specs.Outcome.{IfAudited, IfFound, SaysAbsent};
+ghost use Rattle.command_inputs.specs.declared.role.Role.TheVariants as role;
+ghost use Rattle.command_words.specs.Commands.{an_audit};
+ghost use Rattle.commands.specs.Asked.{MayComeOf, inputs_of};
+ghost use Rattle.commands.specs.Audits.{AuditWithProgram, AuditWithState, AuditWithTrace, IsAudited, IsJudged, IsVerdict};
+ghost use Rattle.commands.specs.Outcome.{IfFound};
+ghost use Rattle.commands.specs.Reads.{AreReadFor};
 
 use crate::answer::Answer;
 use crate::leaving::leave;
 use crate::outcome::{Outcome, Output};
+use audit_meaning::reason::Reason;
 use audit_meaning::verdict::Verdict;
-use auditor::audit;
+use auditor::{Evaluations, audit};
 use command_inputs::{InputError, read_program, read_report, read_state, read_trace};
 use command_words::AuditWords;
 use object_set::ObjectSet;
@@ -26,6 +30,8 @@ use period::schedule::Schedule;
 use schedule_format::encoding::encode;
 use script_check::program::Program;
 use std::alloc::{AllocError, Global};
+use std::marker::Brand;
+use std::sync::ledger::{Blank, Ledger};
 use trace_format::trace_file::{EventHead, TraceFile};
 use wire::limits::MOST_FILE_BYTES;
 
@@ -38,9 +44,11 @@ pub fn audit_files<'w, F: Shelf, G: Gate + Sync>(
     gate: &G,
 ) -> Result<Outcome<'w>, InputError>
     ensures outcome { let words = audit_words_of words.now in
-        ForSome (F.told shelf.old).files (λ files. IfAudited files words result) }
-    ensures asked { IfOk result (λ outcome. MayAnswer an_audit outcome.answer) }
-    ensures found { IfOk result (λ outcome. ¬ SaysAbsent outcome) }
+        ForSome (F.told shelf.old).files (λ files. IfFound (IsAudited files words) result) }
+    ensures found { IfOk result (MayComeOf (an_audit (audit_words_of words.now))) }
+    ensures reads { let words = audit_words_of words.now in
+        let inputs = inputs_of (an_audit words) in
+        AreReadFor inputs (F.calls shelf.old) (F.calls shelf.new) result }
     ensures used { UsesToRead (F.told shelf.old) (F.told shelf.new) result }
 {
     let program = read_program(alloc, shelf, words.program, MOST_FILE_BYTES)?;
@@ -59,9 +67,12 @@ fn audit_with_program<'w, F: Shelf, G: Gate + Sync>(
 ) -> Result<Outcome<'w>, InputError>
     ensures outcome { let words = audit_words_of words.now in
         ForSome (F.told shelf.old).files (λ files.
-        IfFound (λ o. o) (AuditWithProgram files words program.now) result) }
-    ensures asked { IfOk result (λ outcome. MayAnswer an_audit outcome.answer) }
-    ensures found { IfOk result (λ outcome. ¬ SaysAbsent outcome) }
+        IfFound (AuditWithProgram files words program.now) result) }
+    ensures found { IfOk result (MayComeOf (an_audit (audit_words_of words.now))) }
+    ensures reads { let words = audit_words_of words.now in
+        let inputs = (role.State, words.state) ∷ (role.Trace, words.trace)
+        ∷ (role.Report, words.report) ∷ [] in
+        AreReadFor inputs (F.calls shelf.old) (F.calls shelf.new) result }
     ensures used { UsesToRead (F.told shelf.old) (F.told shelf.new) result }
 {
     let start = read_state(alloc, shelf, words.state, MOST_FILE_BYTES, program)?;
@@ -82,9 +93,11 @@ fn audit_with_state<'w, F: Shelf, G: Gate + Sync>(
     requires { IsSetOf program.now start.now }
     ensures outcome { let words = audit_words_of words.now in
         ForSome (F.told shelf.old).files (λ files.
-        IfFound (λ o. o) (AuditWithState files words program.now (objects_of start.now)) result) }
-    ensures asked { IfOk result (λ outcome. MayAnswer an_audit outcome.answer) }
-    ensures found { IfOk result (λ outcome. ¬ SaysAbsent outcome) }
+        IfFound (AuditWithState files words program.now (objects_of start.now)) result) }
+    ensures found { IfOk result (MayComeOf (an_audit (audit_words_of words.now))) }
+    ensures reads { let words = audit_words_of words.now in
+        let inputs = (role.Trace, words.trace) ∷ (role.Report, words.report) ∷ [] in
+        AreReadFor inputs (F.calls shelf.old) (F.calls shelf.new) result }
     ensures used { UsesToRead (F.told shelf.old) (F.told shelf.new) result }
 {
     let trace = read_trace(alloc, shelf, words.trace, MOST_FILE_BYTES)?;
@@ -108,9 +121,11 @@ fn audit_with_trace<'w, F: Shelf, G: Gate + Sync>(
     ensures outcome { let words = audit_words_of words.now in
         let objects = objects_of start.now in
         ForSome (F.told shelf.old).files (λ files.
-        IfFound (λ o. o) (AuditWithTrace files words program.now objects trace.now) result) }
-    ensures asked { IfOk result (λ outcome. MayAnswer an_audit outcome.answer) }
-    ensures found { IfOk result (λ outcome. ¬ SaysAbsent outcome) }
+        IfFound (AuditWithTrace files words program.now objects trace.now) result) }
+    ensures found { IfOk result (MayComeOf (an_audit (audit_words_of words.now))) }
+    ensures reads { let words = audit_words_of words.now in
+        let inputs = (role.Report, words.report) ∷ [] in
+        AreReadFor inputs (F.calls shelf.old) (F.calls shelf.new) result }
     ensures used { UsesToRead (F.told shelf.old) (F.told shelf.new) result }
 {
     let report = read_report(alloc, shelf, words.report, MOST_FILE_BYTES)?;
@@ -119,7 +134,7 @@ fn audit_with_trace<'w, F: Shelf, G: Gate + Sync>(
     Ok(outcome?)
 }
 
-/// The outcome of the verdict on a report that was read.
+/// The outcome of the verdict on a report that was read. One that isn't in its grammar is rejected.
 fn outcome_on<'w, G: Gate + Sync>(
     alloc: Global,
     words: &AuditWords<'w>,
@@ -135,34 +150,55 @@ fn outcome_on<'w, G: Gate + Sync>(
     ensures verdict { let words = audit_words_of words.now in
         let objects = objects_of start.now in
         IfOk result (IsVerdict words program.now objects trace.now report.now) }
-    ensures asked { IfOk result (λ outcome. MayAnswer an_audit outcome.answer) }
-    ensures found { IfOk result (λ outcome. ¬ SaysAbsent outcome) }
+    ensures found { IfOk result (MayComeOf (an_audit (audit_words_of words.now))) }
 {
-    let workers = words.workers.count();
-    let verdict = verdict_on(alloc, program, start, trace, report, workers, gate)?;
-    judged(alloc, words, trace, report, verdict)
+    match report {
+        Ok(report) => {
+            let workers = words.workers.count();
+            let blank = Blank::new(1);
+            let verdict = verdict_on::<Brand, G>(
+                alloc, program, start, trace, report, workers, gate, blank,
+            )?;
+            judged(alloc, words, trace, report, verdict)
+        }
+        Err(at) => {
+            let reason = Reason::Unreadable { at: *at };
+            Ok(Outcome::says(alloc, Answer::Rejected(reason)))
+        }
+    }
 }
 
-/// The verdict on a report that was read.
-fn verdict_on<G: Gate + Sync>(
+/// The verdict on a report in its grammar, with a count of its own of the nodes that are evaluated.
+fn verdict_on<L: Ledger, G: Gate + Sync>(
     alloc: Global,
     program: &Program,
     start: &ObjectSet,
     trace: &TraceFile,
-    report: &Result<Report, u64>,
+    report: &Report,
     workers: u32,
     gate: &G,
+    blank: Blank,
 ) -> Result<Verdict, AllocError>
+    requires name { blank.name ≡ L.name }
+    requires parts { blank.parts ≡ L.parts }
+    requires some { 0 < blank.parts }
     requires balanced { IsBalanced trace.now }
     requires set { IsSetOf program.now start.now }
-    requires limits { IfOk report.now HasValuesWithinLimits }
-    ensures { IfOk result (λ verdict. verdict
-        ≡ audited program.now (objects_of start.now) trace.now report.now) }
+    requires limits { HasValuesWithinLimits report.now }
+    ensures { let objects = objects_of start.now in IfOk result (λ verdict. verdict
+        ≡ audited program.now objects trace.now (Ok report.now)) }
 {
-    match report {
-        Ok(report) => audit(alloc, program, start, trace, Ok(report), workers, gate),
-        Err(at) => audit(alloc, program, start, trace, Err(*at), workers, gate),
-    }
+    let mut evaluations = Evaluations::<L>::new(blank);
+    audit(
+        alloc,
+        program,
+        start,
+        trace,
+        report,
+        workers,
+        gate,
+        &mut evaluations,
+    )
 }
 
 /// The outcome of a verdict on this report of this trace.
@@ -170,11 +206,12 @@ fn judged<'w>(
     alloc: Global,
     words: &AuditWords<'w>,
     trace: &TraceFile,
-    report: &Result<Report, u64>,
+    report: &Report,
     verdict: Verdict,
 ) -> Result<Outcome<'w>, AllocError>
-    ensures { let words = audit_words_of words.now in
-        IfOk result (IsJudged words trace.now report.now verdict) }
+    ensures judged { let words = audit_words_of words.now in
+        IfOk result (IsJudged words trace.now (Ok report.now) verdict) }
+    ensures found { IfOk result (MayComeOf (an_audit (audit_words_of words.now))) }
 {
     match verdict {
         Verdict::Accepted {
@@ -191,21 +228,22 @@ fn accepted<'w>(
     alloc: Global,
     words: &AuditWords<'w>,
     trace: &TraceFile,
-    report: &Result<Report, u64>,
+    report: &Report,
     schedule: &Schedule,
     evaluated: u64,
     plain: u64,
 ) -> Result<Outcome<'w>, AllocError>
-    ensures { let words = audit_words_of words.now in
+    ensures judged { let words = audit_words_of words.now in
         let verdict = Accepted schedule.now evaluated plain in
-        IfOk result (IsJudged words trace.now report.now verdict) }
+        IfOk result (IsJudged words trace.now (Ok report.now) verdict) }
+    ensures found { IfOk result (MayComeOf (an_audit (audit_words_of words.now))) }
 {
     let bytes = encode(alloc, schedule)?;
     let name = words.schedule;
     let outputs = vec![in alloc; Output { name, bytes }]?;
     let answer = Answer::Accepted {
         requests: request_count(trace),
-        groups: group_count(report),
+        groups: report.groups.len(),
         evaluated,
         plain,
     };
@@ -224,14 +262,4 @@ fn request_count(trace: &TraceFile) -> usize
         }
     }
     count
-}
-
-/// How many groups a report has, where it was read.
-fn group_count(report: &Result<Report, u64>) -> usize
-    ensures { result ≡ group_count report.now }
-{
-    match report {
-        Ok(report) => report.groups.len(),
-        Err(_) => 0,
-    }
 }

@@ -1,14 +1,17 @@
-ghost use Rattle.std.specs.Prelude.{◌≡◌, ◌<◌, ◌≤◌, None, Err, IfOk, IsOkAnd};
+ghost use Rattle.std.specs.Prelude.{◌≡◌, ◌<◌, ◌≤◌, Err, IfOk, IsOkAnd, OnErr};
 ghost use Rattle.std.specs.Option.{ForSome};
 ghost use Rattle.outside.specs.Shelves.{UsesShelf};
 ghost use Rattle.command_inputs.specs.Faults.{UsesToRead};
-ghost use Rattle.command_words.specs.Words.{check_name, replay_names};
-ghost use Rattle.commands.specs.Asked.{MayAnswer, asked_of};
+ghost use Rattle.command_inputs.specs.declared.halt.Halt.TheVariants.{Failed};
+ghost use Rattle.command_words.specs.Commands.{command};
+ghost use Rattle.commands.specs.Asked.{HasItsFiles, MayAnswer, MayComeOf, fault_told, inputs_of, outputs_of};
 ghost use Rattle.commands.specs.Explained.{AskAudit, AskCheck, AskReplay, IsAcceptedBy, IsExplained, IsProgramFile, IsRejectedBy, IsUnexplained};
 ghost use Rattle.commands.specs.Outcome.{IfFound, IsOutcome, SaysAbsent};
+ghost use Rattle.commands.specs.Outputs.{AllOthersStay, names_put};
+ghost use Rattle.commands.specs.Reads.{AreReadFor, AreReadInPart, ReadsUpTo};
 ghost use Rattle.commands.specs.Recorded.{AskRecord, IsRecordedBy};
 ghost use Rattle.commands.specs.Runs.{IsAnswered, IsBrokenOff, IsCarriedOut, IsHalted};
-ghost use Rattle.command_inputs.specs.declared.halt.Halt.TheVariants.{Failed};
+ghost use Rattle.commands.specs.Seen.{shelf_seen};
 
 use crate::answer::Answer;
 use crate::audit::audit_files;
@@ -18,15 +21,14 @@ use crate::print::print_line;
 use crate::record::record_files;
 use crate::replay::replay_files;
 use crate::system::System;
-use audit_completeness::law::recorded_is_accepted;
+use audit_completeness::law::{recorded_is_accepted, schedule_fits};
 use audit_meaning::law::accepted_explains;
 use command_inputs::law::one_way;
 use command_inputs::{Halt, InputError};
-use command_words::Words;
+use command_words::{Command, Words};
 use history::law::traces_are_balanced;
 use outside::{Clock, Gate, House, Shelf, Sink};
 use replayer::law::agreement;
-use schedule_limit::law::schedule_fits;
 use std::alloc::Global;
 use std::sync::Wait;
 use std::thread::Threads;
@@ -44,12 +46,20 @@ pub fn run<R: Threads + Wait + Sync, F: Shelf, O: Sink, H: House, C: Clock + Syn
     gate: &G,
 ) -> u8
     // With status 0 to 3 the reads came to an answer, its files were written, and its line printed.
-    ensures answered { result < 4 → IsAnswered words.now (C.reading clock.now) (F.told shelf.old)
-        (F.told shelf.new) (O.told out.old) (O.told out.new) result }
+    ensures answered { let before = shelf_seen (F.told shelf.old) (F.calls shelf.old) in
+        let after = shelf_seen (F.told shelf.new) (F.calls shelf.new) in
+        result < 4 → IsAnswered words.now (C.reading clock.now) before after
+        (O.told out.old) (O.told out.new) result }
 
     // With status 4 a read or a write failed, and with 5 it ran out of memory.
-    ensures halted { 4 ≤ result → IsHalted words.now (C.reading clock.now) (F.told shelf.old)
-        (F.told shelf.new) (O.told out.old) (O.told out.new) result }
+    ensures halted { let before = shelf_seen (F.told shelf.old) (F.calls shelf.old) in
+        let after = shelf_seen (F.told shelf.new) (F.calls shelf.new) in
+        4 ≤ result → IsHalted words.now (C.reading clock.now) before after
+        (O.told out.old) (O.told out.new) result }
+
+    // No name but those of the command's outputs changes.
+    ensures others { let names = outputs_of (command words.now) in
+        AllOthersStay names (F.told shelf.old).files (F.told shelf.new).files }
 
     // With status 0 of a check the file spells a program.
     ensures valid { result ≡ 0 → AskCheck words.now →
@@ -61,17 +71,18 @@ pub fn run<R: Threads + Wait + Sync, F: Shelf, O: Sink, H: House, C: Clock + Syn
     ensures differs { result ≡ 1 → AskReplay words.now →
         ForSome (F.told shelf.old).files (IsUnexplained words.now) }
 
-    // With status 0 of an audit a schedule that explains the trace is written. With status 1 the
-    // reason of the verdict is told, and the files are as before.
-    ensures accepted { result ≡ 0 → AskAudit words.now →
-        IsAcceptedBy words.now (F.told shelf.old).files (F.told shelf.new).files }
+    // With status 0 of an audit the schedule of the verdict, which explains the trace, is written, and
+    // the verdict is told. With status 1 its reason is told, and the files are as before.
+    ensures accepted { result ≡ 0 → AskAudit words.now → IsAcceptedBy words.now
+        (F.told shelf.old).files (F.told shelf.new).files (O.told out.old) (O.told out.new) }
     ensures rejected { result ≡ 1 → AskAudit words.now → IsRejectedBy words.now
         (F.told shelf.old).files (F.told shelf.new).files (O.told out.old) (O.told out.new) }
 
     // With status 0 of a recording the trace and the report are those of one history of the jobs,
     // and audits accept them.
-    ensures recorded { result ≡ 0 → AskRecord words.now → IsRecordedBy words.now
-        (C.reading clock.now) (F.told shelf.old).files (F.told shelf.new).files }
+    ensures recorded { let reading = C.reading clock.now in
+        result ≡ 0 → AskRecord words.now → IsRecordedBy words.now reading
+        (F.told shelf.old).files (F.told shelf.new).files (O.told out.old) (O.told out.new) }
 
     ensures status { result ≤ 5 }
     ensures house { _house.new ≡ _house.old }
@@ -105,10 +116,16 @@ fn carry_out<F: Shelf, O: Sink>(
     out: &mut O,
     outcome: &Outcome<'_>,
 ) -> u8
-    ensures done { result < 4 → IsCarriedOut outcome.now (F.told shelf.old) (F.told shelf.new)
+    ensures done { let before = shelf_seen (F.told shelf.old) (F.calls shelf.old) in
+        let after = shelf_seen (F.told shelf.new) (F.calls shelf.new) in
+        result < 4 → IsCarriedOut outcome.now before after
         (O.told out.old) (O.told out.new) result }
-    ensures halted { 4 ≤ result → IsBrokenOff outcome.now (F.told shelf.old) (F.told shelf.new)
+    ensures halted { let before = shelf_seen (F.told shelf.old) (F.calls shelf.old) in
+        let after = shelf_seen (F.told shelf.new) (F.calls shelf.new) in
+        4 ≤ result → IsBrokenOff outcome.now before after
         (O.told out.old) (O.told out.new) result }
+    ensures others { let names = names_put outcome.now.puts in
+        AllOthersStay names (F.told shelf.old).files (F.told shelf.new).files }
     ensures status { result ≤ 5 }
 {
     if let Err(fault) = write_outputs(shelf, &outcome.outputs) {
@@ -116,7 +133,7 @@ fn carry_out<F: Shelf, O: Sink>(
     }
     match print_line(alloc, out, &outcome.answer) {
         Ok(()) => outcome.answer.status(),
-        Err(halt) => halt.status(),
+        Err(cut) => cut.status(),
     }
 }
 
@@ -128,7 +145,12 @@ fn outcome_of<'w, R: Threads + Wait + Sync, F: Shelf, C: Clock + Sync, G: Gate +
 ) -> Result<Outcome<'w>, Halt>
     ensures outcome { let outcome = IsOutcome words.now (C.reading system.now.clock.now) in
         ForSome (F.told shelf.old).files (λ files. IfOk result (outcome files)) }
-    ensures asked { IfOk result (λ outcome. MayAnswer (asked_of words.now) outcome.answer) }
+    ensures answer { IfOk result (λ outcome. MayAnswer (command words.now) outcome.answer) }
+    ensures files { IfOk result (HasItsFiles (command words.now)) }
+    ensures reads { IfOk result (λ outcome. ReadsUpTo (fault_told outcome.answer)
+        (command words.now) (F.calls shelf.old) (F.calls shelf.new)) }
+    ensures part { let inputs = inputs_of (command words.now) in
+        OnErr result (AreReadInPart inputs (F.calls shelf.old) (F.calls shelf.new)) }
     ensures used { UsesShelf (F.told shelf.old) (F.told shelf.new) (result ≡ Err Failed)
         (IsOkAnd result SaysAbsent) }
 {
@@ -146,48 +168,19 @@ fn found_by<'w, R: Threads + Wait + Sync, F: Shelf, C: Clock + Sync, G: Gate + S
     shelf: &mut F,
 ) -> Result<Outcome<'w>, InputError>
     ensures outcome { let outcome = IsOutcome words.now (C.reading system.now.clock.now) in
-        ForSome (F.told shelf.old).files (λ files. IfFound (λ o. o) (outcome files) result) }
-    ensures asked { let asked = asked_of words.now in
-        IfFound (λ o. o) (λ outcome. MayAnswer asked outcome.answer) result }
-    ensures found { IfOk result (λ outcome. ¬ SaysAbsent outcome) }
+        ForSome (F.told shelf.old).files (λ files. IfFound (outcome files) result) }
+    ensures found { IfOk result (MayComeOf (command words.now)) }
+    ensures reads { let inputs = inputs_of (command words.now) in
+        AreReadFor inputs (F.calls shelf.old) (F.calls shelf.new) result }
     ensures used { UsesToRead (F.told shelf.old) (F.told shelf.new) result }
 {
     let alloc = system.alloc;
-    if let Some(names) = words.replay_names(alloc)? {
-        let (moments, replayed) = replay_files(alloc, shelf, names)?;
-        return Ok(Outcome::says(alloc, Answer::Replay { moments, replayed }));
-    }
-    if let Some(name) = words.check_name() {
-        let counts = check_file(alloc, shelf, name)?;
-        return Ok(Outcome::says(alloc, Answer::Checked(counts)));
-    }
-    recorded_or_audited(system, words, shelf)
-}
-
-/// The same where they ask for no replay and no check, but for a recording, an audit or nothing.
-fn recorded_or_audited<'w, R: Threads + Wait + Sync, F: Shelf, C: Clock + Sync, G: Gate + Sync>(
-    system: &System<'_, R, C, G>,
-    words: &'w Words,
-    shelf: &mut F,
-) -> Result<Outcome<'w>, InputError>
-    requires no_replay { replay_names words.now ≡ None }
-    requires no_check { check_name words.now ≡ None }
-    ensures outcome { let outcome = IsOutcome words.now (C.reading system.now.clock.now) in
-        ForSome (F.told shelf.old).files (λ files. IfFound (λ o. o) (outcome files) result) }
-    ensures asked { let asked = asked_of words.now in
-        IfFound (λ o. o) (λ outcome. MayAnswer asked outcome.answer) result }
-    ensures found { IfOk result (λ outcome. ¬ SaysAbsent outcome) }
-    ensures used { UsesToRead (F.told shelf.old) (F.told shelf.new) result }
-{
-    let alloc = system.alloc;
-    match words.record_words(alloc) {
-        Ok(Some(words)) => return record_files(system, shelf, &words),
-        Ok(None) => {}
-        Err(error) => return Err(error.into()),
-    }
-    match words.audit_words(alloc) {
-        Ok(Some(words)) => audit_files(alloc, shelf, &words, system.gate),
-        Ok(None) => Ok(Outcome::says(alloc, Answer::Usage)),
+    match words.command(alloc) {
+        Ok(Command::Check(name)) => check_file(alloc, shelf, name),
+        Ok(Command::Replay(names)) => replay_files(alloc, shelf, names),
+        Ok(Command::Record(words)) => record_files(system, shelf, &words),
+        Ok(Command::Audit(words)) => audit_files(alloc, shelf, &words, system.gate),
+        Ok(Command::Usage) => Ok(Outcome::says(alloc, Answer::Usage)),
         Err(error) => Err(error.into()),
     }
 }

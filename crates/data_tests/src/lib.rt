@@ -3,8 +3,6 @@
 #![tactic(auto)]
 
 #[cfg(test)]
-mod benches;
-#[cfg(test)]
 mod fields;
 #[cfg(test)]
 mod json;

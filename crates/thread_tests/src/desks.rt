@@ -1,4 +1,4 @@
-//! Two threads take a thousand turns at one desk.
+//! Calls from two seats of one desk, and a thousand turns that two threads take at it.
 ghost use Rattle.desk.specs.Runs.{Runs};
 ghost use Rattle.shared_desk.specs.Seats.{IsSeatOf};
 
@@ -35,6 +35,28 @@ impl Bench for Counter {
 
 /// Its calls.
 type Counts = Vec<Call<(), u64>>;
+
+/// The replies to a call from the first seat and to one from another.
+fn replies<R: Wait>(rt: &R, alloc: Global) -> Result<(u64, u64), AllocError> {
+    let (desk, mut first) = Desk::<Counter, Counts>::new(alloc, 5, Vec::new(alloc))?;
+    let mut second = desk.split(&mut first);
+    let replies = match (
+        desk.call(rt, &mut first, ()),
+        desk.call(rt, &mut second, ()),
+    ) {
+        (Ok(ours), Ok(theirs)) => Ok((ours, theirs)),
+        (Err(error), _) | (_, Err(error)) => Err(error),
+    };
+    drop(second);
+    drop(first);
+    drop(desk);
+    replies
+}
+
+#[test]
+fn a_call_follows_that_of_another_seat(rt: HostRuntime) {
+    assert!(rt; replies(&rt, rt.alloc()) == Ok((5, 6)));
+}
 
 /// The sum of the replies to 500 calls from a seat.
 fn sum_of_calls<R: Wait>(

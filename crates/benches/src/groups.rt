@@ -7,29 +7,27 @@ ghost use Rattle.object_set.specs.ObjectSets.{IsSetOf};
 mod comparison;
 
 use crate::groups::comparison::Comparison;
+use crate::inputs::{program_of, report_of, start_of, trace_of};
 use crate::words::{number, wrong_words};
-use command_inputs::{InputError, read_program, read_report, read_state, read_trace};
 use group_runner::Evidence;
 use log_checker::check_logs;
 use object_set::ObjectSet;
-use outside_os::FileShelf;
 use period::report::Report;
 use script_check::program::Program;
 use script_code::translate::{Code, translate};
-use std::alloc::AllocError;
+use std::fs;
 use std::io::{self, ErrorKind};
 use trace_format::trace_file::TraceFile;
 use trace_index::IndexedTrace;
 use versioned_store::fitting::fit_logs;
-use wire::limits::MOST_FILE_BYTES;
 
-/// The names of the files of an audit.
+/// The files of an audit but its program, and how many times groups are run.
 #[derive(Clone, Copy)]
-struct Names<'w> {
-    program: &'w str,
+struct Job<'w> {
     state: &'w str,
     trace: &'w str,
     report: &'w str,
+    times: u32,
 }
 
 /// Does what the words say.
@@ -37,118 +35,91 @@ pub fn run(rt: &HostRuntime, words: &[String]) -> io::Result<()> {
     let [program, state, trace, report, times] = words else {
         return wrong_words(rt, "groups PROGRAM STATE TRACE REPORT TIMES");
     };
-    let names = Names {
-        program: program.as_str(),
+    let job = Job {
         state: state.as_str(),
         trace: trace.as_str(),
         report: report.as_str(),
+        times: number(times.as_str())?,
     };
-    let times = number(times.as_str())?;
-    let mut shelf = FileShelf::new(rt.clone()?);
-    match run_files(rt, &mut shelf, names, times) {
-        Ok(done) => done,
-        Err(_) => Err(ErrorKind::InvalidData.into()),
-    }
-}
-
-/// Runs the groups of these files, where each of them can be read.
-fn run_files(
-    rt: &HostRuntime,
-    shelf: &mut FileShelf,
-    names: Names<'_>,
-    times: u32,
-) -> Result<io::Result<()>, InputError> {
-    let program = read_program(rt.alloc(), shelf, names.program, MOST_FILE_BYTES)?;
-    let done = run_program(rt, shelf, names, times, &program);
+    let text = fs::read(rt, program.as_str())?;
+    let program = program_of(rt.alloc(), &text).ok_or(ErrorKind::InvalidData)?;
+    let done = run_program(rt, job, &program);
     drop(program);
     done
 }
 
-/// The same where this program was read.
-fn run_program(
-    rt: &HostRuntime,
-    shelf: &mut FileShelf,
-    names: Names<'_>,
-    times: u32,
-    program: &Program,
-) -> Result<io::Result<()>, InputError> {
-    let start = read_state(rt.alloc(), shelf, names.state, MOST_FILE_BYTES, program)?;
-    let done = run_state(rt, shelf, names, times, program, &start);
+/// Runs the groups of these files where the program is this.
+fn run_program(rt: &HostRuntime, job: Job<'_>, program: &Program) -> io::Result<()> {
+    let state = fs::read(rt, job.state)?;
+    let start = start_of(rt.alloc(), program, &state).ok_or(ErrorKind::InvalidData)?;
+    let done = run_start(rt, job, program, &start);
     drop(start);
     done
 }
 
-/// The same where this state was read, too.
-fn run_state(
-    rt: &HostRuntime,
-    shelf: &mut FileShelf,
-    names: Names<'_>,
-    times: u32,
-    program: &Program,
-    start: &ObjectSet,
-) -> Result<io::Result<()>, InputError>
+/// The same where the state is this, too.
+fn run_start(rt: &HostRuntime, job: Job<'_>, program: &Program, start: &ObjectSet) -> io::Result<()>
     requires { IsSetOf program.now start.now }
 {
-    let trace = read_trace(rt.alloc(), shelf, names.trace, MOST_FILE_BYTES)?;
-    let done = match read_report(rt.alloc(), shelf, names.report, MOST_FILE_BYTES) {
-        Ok(Ok(report)) => {
-            let done = run_report(rt, program, start, &trace, &report, times);
-            drop(report);
-            Ok(done)
-        }
-        Ok(Err(_)) => Ok(Err(ErrorKind::InvalidData.into())),
-        Err(error) => Err(error),
-    };
+    let bytes = fs::read(rt, job.trace)?;
+    let trace = trace_of(rt.alloc(), bytes).ok_or(ErrorKind::InvalidData)?;
+    let done = run_trace(rt, job, program, start, &trace);
     drop(trace);
+    done
+}
+
+/// The same where the trace is this, too.
+fn run_trace(
+    rt: &HostRuntime,
+    job: Job<'_>,
+    program: &Program,
+    start: &ObjectSet,
+    trace: &TraceFile,
+) -> io::Result<()>
+    requires { IsSetOf program.now start.now }
+{
+    let bytes = fs::read(rt, job.report)?;
+    let report = report_of(rt.alloc(), &bytes).ok_or(ErrorKind::InvalidData)?;
+    let trace = IndexedTrace::new(rt.alloc(), trace)?;
+    let done = run_report(rt, job, program, start, &trace, &report);
+    drop(trace);
+    drop(report);
     done
 }
 
 /// Runs the groups of a report whose counts and logs have no fault.
 fn run_report(
     rt: &HostRuntime,
+    job: Job<'_>,
     program: &Program,
     start: &ObjectSet,
-    trace: &TraceFile,
+    trace: &IndexedTrace<'_>,
     report: &Report,
-    times: u32,
 ) -> io::Result<()>
     requires { IsSetOf program.now start.now }
 {
-    let alloc = rt.alloc();
     if !fit_logs(start, report.logs.as_slice()) {
         return Err(ErrorKind::InvalidData.into());
     }
-    let trace = IndexedTrace::new(alloc, trace)?;
-    let done = match check_logs(alloc, start, &trace, report) {
-        Ok(map) => {
-            let gathered = Evidence::gather(alloc, &trace, start, report, &map);
-            let done = run_evidence(rt, program, gathered, times);
-            drop(map);
-            done
-        }
-        Err(_) => Err(ErrorKind::InvalidData.into()),
-    };
-    drop(trace);
+    let map = check_logs(rt.alloc(), start, trace, report).ok();
+    let map = map.ok_or(ErrorKind::InvalidData)?;
+    let evidence = Evidence::gather(rt.alloc(), trace, start, report, &map)?;
+    let done = run_evidence(rt, program, &evidence, job.times);
+    drop(evidence);
+    drop(map);
     done
 }
 
-/// Runs the groups of the evidence, where it was gathered.
+/// Runs the groups of the evidence.
 fn run_evidence(
     rt: &HostRuntime,
     program: &Program,
-    gathered: Result<Evidence<'_>, AllocError>,
+    evidence: &Evidence<'_>,
     times: u32,
 ) -> io::Result<()> {
-    let evidence = gathered?;
-    let done = match translate(rt.alloc(), program) {
-        Ok(code) => {
-            let done = compare(rt, &code, &evidence, times);
-            drop(code);
-            done
-        }
-        Err(error) => Err(error.into()),
-    };
-    drop(evidence);
+    let code = translate(rt.alloc(), program)?;
+    let done = compare(rt, &code, evidence, times);
+    drop(code);
     done
 }
 

@@ -4,9 +4,10 @@
 
 mod files;
 mod groups;
+mod inputs;
 mod order;
 mod pages;
-mod tally;
+mod records;
 mod versions;
 mod words;
 

@@ -1,24 +1,16 @@
-//! Orders the events of reports. With the name of a file it runs the rows of that file, and tells
-//! those that come to something else than the row says. With a shape, a number of requests and how
-//! many times, it makes a large report for `bench/order`, orders its events so many times, and tells
-//! on standard error how long that took.
+//! Makes a large report, checks it and orders its events, for `bench/order`. The words are its
+//! shape, a number of requests and how many times, as `order rounds_of_16 64 1`. It prints what came
+//! of it, and tells on standard error how long that took.
 ghost use Rattle.period.specs.Traces.{IsBalanced};
 
 mod answer;
-mod events;
 mod shape;
-pub mod told;
-mod words;
 
-use crate::order::answer::{answer_of, indexed};
+use crate::inputs::{report_of, trace_of};
+use crate::order::answer::{answer_length, indexed};
 use crate::order::shape::Shape;
-use crate::order::told::told;
-use crate::order::words::{report_of, trace_of};
-use crate::tally::{Tally, row_of};
 use crate::words::{number, wrong_words};
 use period::report::Report;
-use std::alloc::Global;
-use std::fs;
 use std::io::{self, ErrorKind};
 use std::time::{Duration, Instant};
 use trace_format::trace_file::TraceFile;
@@ -26,85 +18,44 @@ use trace_index::IndexedTrace;
 
 /// Does what the words say.
 pub fn run(rt: &HostRuntime, words: &[String]) -> io::Result<()> {
-    match words {
-        [file] => run_rows(rt, file.as_str(), &fs::read_to_string(rt, file.as_str())?),
-        [shape, requests, times] => {
-            let shape = Shape::from_word(shape.as_str()).ok_or(ErrorKind::InvalidInput)?;
-            run_bench(
-                rt,
-                shape,
-                number(requests.as_str())?,
-                number(times.as_str())?,
-            )
-        }
-        _ => wrong_words(rt, "order FILE, or order SHAPE REQUESTS TIMES"),
-    }
-}
-
-/// Runs the rows of a file.
-fn run_rows(rt: &HostRuntime, file: &str, text: &str) -> io::Result<()> {
-    let mut tally = Tally::new();
-    for line in text.lines() {
-        if let Some((wanted, words)) = row_of(line) {
-            let told = row_told(rt.alloc(), words)?;
-            tally.count(rt, words, wanted, told.as_str())?;
-        }
-    }
-    tally.tell(rt, file)
-}
-
-/// What the words of a row come to.
-fn row_told(alloc: Global, words: &str) -> io::Result<String> {
-    let trace = trace_of(alloc, words)?;
-    let told = match report_of(alloc, words) {
-        Ok(report) => {
-            let told = answer_told(alloc, &trace, &report);
-            drop(report);
-            told
-        }
-        Err(error) => Err(error),
+    let [shape, requests, times] = words else {
+        return wrong_words(rt, "order SHAPE REQUESTS TIMES");
     };
-    drop(trace);
-    told
+    let shape = Shape::from_word(shape.as_str()).ok_or(ErrorKind::InvalidInput)?;
+    run_shape(
+        rt,
+        shape,
+        number(requests.as_str())?,
+        number(times.as_str())?,
+    )
 }
 
-fn answer_told(alloc: Global, trace: &TraceFile, report: &Report) -> io::Result<String> {
-    let trace = indexed(alloc, trace)?;
-    let answer = answer_of(alloc, &trace, report);
-    drop(trace);
-    match answer {
-        Ok(answer) => {
-            let told = told(alloc, &answer);
-            drop(answer);
-            Ok(told?)
-        }
-        Err(error) => Err(error.into()),
-    }
+/// Makes a report and its trace, and orders its events so many times. The bytes of the report stay,
+/// so that what ordering takes isn't taken from their place.
+fn run_shape(rt: &HostRuntime, shape: Shape, requests: u32, times: u32) -> io::Result<()> {
+    let bytes = shape.report(rt.alloc(), requests)?;
+    let report = report_of(rt.alloc(), &bytes).ok_or(ErrorKind::InvalidData)?;
+    let done = run_report(rt, shape, requests, &report, times);
+    drop(report);
+    done
 }
 
-/// Makes a report and the table of its trace, and orders its events so many times.
-fn run_bench(rt: &HostRuntime, shape: Shape, requests: u32, times: u32) -> io::Result<()> {
-    let trace = shape.trace(rt.alloc(), requests)?;
-    let done = match shape.report(rt.alloc(), requests) {
-        Ok(report) => {
-            let done = order_report(rt, &trace, &report, times);
-            drop(report);
-            done
-        }
-        Err(error) => Err(error),
-    };
+fn run_report(
+    rt: &HostRuntime,
+    shape: Shape,
+    requests: u32,
+    report: &Report,
+    times: u32,
+) -> io::Result<()> {
+    let bytes = shape.trace(rt.alloc(), requests)?;
+    let trace = trace_of(rt.alloc(), bytes).ok_or(ErrorKind::InvalidData)?;
+    let done = run_trace(rt, &trace, report, times);
     drop(trace);
     done
 }
 
-/// Orders the events of this report so many times.
-fn order_report(
-    rt: &HostRuntime,
-    trace: &TraceFile,
-    report: &Report,
-    times: u32,
-) -> io::Result<()> {
-    let trace = indexed(rt.alloc(), trace)?;
+fn run_trace(rt: &HostRuntime, trace: &TraceFile, report: &Report, times: u32) -> io::Result<()> {
+    let trace = indexed(rt.alloc(), trace).ok_or(ErrorKind::InvalidData)?;
     let done = order_times(rt, &trace, report, times);
     drop(trace);
     done
@@ -123,10 +74,8 @@ fn order_times(
     let (mut took, mut length) = (Duration::ZERO, 0);
     for _ in 0..times {
         let start = Instant::now(rt)?;
-        let answer = answer_of(rt.alloc(), trace, report)?;
-        let elapsed = start.elapsed(rt);
-        length = answer.into_length();
-        took = took.saturating_add(elapsed?);
+        length = answer_length(rt.alloc(), trace, report)?;
+        took = took.saturating_add(start.elapsed(rt)?);
     }
     println!(rt;
         "events {}, times {times}, answer of {length} nodes",

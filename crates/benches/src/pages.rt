@@ -2,10 +2,10 @@
 //! engine, the program's file, the page's path and how many times, as `machine hit /hit 3`. Each
 //! operation is answered with null.
 mod engine;
-mod inputs;
+mod request;
 
+use crate::inputs::program_of;
 use crate::pages::engine::{steps_by_machine, steps_by_walker};
-use crate::pages::inputs::program_of;
 use crate::words::{number, wrong_words};
 use script_check::program::Program;
 use std::alloc::Global;
@@ -26,7 +26,9 @@ pub fn run(rt: &HostRuntime, words: &[String]) -> io::Result<()> {
 /// The steps of so many runs of the page of this path of the program that this text spells.
 fn steps(alloc: Global, engine: &str, text: &[u8], path: &str, times: u32) -> io::Result<u64> {
     let program = program_of(alloc, text).ok_or(ErrorKind::InvalidData)?;
-    steps_by(alloc, engine, &program, path, times)
+    let steps = steps_by(alloc, engine, &program, path, times);
+    drop(program);
+    steps
 }
 
 /// The same by the engine of this name, where there is one.

@@ -1,57 +1,62 @@
-//! Answers the entries of logs from the versions of their objects. With the name of a file it runs
-//! the rows of that file, and tells those that come to something else than the row says. With a shape,
-//! how many entries and how many times, it makes a large log for `bench/versions`, and tells on standard
-//! error how long its versions and all answers took.
-mod bench;
+//! Makes a large log, builds the versions of its objects and answers its entries, for
+//! `bench/versions`. The words are a shape, how many entries and how many times, as
+//! `versions registers 64 1`. It tells on standard error how long versions and answers took.
+mod answering;
 mod shape;
-mod start;
-mod told;
-mod words;
 
-use crate::tally::{Tally, row_of};
-use crate::versions::bench::run_bench;
+use crate::inputs::{program_of, report_of, start_of};
+use crate::versions::answering::answer_times;
 use crate::versions::shape::Shape;
-use crate::versions::told::versioned;
-use crate::versions::words::Row;
 use crate::words::{number, wrong_words};
-use std::alloc::Global;
-use std::fs;
+use object_set::ObjectSet;
 use std::io::{self, ErrorKind};
 
-/// The words that there are.
-const USE: &str = "versions FILE, or versions SHAPE ENTRIES TIMES";
+/// The program: a table with a key and one more column.
+const PROGRAM: &[u8] = b"table t (k, n);";
 
 /// Does what the words say.
 pub fn run(rt: &HostRuntime, words: &[String]) -> io::Result<()> {
-    match words {
-        [file] => run_rows(rt, file.as_str(), &fs::read_to_string(rt, file.as_str())?),
-        [shape, entries, times] => run_shape(rt, shape.as_str(), entries.as_str(), times.as_str()),
-        _ => wrong_words(rt, USE),
-    }
+    let [shape, entries, times] = words else {
+        return wrong_words(rt, "versions SHAPE ENTRIES TIMES");
+    };
+    let shape = Shape::from_word(shape.as_str()).ok_or(ErrorKind::InvalidInput)?;
+    run_shape(
+        rt,
+        shape,
+        number(entries.as_str())?,
+        number(times.as_str())?,
+    )
 }
 
-/// Makes a log of this shape, and answers it.
-fn run_shape(rt: &HostRuntime, shape: &str, entries: &str, times: &str) -> io::Result<()> {
-    match Shape::from_word(shape) {
-        Some(shape) => run_bench(rt, shape, number(entries)?, number(times)?),
-        None => wrong_words(rt, USE),
-    }
+/// Makes the objects that the logs of this shape start with, and answers them.
+fn run_shape(rt: &HostRuntime, shape: Shape, entries: u32, times: u32) -> io::Result<()> {
+    let start = start(rt, shape)?;
+    let done = run_start(rt, shape, &start, entries, times);
+    drop(start);
+    done
 }
 
-/// Runs the rows of a file.
-fn run_rows(rt: &HostRuntime, file: &str, text: &str) -> io::Result<()> {
-    let mut tally = Tally::new();
-    for line in text.lines() {
-        if let Some((wanted, words)) = row_of(line) {
-            let told = row_told(rt.alloc(), words)?;
-            tally.count(rt, words, wanted, told.as_str())?;
-        }
-    }
-    tally.tell(rt, file)
+fn start(rt: &HostRuntime, shape: Shape) -> io::Result<ObjectSet> {
+    let state = shape.state(rt.alloc())?;
+    let program = program_of(rt.alloc(), PROGRAM).ok_or(ErrorKind::InvalidData)?;
+    let start = start_of(rt.alloc(), &program, state.as_bytes());
+    drop(program);
+    start.ok_or(ErrorKind::InvalidData.into())
 }
 
-/// What the versions tell of the words of a row.
-fn row_told(alloc: Global, words: &str) -> io::Result<String> {
-    let row = Row::new(words).ok_or(ErrorKind::InvalidData)?;
-    versioned(alloc, row)
+/// Makes the logs, and answers them so many times. The bytes of the report stay, so that what the
+/// versions take isn't taken from their place.
+fn run_start(
+    rt: &HostRuntime,
+    shape: Shape,
+    start: &ObjectSet,
+    entries: u32,
+    times: u32,
+) -> io::Result<()> {
+    let bytes = shape.report(rt.alloc(), entries)?;
+    let report = report_of(rt.alloc(), &bytes).ok_or(ErrorKind::InvalidData)?;
+    let done = answer_times(rt, start, report.logs.as_slice(), times);
+    drop(report);
+    done?;
+    println!(rt; "entries {entries}, times {times}")
 }

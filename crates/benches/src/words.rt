@@ -1,5 +1,4 @@
 //! Words, and what they stand for.
-use script_tree::text::Text;
 use std::alloc::{AllocError, Global};
 use std::io::{self, ErrorKind};
 
@@ -15,11 +14,6 @@ pub fn split(alloc: Global, line: &str) -> Result<Vec<String>, AllocError> {
 /// The number that a word spells.
 pub fn number(word: &str) -> io::Result<u32> {
     word.parse().ok().ok_or(ErrorKind::InvalidInput.into())
-}
-
-/// The text of a word.
-pub fn text_of(alloc: Global, word: &str) -> Result<Text, AllocError> {
-    Ok(Text::from_vec(word.as_bytes().to_vec(alloc)?))
 }
 
 /// The end of a run that was given other words than these.

@@ -1,5 +1,5 @@
 //! What the checks of a report and the order of its events come to.
-ghost use Rattle.std.specs.Prelude.{IfOk};
+ghost use Rattle.std.specs.Prelude.{IfSome};
 ghost use Rattle.period.specs.Traces.{IsBalanced};
 
 use audit_meaning::node::Nodes;
@@ -10,51 +10,33 @@ use log_checker::{check_groups, check_logs};
 use object_set::ObjectSet;
 use period::report::Report;
 use std::alloc::{AllocError, Global};
-use std::io::{self, ErrorKind};
 use trace_format::balance::first_unbalanced;
 use trace_format::trace_file::TraceFile;
 use trace_index::IndexedTrace;
 
-/// The order of events, or what is wrong with the report.
-#[derive(Drop)]
-pub enum Answer {
-    Rejected(Reason),
-    Order(Nodes),
-}
-
-impl Answer {
-    /// How many nodes it named.
-    pub fn into_length(self) -> usize {
-        match self {
-            Answer::Order(nodes) | Answer::Rejected(Reason::Cycle(nodes)) => nodes.len(),
-            Answer::Rejected(_) => 0,
-        }
-    }
-}
-
 /// The trace with its table, where it is balanced.
-pub fn indexed<'a>(alloc: Global, trace: &'a TraceFile) -> io::Result<IndexedTrace<'a>>
-    ensures { IfOk result IsBalanced }
+pub fn indexed<'a>(alloc: Global, trace: &'a TraceFile) -> Option<IndexedTrace<'a>>
+    ensures { IfSome result IsBalanced }
 {
-    if first_unbalanced(alloc, trace)?.is_some() {
-        return Err(ErrorKind::InvalidData.into());
+    match first_unbalanced(alloc, trace) {
+        Ok(None) => IndexedTrace::new(alloc, trace).ok(),
+        Ok(Some(_)) | Err(AllocError) => None,
     }
-    Ok(IndexedTrace::new(alloc, trace)?)
 }
 
-/// What a report comes to without its groups' runs, where the program declares nothing and nothing is
-/// stored.
-pub fn answer_of(
+/// How many nodes the order of the report's events names, or its cycle, where the program declares
+/// nothing and nothing is stored. None, where something else is wrong with it.
+pub fn answer_length(
     alloc: Global,
     trace: &IndexedTrace<'_>,
     report: &Report,
-) -> Result<Answer, AllocError>
+) -> Result<usize, AllocError>
     requires { IsBalanced trace.now }
 {
     match order_of(alloc, trace, report) {
-        Ok(nodes) => Ok(Answer::Order(nodes)),
+        Ok(nodes) | Err(OrMemory::Other(Reason::Cycle(nodes))) => Ok(nodes.len()),
+        Err(OrMemory::Other(_)) => Ok(0),
         Err(OrMemory::Memory) => Err(AllocError),
-        Err(OrMemory::Other(reason)) => Ok(Answer::Rejected(reason)),
     }
 }
 

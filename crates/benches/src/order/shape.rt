@@ -1,14 +1,9 @@
-//! Large reports for the bench. Each request issues two operations, but in a walk.
-use crate::order::events::Events;
-use crate::words::text_of;
-use basis::Items;
-use period::group::{Group, Groups};
-use period::report::{Count, Counts, Log, LogEntries, LogEntry, Logs, Report};
-use script_tree::operation::{Act, Choice, Object};
+//! Large traces and reports for the bench. Each request issues two operations, but in a walk.
+use crate::records::{
+    put_count, put_group, put_read, put_register, put_request, put_response, report, trace,
+};
 use std::alloc::{AllocError, Global};
-use std::io::{self, ErrorKind};
 use std::ops::Range;
-use trace_format::trace_file::TraceFile;
 
 /// What a made report is like.
 #[derive(Clone, Copy)]
@@ -42,159 +37,149 @@ impl Shape {
     }
 
     /// The trace of so many requests.
-    pub fn trace(self, alloc: Global, requests: u32) -> io::Result<TraceFile> {
-        let mut events = Events::new(alloc)?;
+    pub fn trace(self, alloc: Global, requests: u32) -> Result<Vec<u8>, AllocError> {
+        let mut events = trace(alloc)?;
         match self {
             Shape::Rounds { width } => put_rounds(&mut events, width, requests)?,
             Shape::OneLog => put_rounds(&mut events, 1, requests)?,
             Shape::Walk => put_walk(&mut events, requests / 3)?,
         }
-        events.finish(alloc)
+        Ok(events)
     }
 
     /// The report of so many requests.
-    pub fn report(self, alloc: Global, requests: u32) -> io::Result<Report> {
-        let (requests, operations) = match self {
-            Shape::Rounds { .. } | Shape::OneLog => (requests, 2),
-            Shape::Walk => (requests / 3 * 3, 1),
-        };
-        let counts = counts_of(alloc, requests, operations)?;
-        let groups = groups_of(alloc, requests)?;
-        let logs = self.logs(alloc, requests)?;
-        Ok(Report {
-            counts,
-            logs,
-            groups,
-        })
-    }
-
-    fn logs(self, alloc: Global, requests: u32) -> Result<Logs, AllocError> {
+    pub fn report(self, alloc: Global, requests: u32) -> Result<Vec<u8>, AllocError> {
+        let mut records = report(alloc)?;
         match self {
-            Shape::Rounds { .. } => logs_of_rounds(alloc, requests),
-            Shape::OneLog => one_log(alloc, requests),
-            Shape::Walk => logs_of_walk(alloc, requests / 3),
+            Shape::Rounds { .. } => put_rounds_report(alloc, &mut records, requests)?,
+            Shape::OneLog => put_one_log_report(alloc, &mut records, requests)?,
+            Shape::Walk => put_walk_report(alloc, &mut records, requests / 3)?,
         }
+        Ok(records)
     }
 }
 
 /// Rounds, in each of which so many arrive, and then depart.
-fn put_rounds(events: &mut Events, width: u32, requests: u32) -> Result<(), AllocError> {
+fn put_rounds(events: &mut Vec<u8>, width: u32, requests: u32) -> Result<(), AllocError> {
     for first in (0..requests).step_by(width.max(1) as usize) {
         let end = first.saturating_add(width.max(1)).min(requests);
         for rid in first..end {
-            events.ask(rid)?;
+            put_request(events, rid)?;
         }
         for rid in first..end {
-            events.answer(rid)?;
+            put_response(events, rid)?;
         }
     }
     Ok(())
 }
 
-fn put_walk(events: &mut Events, third: u32) -> Result<(), AllocError> {
+fn put_walk(events: &mut Vec<u8>, third: u32) -> Result<(), AllocError> {
     let twice = third.saturating_mul(2);
     for early in 0..third {
-        events.ask(early)?;
+        put_request(events, early)?;
     }
     for early in 0..third {
-        events.answer(early)?;
-        events.ask(twice.saturating_add(early))?;
+        put_response(events, early)?;
+        put_request(events, twice.saturating_add(early))?;
     }
     for late in 0..third {
-        events.ask(third.saturating_add(late))?;
-        events.answer(twice.saturating_add(late))?;
+        put_request(events, third.saturating_add(late))?;
+        put_response(events, twice.saturating_add(late))?;
     }
     for late in 0..third {
-        events.answer(third.saturating_add(late))?;
+        put_response(events, third.saturating_add(late))?;
     }
     Ok(())
 }
 
 /// A count of each request.
-fn counts_of(alloc: Global, requests: u32, operations: u32) -> Result<Counts, AllocError> {
-    let mut counts = Items::new(alloc);
+fn put_counts(records: &mut Vec<u8>, requests: u32, operations: u32) -> Result<(), AllocError> {
     for rid in 0..requests {
-        counts.push(Count { rid, operations })?;
+        put_count(records, rid, operations)?;
     }
-    Ok(counts)
-}
-
-fn group_of(alloc: Global, rid: u32) -> io::Result<Group> {
-    let rids = Vec::from_slice(alloc, &[rid])?;
-    Group::new(rids).ok_or(ErrorKind::InvalidData.into())
+    Ok(())
 }
 
 /// A group of each request.
-fn groups_of(alloc: Global, requests: u32) -> io::Result<Groups> {
-    let mut groups = Items::new(alloc);
+fn put_groups(records: &mut Vec<u8>, requests: u32) -> Result<(), AllocError> {
     for rid in 0..requests {
-        groups.push(group_of(alloc, rid)?)?;
+        put_group(records, rid)?;
     }
-    Ok(groups)
+    Ok(())
 }
 
-fn read(rid: u32, number: u32) -> LogEntry {
-    LogEntry {
-        rid,
-        number,
-        act: Act::Read,
-        choice: Choice::Nothing,
-    }
-}
-
-/// A read of each request.
-fn reads(alloc: Global, rids: Range<u32>, number: u32) -> Result<LogEntries, AllocError> {
-    let mut entries = Items::new(alloc);
+/// A log of reads, one of each request.
+fn put_reads(
+    alloc: Global,
+    records: &mut Vec<u8>,
+    name: &str,
+    rids: Range<u32>,
+    number: u32,
+) -> Result<(), AllocError> {
+    let mut entries = Vec::new(alloc);
+    let mut count = 0usize;
     for rid in rids {
-        entries.push(read(rid, number))?;
+        put_read(&mut entries, rid, number)?;
+        count = count.saturating_add(1);
     }
-    Ok(entries)
+    put_register(records, name, count, &entries)
 }
 
-/// The log of a register of this name.
-fn log_of(alloc: Global, name: &str, entries: LogEntries) -> Result<Log, AllocError> {
-    let object = Object::Register(text_of(alloc, name)?);
-    Ok(Log { object, entries })
+fn put_rounds_report(
+    alloc: Global,
+    records: &mut Vec<u8>,
+    requests: u32,
+) -> Result<(), AllocError> {
+    put_counts(records, requests, 2)?;
+    put_reads(alloc, records, "a", 0..requests, 1)?;
+    put_reads(alloc, records, "b", 0..requests, 2)?;
+    put_groups(records, requests)
 }
 
-fn logs_of_rounds(alloc: Global, requests: u32) -> Result<Logs, AllocError> {
-    let mut logs = Items::new(alloc);
-    for (name, number) in [("a", 1), ("b", 2)] {
-        logs.push(log_of(alloc, name, reads(alloc, 0..requests, number)?)?)?;
-    }
-    Ok(logs)
+fn put_one_log_report(
+    alloc: Global,
+    records: &mut Vec<u8>,
+    requests: u32,
+) -> Result<(), AllocError> {
+    put_counts(records, requests, 2)?;
+    put_one_log(alloc, records, requests)?;
+    put_groups(records, requests)
 }
 
-fn one_log(alloc: Global, requests: u32) -> Result<Logs, AllocError> {
-    let mut entries = Items::new(alloc);
+fn put_one_log(alloc: Global, records: &mut Vec<u8>, requests: u32) -> Result<(), AllocError> {
+    let mut entries = Vec::new(alloc);
     for rid in 0..requests {
-        entries.push(read(rid, 1))?;
-        entries.push(read(rid, 2))?;
+        put_read(&mut entries, rid, 1)?;
+        put_read(&mut entries, rid, 2)?;
     }
-    let mut logs = Items::new(alloc);
-    logs.push(log_of(alloc, "a", entries)?)?;
-    Ok(logs)
+    let count = (requests as usize).saturating_mul(2);
+    put_register(records, "a", count, &entries)
 }
 
-/// The logs of a walk: one for each early request, and one of the requests between.
-fn logs_of_walk(alloc: Global, third: u32) -> Result<Logs, AllocError> {
-    let mut logs = Items::new(alloc);
+/// The logs of a walk are one for each early request, and one of the requests between.
+fn put_walk_report(alloc: Global, records: &mut Vec<u8>, third: u32) -> Result<(), AllocError> {
+    let requests = third.saturating_mul(3);
+    put_counts(records, requests, 1)?;
     for early in 0..third {
-        logs.push(crossing(alloc, early, third)?)?;
+        put_crossing(alloc, records, early, third)?;
     }
-    let twice = third.saturating_mul(2);
-    let between = twice..twice.saturating_add(third);
-    logs.push(log_of(alloc, "between", reads(alloc, between, 1)?)?)?;
-    Ok(logs)
+    let between = third.saturating_mul(2)..requests;
+    put_reads(alloc, records, "between", between, 1)?;
+    put_groups(records, requests)
 }
 
 /// The log in which the next late request stands before this early one.
-fn crossing(alloc: Global, early: u32, third: u32) -> Result<Log, AllocError> {
+fn put_crossing(
+    alloc: Global,
+    records: &mut Vec<u8>,
+    early: u32,
+    third: u32,
+) -> Result<(), AllocError> {
     let next = early.saturating_add(1);
     let late = if next == third { 0 } else { next };
-    let mut entries = Items::new(alloc);
-    entries.push(read(third.saturating_add(late), 1))?;
-    entries.push(read(early, 1))?;
+    let mut entries = Vec::new(alloc);
+    put_read(&mut entries, third.saturating_add(late), 1)?;
+    put_read(&mut entries, early, 1)?;
     let name = format!(in alloc; "{early}")?;
-    log_of(alloc, name.as_str(), entries)
+    put_register(records, name.as_str(), 2, &entries)
 }

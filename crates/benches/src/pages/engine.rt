@@ -1,7 +1,7 @@
 //! What runs a page.
 ghost use Rattle.machine.specs.Follows.{IsReady};
 
-use crate::pages::inputs::request_of;
+use crate::pages::request::request_of;
 use machine::{Machine, MachineStep};
 use page_walker::{Walker, WalkerStep};
 use script_check::lookup::Index;

@@ -1,18 +1,11 @@
-//! Large logs for the bench.
-use crate::versions::words::{empty_objects, entry_of, row_of, select, update};
-use crate::words::text_of;
-use basis::Items;
-use object_set::ObjectSet;
-use period::report::Log;
-use script_tree::operation::{Act, Object};
-use script_tree::transaction::{Statement, Statements};
-use script_tree::value::Value;
+//! Large logs for the bench, of an object or of many.
+use crate::records::{
+    begin_entry, end_entry, put_read, put_register, put_tables, put_text, report,
+};
 use std::alloc::{AllocError, Global};
-use std::io::{self, ErrorKind};
-use std::ops::Range;
 
 /// What a made log is like.
-#[derive(Clone, Copy, PartialEq, Eq)]
+#[derive(Clone, Copy)]
 pub enum Shape {
     /// Writes and reads of one register.
     Register,
@@ -27,6 +20,25 @@ pub enum Shape {
     /// Selects of a row each, and no update.
     Different,
 }
+
+/// An act that is a write of a number, before the number.
+const WRITE: &[u8] = b"\x02\x03";
+
+/// A transaction of one part, and of two.
+const TRANSACT: &[u8] = b"\x06\0\0\0\x01";
+
+const TRANSACT_TWO: &[u8] = b"\x06\0\0\0\x02";
+
+/// A select of the second column of the first table, without its tests.
+const SELECT: &[u8] = b"\x02\0\0\0\0\0\0\0\x01\0\0\0\x01";
+
+/// An update of this column by a number, before the number.
+const UPDATE: &[u8] = b"\x03\0\0\0\0\0\0\0\x01\0\0\0\x01\x03";
+
+/// No test, and a test of one key, before the key.
+const NO_TEST: &[u8] = b"\0\0\0\0";
+
+const TEST: &[u8] = b"\0\0\0\x01\0\0\0\0\x01\x04";
 
 impl Shape {
     pub fn from_word(word: &str) -> Option<Shape> {
@@ -49,124 +61,154 @@ impl Shape {
             Shape::Same => 1_000,
         }
     }
-}
 
-/// The key of a row: its number, or one that tells nothing of the number's order.
-fn key_of(alloc: Global, shape: Shape, number: u32) -> Result<String, AllocError> {
-    let key = match shape {
-        Shape::Register | Shape::Registers | Shape::Rows | Shape::Same => number,
-        Shape::RowsAtRandom | Shape::Different => number.wrapping_mul(0x9e37_79b1),
-    };
-    format!(in alloc; "{key:08x}")
-}
+    /// The key of a row: its number, or one that tells nothing of the number's order.
+    fn key(self, alloc: Global, number: u32) -> Result<String, AllocError> {
+        let key = match self {
+            Shape::Register | Shape::Registers | Shape::Rows | Shape::Same => number,
+            Shape::RowsAtRandom | Shape::Different => number.wrapping_mul(0x9e37_79b1),
+        };
+        format!(in alloc; "{key:08x}")
+    }
 
-/// The objects that the logs start with.
-pub fn start_of(alloc: Global, shape: Shape) -> io::Result<ObjectSet> {
-    let mut objects = empty_objects(alloc)?;
-    match add_rows(alloc, shape, &mut objects) {
-        Ok(()) => Ok(objects),
-        Err(error) => {
-            drop(objects);
-            Err(error)
+    /// The state that the logs start with.
+    pub fn state(self, alloc: Global) -> Result<String, AllocError> {
+        let mut state = String::from_str(alloc, "{\"tables\":{\"t\":[")?;
+        let mut comma = "";
+        for number in 0..self.rows() {
+            let key = self.key(alloc, number)?;
+            state.push_str(format!(in alloc; "{comma}[\"{key}\",{number}]")?.as_str())?;
+            comma = ",";
         }
+        state.push_str("]}}")?;
+        Ok(state)
+    }
+
+    /// The report of the logs of so many entries.
+    pub fn report(self, alloc: Global, count: u32) -> Result<Vec<u8>, AllocError> {
+        let mut records = report(alloc)?;
+        match self {
+            Shape::Registers => put_registers(alloc, &mut records, count)?,
+            Shape::Register => put_one_register(alloc, &mut records, count)?,
+            Shape::Rows | Shape::RowsAtRandom | Shape::Same | Shape::Different => {
+                put_transactions(alloc, &mut records, self, count)?
+            }
+        }
+        Ok(records)
     }
 }
 
-/// Adds the rows of a shape to the table.
-fn add_rows(alloc: Global, shape: Shape, objects: &mut ObjectSet) -> io::Result<()> {
-    for number in 0..shape.rows() {
-        let key = key_of(alloc, shape, number)?;
-        add_row(alloc, objects, key.as_str(), i64::from(number))?;
+/// The log of one register.
+fn put_one_register(alloc: Global, records: &mut Vec<u8>, count: u32) -> Result<(), AllocError> {
+    let mut entries = Vec::new(alloc);
+    for number in 0..count {
+        put_cell_entry(&mut entries, number)?;
+    }
+    put_register(records, "r", count as usize, &entries)
+}
+
+/// A log of two entries of each register.
+fn put_registers(alloc: Global, records: &mut Vec<u8>, count: u32) -> Result<(), AllocError> {
+    for number in 0..count / 2 {
+        let name = format!(in alloc; "{number:08x}")?;
+        put_pair(alloc, records, name.as_str())?;
     }
     Ok(())
 }
 
-/// Adds a row to the table, where it may.
-fn add_row(alloc: Global, objects: &mut ObjectSet, key: &str, number: i64) -> io::Result<()> {
-    let row = row_of(alloc, key, number)?;
-    if !objects.tables().fits_row(0, row.as_slice()) {
-        return Err(ErrorKind::InvalidData.into());
-    }
-    objects.insert_row(0, row)?;
-    Ok(())
+fn put_pair(alloc: Global, records: &mut Vec<u8>, name: &str) -> Result<(), AllocError> {
+    let mut entries = Vec::new(alloc);
+    put_cell_entry(&mut entries, 0)?;
+    put_cell_entry(&mut entries, 1)?;
+    put_register(records, name, 2, &entries)
 }
 
-fn transact(alloc: Global, statement: Statement) -> Result<Act, AllocError> {
-    let mut statements = Statements::new(alloc);
-    statements.push(statement)?;
-    Ok(Act::Transact(statements))
-}
-
-fn select_and_update(alloc: Global, key: &str, number: i64) -> Result<Act, AllocError> {
-    let mut statements = Statements::new(alloc);
-    statements.push(select(alloc, key)?)?;
-    statements.push(update(alloc, key, number)?)?;
-    Ok(Act::Transact(statements))
-}
-
-/// The act of an entry of a register, by its number.
-fn cell_act(number: i64) -> Act {
+/// An entry of a register, by its number: writes and reads take turns.
+fn put_cell_entry(entries: &mut Vec<u8>, number: u32) -> Result<(), AllocError> {
     if number % 2 == 0 {
-        Act::Write(Value::number(number))
+        put_write(entries, number)
     } else {
-        Act::Read
+        put_read(entries, 0, 1)
     }
 }
 
-/// The act of an entry of so many.
-fn act_of(alloc: Global, shape: Shape, number: u32, count: u32) -> Result<Act, AllocError> {
-    let key = key_of(alloc, shape, number % shape.rows().max(1))?;
-    let changes = number % (count / 64).max(1) == 0;
-    act_on(alloc, shape, key.as_str(), i64::from(number), changes)
+fn put_write(entries: &mut Vec<u8>, number: u32) -> Result<(), AllocError> {
+    begin_entry(entries, 0, 1)?;
+    entries.extend_from_slice(WRITE)?;
+    put_number(entries, number)?;
+    end_entry(entries)
 }
 
-/// The same on a row of this key.
-fn act_on(
+/// The log of the tables.
+fn put_transactions(
     alloc: Global,
+    records: &mut Vec<u8>,
+    shape: Shape,
+    count: u32,
+) -> Result<(), AllocError> {
+    let mut entries = Vec::new(alloc);
+    for number in 0..count {
+        let key = shape.key(alloc, number % shape.rows().max(1))?;
+        let changes = number % (count / 64).max(1) == 0;
+        put_transaction(&mut entries, shape, key.as_str(), number, changes)?;
+    }
+    put_tables(records, count as usize, &entries)
+}
+
+/// An entry of the tables: its act, on the row of this key.
+fn put_transaction(
+    entries: &mut Vec<u8>,
     shape: Shape,
     key: &str,
-    number: i64,
+    number: u32,
     changes: bool,
-) -> Result<Act, AllocError> {
+) -> Result<(), AllocError> {
+    begin_entry(entries, 0, 1)?;
     match shape {
-        Shape::Register | Shape::Registers => Ok(cell_act(number)),
-        Shape::Rows | Shape::RowsAtRandom => select_and_update(alloc, key, number),
-        Shape::Same if changes => transact(alloc, update(alloc, key, number)?),
-        Shape::Same => transact(alloc, select(alloc, "*")?),
-        Shape::Different => transact(alloc, select(alloc, key)?),
+        Shape::Rows | Shape::RowsAtRandom => put_select_and_update(entries, key, number)?,
+        Shape::Same if changes => put_one_update(entries, key, number)?,
+        Shape::Same => put_select_of_all(entries)?,
+        Shape::Different | Shape::Register | Shape::Registers => put_one_select(entries, key)?,
     }
+    end_entry(entries)
 }
 
-/// The name of the object of an entry's log.
-fn object_of_entry(alloc: Global, shape: Shape, number: u32) -> Result<Object, AllocError> {
-    match shape {
-        Shape::Register => Ok(Object::Register(text_of(alloc, "r")?)),
-        Shape::Registers => {
-            let name = key_of(alloc, shape, number)?;
-            Ok(Object::Register(text_of(alloc, name.as_str())?))
-        }
-        Shape::Rows | Shape::RowsAtRandom | Shape::Same | Shape::Different => Ok(Object::Tables),
-    }
+fn put_select_and_update(entries: &mut Vec<u8>, key: &str, number: u32) -> Result<(), AllocError> {
+    entries.extend_from_slice(TRANSACT_TWO)?;
+    put_select(entries, key)?;
+    put_update(entries, key, number)
 }
 
-/// The log of the entries from one to before another, of so many.
-fn log_of(alloc: Global, shape: Shape, numbers: Range<u32>, count: u32) -> Result<Log, AllocError> {
-    let mut entries = Items::new(alloc);
-    let first = numbers.start;
-    for number in numbers {
-        entries.push(entry_of(act_of(alloc, shape, number, count)?))?;
-    }
-    let object = object_of_entry(alloc, shape, first)?;
-    Ok(Log { object, entries })
+fn put_one_update(entries: &mut Vec<u8>, key: &str, number: u32) -> Result<(), AllocError> {
+    entries.extend_from_slice(TRANSACT)?;
+    put_update(entries, key, number)
 }
 
-/// The logs of so many entries.
-pub fn logs_of(alloc: Global, shape: Shape, count: u32) -> Result<Vec<Log>, AllocError> {
-    let mut logs = Vec::new(alloc);
-    let length = if shape == Shape::Registers { 2 } else { count };
-    for first in (0..count).step_by(length.max(1) as usize) {
-        let end = first.saturating_add(length).min(count);
-        logs.push(log_of(alloc, shape, first..end, count)?)?;
-    }
-    Ok(logs)
+fn put_one_select(entries: &mut Vec<u8>, key: &str) -> Result<(), AllocError> {
+    entries.extend_from_slice(TRANSACT)?;
+    put_select(entries, key)
+}
+
+fn put_select_of_all(entries: &mut Vec<u8>) -> Result<(), AllocError> {
+    entries.extend_from_slice(TRANSACT)?;
+    entries.extend_from_slice(SELECT)?;
+    entries.extend_from_slice(NO_TEST)
+}
+
+fn put_select(entries: &mut Vec<u8>, key: &str) -> Result<(), AllocError> {
+    entries.extend_from_slice(SELECT)?;
+    entries.extend_from_slice(TEST)?;
+    put_text(entries, key)
+}
+
+fn put_update(entries: &mut Vec<u8>, key: &str, number: u32) -> Result<(), AllocError> {
+    entries.extend_from_slice(UPDATE)?;
+    put_number(entries, number)?;
+    entries.extend_from_slice(TEST)?;
+    put_text(entries, key)
+}
+
+/// A number of a value, in eight bytes.
+fn put_number(entries: &mut Vec<u8>, number: u32) -> Result<(), AllocError> {
+    entries.extend_from_slice(&u64::from(number).to_be_bytes())
 }

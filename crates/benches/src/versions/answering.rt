@@ -1,5 +1,4 @@
-//! The bench: answers a large log.
-use crate::versions::shape::{Shape, logs_of, start_of};
+//! Logs, answered from the versions of their objects.
 use object_set::ObjectSet;
 use period::report::Log;
 use std::alloc::AllocError;
@@ -8,31 +7,21 @@ use std::time::Instant;
 use versioned_store::VersionedStore;
 use versioned_store::fitting::fit_logs;
 
-/// Makes logs, and answers all of their entries so many times.
-pub fn run_bench(rt: &HostRuntime, shape: Shape, entries: u32, times: u32) -> io::Result<()> {
-    let start = start_of(rt.alloc(), shape)?;
-    let done = match logs_of(rt.alloc(), shape, entries) {
-        Ok(logs) => {
-            let done = run_times(rt, &start, logs.as_slice(), times);
-            drop(logs);
-            done
-        }
-        Err(error) => Err(error.into()),
-    };
-    drop(start);
-    done?;
-    println!(rt; "entries {entries}, times {times}")
-}
-
-fn run_times(rt: &HostRuntime, start: &ObjectSet, logs: &[Log], times: u32) -> io::Result<()> {
+/// Answers all entries so many times.
+pub fn answer_times(
+    rt: &HostRuntime,
+    start: &ObjectSet,
+    logs: &[Log],
+    times: u32,
+) -> io::Result<()> {
     for _ in 0..times {
-        run_once(rt, start, logs)?;
+        answer_once(rt, start, logs)?;
     }
     Ok(())
 }
 
 /// Builds the versions of some logs and answers all entries, and tells how long that took.
-fn run_once(rt: &HostRuntime, start: &ObjectSet, logs: &[Log]) -> io::Result<()> {
+fn answer_once(rt: &HostRuntime, start: &ObjectSet, logs: &[Log]) -> io::Result<()> {
     if !fit_logs(start, logs) {
         return Err(ErrorKind::InvalidData.into());
     }
